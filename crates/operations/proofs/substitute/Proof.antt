@@ -1,0 +1,74 @@
+-- `operations::substitute` meets its contract: refused with nothing changed, or the handed polynomials put into the part that counts.
+-- Assumes nothing.
+use mathlib.Core.Path.{_≡_, sym, ap, _∙_}
+use Prim.Native.Nat.{_*_, _≤_}
+use native.Mathlib.Omega.{arith}
+use borrow.Author.Needs.{needs}
+use lib.ListN.{length}
+use lib.Seq.{length-take-le}
+use Rattle.tables.proofs.Questions.{Fine, fine, first-table, second-length, second-are-bits}
+use Rattle.tables.proofs.Reply.{reply-refused, reply-accepted, after-refused, after-done}
+use Rattle.operations.specs.Calls.{substituteRefusal}
+use Rattle.operations.proofs.Calls.{substitute-whole, length-substitute}
+use Rattle.operations.proofs.substitute.Statement.{statement}
+use Rattle.operations.proofs.substitute.Tie as tie
+
+returns : tie.Need-returns
+unfolding substituteRefusal
+returns c = (
+  reply-refused _ _ (c .before .table-refusal .ensures) _ (c .if1 .taken),
+  after-refused _ _ (c .before .table-refusal .ensures) _ _ (c .if1 .taken),
+)
+
+-- no question is answered no
+all-yes : (c : tie.Else1)
+    → let args = c .before .before .before .before .before .args in
+    Fine (args .u) (args .g) (args .condition .now) (args .handed .now) (args .u) (length (args .out .now)) 1
+all-yes c = fine _ _ _ _ _ _ _ (sym (c .before .table-refusal .ensures) ∙ c .if1 .left)
+
+-- the handed tables lie within their buffer
+handed-room : (c : tie.After-pow2)
+    → let args = c .before .before .before .before .before .before .args in
+    args .u * c .pow2 .result ≤ length (args .handed .now)
+handed-room c = rw (c .pow2 .ensures) (all-yes (c .before) .second-room)
+
+put-in-requires : tie.Need-put-in-requires
+put-in-requires c κs =
+    let known = c .before .before .before in
+    let f = all-yes (known .before) in
+    let e = known .pow2 .ensures in (
+      f .unknowns,
+      f .small,
+      first-table _ _ _ _ _ _ _ f _ e,
+      second-length _ _ _ _ _ _ _ f _ e,
+      second-are-bits _ _ _ _ _ _ _ f _ e,
+      length-take-le _ _ (omega (arith, e, f .result-room)) ∙ e,
+    )
+
+returns-2 : tie.Need-returns-2
+unfolding substituteRefusal
+returns-2 c =
+    let worked = c .before .before in
+    let known = worked .before .before .before .before in
+    let asked = known .before .before in (
+      reply-accepted _ _ (asked .table-refusal .ensures) _ (known .before .if1 .left),
+      after-done _ _ (asked .table-refusal .ensures) _ _ _ _ (known .before .if1 .left)
+          (worked .put-in .ensures ∙ substitute-whole _ _ _ _ _ (known .pow2 .ensures)) (length-substitute _ _ _ _ _ (known .pow2 .ensures)),
+    )
+
+pub substitute-spec : {M : Type 1} → statement M
+substitute-spec =
+    tie.close
+    (tie.spec
+    (λ c κs. search needs)
+    returns
+    (λ c. omega (arith, all-yes c .small))
+    (λ c κs. all-yes c .small)
+    (λ c. omega (arith, handed-room c))
+    (λ c. sym (length-take-le _ _ (omega (arith, c .before .pow2 .ensures, all-yes (c .before .before) .first-room))))
+    (λ c. sym (length-take-le _ _ (handed-room (c .before .before))))
+    (λ c. omega (arith, c .before .before .pow2 .ensures, all-yes (c .before .before .before) .result-room))
+    (λ c. sym (length-take-le _ _ (omega (arith, c .before .before .before .pow2 .ensures, all-yes (c .before .before .before .before) .result-room))))
+    put-in-requires
+    (λ c. search needs)
+    returns-2)

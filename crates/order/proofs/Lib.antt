@@ -1,0 +1,6 @@
+pub mod Lists
+pub mod Letters
+pub mod Relation
+pub mod Order
+pub mod Places
+pub mod Steps

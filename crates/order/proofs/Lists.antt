@@ -1,0 +1,151 @@
+-- The laws of `keep`, `below` and `has`, the lists that the written order is made of.
+-- Assumes nothing.
+use mathlib.Core.Path.{_≡_, refl, sym, ap, _∙_}
+use mathlib.Core.Bool.{Bool, true, false, cond, _&&_, _||_, and-false, or-true, or-false, or-assoc}
+use mathlib.Core.List.{List, [], _∷_, _++_, append-nil}
+use mathlib.Core.Logic.{_⊎_, inl, inr}
+use Prim.Native.Nat.{ℕ, zero, suc, _+_, _≤_, _<_}
+use native.Mathlib.Numerals.{add-one}
+use native.Mathlib.Omega.{arith}
+use lib.Dec.{eqb, ltb}
+use lib.ListN.{length, getD, take, length-append}
+use lib.Seq.{take-suc}
+use borrow.Author.Tests.{lt-ltb, le-ltb, ltb-true, eqb-true, eqb-false, eq-eqb}
+use Rattle.ring.proofs.Bool.{bool-iff}
+use Rattle.order.specs.Order.{keep, below, has}
+
+-- ---- tests
+pub and-left : (p q : Bool) → (p && q) ≡ true → p ≡ true
+and-left true q e = refl
+and-left false q e = e
+
+pub and-right : (p q : Bool) → (p && q) ≡ true → q ≡ true
+and-right true q e = e
+and-right false true e = refl
+and-right false false e = e
+
+pub both : {p q : Bool} → p ≡ true → q ≡ true → (p && q) ≡ true
+both e f = rw (e, f)
+
+pub or-cases : (p q : Bool) → (p || q) ≡ true → (p ≡ true) ⊎ (q ≡ true)
+or-cases true q e = inl refl
+or-cases false q e = inr e
+
+pub or-right : (p : Bool) {q : Bool} → q ≡ true → (p || q) ≡ true
+or-right p e = rw e (or-true p)
+
+pub bool-cases : (p : Bool) → (p ≡ true) ⊎ (p ≡ false)
+bool-cases true = inl refl
+bool-cases false = inr refl
+
+pub never : {A : Type 0} {p : Bool} → p ≡ true → p ≡ false → A
+never e f = let z : _≡_ {A = ℕ} 0 1 = (cc) in absurd (omega arith)
+
+pub ltb-suc : (m k : ℕ) → ltb m (suc k) ≡ (ltb m k || eqb m k)
+ltb-suc m k = sym (bool-iff (ltb m k || eqb m k) (ltb m (suc k)) (λ e. lt-ltb m (suc k) (up (or-cases _ _ e))) (λ e. down (ltb-true m (suc k) e) (bool-cases (eqb m k))))
+  where
+    up : (ltb m k ≡ true) ⊎ (eqb m k ≡ true) → m < suc k
+    up (inl e) = omega (arith, ltb-true m k e)
+    up (inr e) = omega (arith, eqb-true m k e)
+
+    down : m < suc k → (eqb m k ≡ true) ⊎ (eqb m k ≡ false) → (ltb m k || eqb m k) ≡ true
+    down l (inl e) = or-right (ltb m k) e
+    down l (inr e) = rw (lt-ltb m k (omega (arith, eqb-false m k e)))
+
+-- ---- keep
+pub keep-append : (t : ℕ → Bool) (xs ys : List ℕ) → keep t (xs ++ ys) ≡ keep t xs ++ keep t ys
+unfolding keep
+keep-append t [] ys = refl
+keep-append t (x ∷ xs) ys = go (t x) (keep-append t xs ys)
+  where
+    go : (b : Bool) → keep t (xs ++ ys) ≡ keep t xs ++ keep t ys → cond b (x ∷ keep t (xs ++ ys)) (keep t (xs ++ ys)) ≡ cond b (x ∷ keep t xs) (keep t xs) ++ keep t ys
+    go true e = ap (λ (l : List ℕ). x ∷ l) e
+    go false e = e
+
+-- one place more of a list: its element is kept, or not
+module _ (t : ℕ → Bool) (xs : List ℕ) (p : ℕ) (l : p < length xs) where
+  pub keep-next-yes : t (getD xs p 0) ≡ true → keep t (take (p + 1) xs) ≡ keep t (take p xs) ++ (getD xs p 0 ∷ [])
+  unfolding keep
+  keep-next-yes e = rw (add-one, take-suc xs p 0 l, keep-append, e)
+
+  pub keep-next-no : t (getD xs p 0) ≡ false → keep t (take (p + 1) xs) ≡ keep t (take p xs)
+  unfolding keep
+  keep-next-no e = rw (add-one, take-suc xs p 0 l, keep-append, e, append-nil)
+
+-- everything passes
+pub keep-every : (t : ℕ → Bool) (xs : List ℕ) → ((m : ℕ) → has m xs ≡ true → t m ≡ true) → keep t xs ≡ xs
+unfolding keep has
+keep-every t [] h = refl
+keep-every t (x ∷ xs) h =
+    let r : keep t xs ≡ xs = keep-every t xs (λ m i. h m (or-right (eqb m x) i)) in
+    rw (h x (rw (eq-eqb x x refl)), r)
+
+-- nothing passes
+pub keep-none : (t : ℕ → Bool) (xs : List ℕ) → ((m : ℕ) → has m xs ≡ true → t m ≡ false) → keep t xs ≡ []
+unfolding keep has
+keep-none t [] h = refl
+keep-none t (x ∷ xs) h = rw (h x (rw (eq-eqb x x refl))) (keep-none t xs (λ m i. h m (or-right (eqb m x) i)))
+
+pub length-keep : (t : ℕ → Bool) (xs : List ℕ) → length (keep t xs) ≤ length xs
+unfolding keep
+length-keep t [] = omega arith
+length-keep t (x ∷ xs) = go (t x) (length-keep t xs)
+  where
+    go : (b : Bool) → length (keep t xs) ≤ length xs → length (cond b (x ∷ keep t xs) (keep t xs)) ≤ suc (length xs)
+    go true h = omega arith
+    go false h = omega arith
+
+-- as many as there were: all of them
+pub keep-all : (t : ℕ → Bool) (xs : List ℕ) → length (keep t xs) ≡ length xs → keep t xs ≡ xs
+unfolding keep
+keep-all t [] h = refl
+keep-all t (x ∷ xs) h = go (t x) (keep-all t xs) h
+  where
+    go : (b : Bool) → (length (keep t xs) ≡ length xs → keep t xs ≡ xs) → length (cond b (x ∷ keep t xs) (keep t xs)) ≡ suc (length xs) → cond b (x ∷ keep t xs) (keep t xs) ≡ x ∷ xs
+    go true ih h = ap (λ (l : List ℕ). x ∷ l) (ih (omega arith))
+    go false ih h = absurd (omega (arith, length-keep t xs))
+
+-- ---- below
+pub length-below : (k : ℕ) → length (below k) ≡ k
+unfolding below
+length-below zero = refl
+length-below (suc k) = length-append (below k) (k ∷ []) ∙ rw (length-below k) (omega arith)
+
+-- ---- has
+pub has-append : (m : ℕ) (xs ys : List ℕ) → has m (xs ++ ys) ≡ (has m xs || has m ys)
+unfolding has
+has-append m [] ys = refl
+has-append m (x ∷ xs) ys = ap (λ (b : Bool). eqb m x || b) (has-append m xs ys) ∙ sym (or-assoc (eqb m x) (has m xs) (has m ys))
+
+pub has-keep : (t : ℕ → Bool) (m : ℕ) (xs : List ℕ) → has m (keep t xs) ≡ (t m && has m xs)
+unfolding has keep
+has-keep t m [] = sym (and-false (t m))
+has-keep t m (x ∷ xs) = go (bool-cases (eqb m x)) (t x) refl (has-keep t m xs)
+  where
+    go : (eqb m x ≡ true) ⊎ (eqb m x ≡ false) → (b : Bool) → t x ≡ b → has m (keep t xs) ≡ (t m && has m xs) → has m (cond b (x ∷ keep t xs) (keep t xs)) ≡ (t m && (eqb m x || has m xs))
+    go (inl e) true ex h = let ix : m ≡ x = eqb-true _ _ e in rw (e, ix, ex)
+    go (inl e) false ex h = let ix : m ≡ x = eqb-true _ _ e in h ∙ rw (ix, ex)
+    go (inr e) true ex h = rw (e, h) refl
+    go (inr e) false ex h = rw e h
+
+pub has-below : (m k : ℕ) → has m (below k) ≡ ltb m k
+unfolding has below
+has-below m zero = sym (le-ltb m 0 (omega arith))
+has-below m (suc k) = has-append m (below k) (k ∷ []) ∙ rw (has-below m k, or-false (eqb m k)) (sym (ltb-suc m k))
+
+-- ---- listed
+-- f 0, f 1 and so on, k of them
+unfoldable pub listed : {A : Type 0} → (ℕ → A) → ℕ → List A
+listed f zero = []
+listed f (suc k) = f 0 ∷ listed (λ i. f (suc i)) k
+
+pub length-listed : {A : Type 0} (f : ℕ → A) (k : ℕ) → length (listed f k) ≡ k
+unfolding listed
+length-listed f zero = refl
+length-listed f (suc k) = ap suc (length-listed (λ i. f (suc i)) k)
+
+pub getD-listed : {A : Type 0} (f : ℕ → A) (k i : ℕ) (d : A) → i < k → getD (listed f k) i d ≡ f i
+unfolding listed
+getD-listed f zero i d h = absurd (omega arith)
+getD-listed f (suc k) zero d h = refl
+getD-listed f (suc k) (suc i) d h = getD-listed (λ j. f (suc j)) k i d (omega arith)

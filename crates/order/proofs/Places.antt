@@ -1,0 +1,92 @@
+-- The masks at the 1,024 places are the ten-letter order. One computed test: each of them is below 1,024, and their ranks rise.
+-- The law that turns it into the rule holds for every n: a rising list of 2 ^ n masks below 2 ^ n is the order.
+-- Assumes nothing.
+use mathlib.Core.Path.{_≡_, refl, sym, ap, _∙_}
+use mathlib.Core.Bool.{Bool, true, cond, _&&_}
+use mathlib.Core.List.{List, [], _∷_}
+use mathlib.Core.Logic.{_⊎_, inl, inr}
+use Prim.Native.Nat.{ℕ, zero, suc, _+_, _*_, _-_, _^_, _≤_, _<_}
+use native.Mathlib.Omega.{arith}
+use lib.Dec.{ltb, leb}
+use lib.ListN.{length, getD}
+use borrow.Author.Tests.{lt-ltb, ltb-true, leb-true}
+use Rattle.order.specs.Order.{before, order, has, rises}
+use Rattle.order.specs.Place.{choose, nth, rank}
+use Rattle.order.proofs.Lists.{and-left, and-right, never, listed, length-listed, getD-listed}
+use Rattle.order.proofs.Letters.{lettersIn, letters-in}
+use Rattle.order.proofs.Relation.{before-rank}
+use Rattle.order.proofs.Order.{has-cases, rises-cons, rising-whole}
+
+-- the mask number r of those for ten letters that have k or more, `more` numbers of letters from k on being left
+unfoldable pub placed : ℕ → ℕ → ℕ → ℕ
+placed zero k r = 0
+placed (suc more) k r =
+    let here = nth 10 k r in
+    let later = placed more (suc k) (r - choose 10 k) in
+    cond (ltb r (choose 10 k)) here later
+
+-- the mask at place p of the ten-letter order
+unfoldable pub maskAt : ℕ → ℕ
+maskAt p = placed 11 0 p
+
+-- the rank with the letters counted by halving
+unfoldable pub rankIn : ℕ → ℕ → ℕ
+rankIn n m = lettersIn n m * 2 ^ n + m
+
+rank-in : (n m : ℕ) → m < 2 ^ n → rank n m ≡ rankIn n m
+unfolding rank rankIn
+rank-in n m h = ap (λ (l : ℕ). l * 2 ^ n + m) (letters-in n m h)
+
+-- each mask is below 2 ^ n, and the ranks rise from `low` on
+unfoldable pub climbs : ℕ → ℕ → List ℕ → Bool
+climbs n low [] = true
+climbs n low (m ∷ ms) = (ltb m (2 ^ n) && leb low (rankIn n m)) && climbs n (suc (rankIn n m)) ms
+
+module _ (n low m : ℕ) (ms : List ℕ) (c : climbs n low (m ∷ ms) ≡ true) where
+  climbs-first : (m < 2 ^ n) × (low ≤ rank n m)
+  unfolding climbs
+  climbs-first =
+      let t : (ltb m (2 ^ n) && leb low (rankIn n m)) ≡ true = and-left _ (climbs n (suc (rankIn n m)) ms) c in
+      let h : m < 2 ^ n = ltb-true m (2 ^ n) (and-left _ (leb low (rankIn n m)) t) in
+      (h, rw (rank-in n m h) (leb-true low (rankIn n m) (and-right (ltb m (2 ^ n)) _ t)))
+
+  climbs-rest : climbs n (suc (rank n m)) ms ≡ true
+  unfolding climbs
+  climbs-rest = rw (rank-in n m (climbs-first .0)) (and-right (ltb m (2 ^ n) && leb low (rankIn n m)) _ c)
+
+climbs-has : (n low : ℕ) (ms : List ℕ) → climbs n low ms ≡ true → (k : ℕ) → has k ms ≡ true → (k < 2 ^ n) × (low ≤ rank n k)
+unfolding has
+climbs-has n low [] c k i = never i refl
+climbs-has n low (m ∷ ms) c k i = go (climbs-first n low m ms c) (climbs-has n (suc (rank n m)) ms (climbs-rest n low m ms c) k) (has-cases k m ms i)
+  where
+    go : (m < 2 ^ n) × (low ≤ rank n m) → (has k ms ≡ true → (k < 2 ^ n) × (suc (rank n m) ≤ rank n k)) → (k ≡ m) ⊎ (has k ms ≡ true) → (k < 2 ^ n) × (low ≤ rank n k)
+    go f ih (inl e) = rw e f
+    go f ih (inr j) = let r = ih j in (r .0, omega (arith, r .1, f .1))
+
+climbs-rises : (n low : ℕ) (ms : List ℕ) → climbs n low ms ≡ true → rises ms ≡ true
+unfolding rises
+climbs-rises n low [] c = refl
+climbs-rises n low (m ∷ ms) c = rises-cons m ms next (climbs-rises n (suc (rank n m)) ms rest)
+  where
+    rest : climbs n (suc (rank n m)) ms ≡ true
+    rest = climbs-rest n low m ms c
+
+    next : (k : ℕ) → has k ms ≡ true → before m k ≡ true
+    next k i =
+        let h = climbs-has n (suc (rank n m)) ms rest k i in
+        before-rank n m k (climbs-first n low m ms c .0) (h .0) ∙ lt-ltb (rank n m) (rank n k) (h .1)
+
+-- the test's law, for every n
+pub climbs-order : (n : ℕ) (ms : List ℕ) → climbs n 0 ms ≡ true → length ms ≡ 2 ^ n → ms ≡ order n
+climbs-order n ms c l = rising-whole n ms (climbs-rises n 0 ms c) (λ k i. climbs-has n 0 ms c k i .0) l
+
+-- the one test
+test : climbs 10 0 (listed maskAt 1024) ≡ true
+unfolding climbs rankIn lettersIn listed maskAt placed nth choose
+test = refl
+
+-- the mask at a place, from counts of letters, is the one that stands there in the ten-letter order
+pub mask-at-place : (p : ℕ) → p < 1024 → maskAt p ≡ getD (order 10) p 0
+mask-at-place p h =
+    sym (getD-listed maskAt 1024 p 0 h)
+    ∙ ap (λ (l : List ℕ). getD l p 0) (climbs-order 10 (listed maskAt 1024) test (length-listed maskAt 1024))

@@ -1,0 +1,9 @@
+pub mod Bool
+pub mod Parity
+pub mod Mask
+pub mod Points
+pub mod Value
+pub mod Transform
+pub mod Restrict
+pub mod Substitute
+pub mod Table

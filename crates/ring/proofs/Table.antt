@@ -1,0 +1,121 @@
+-- Tables of bytes: two with the same values are one, and every function on the points has a table.
+-- Assumes nothing.
+use mathlib.Core.Path.{_≡_, refl, sym, ap, ap₂, subst, _∙_}
+use mathlib.Core.Bool.{Bool, true, false}
+use mathlib.Core.List.{List, [], _∷_}
+use Prim.Native.Nat.{ℕ, zero, suc, _+_, _*_, _^_, _<_}
+use native.Mathlib.Omega.{arith}
+use lib.Dec.{eqb}
+use lib.Arith.{digits-lt}
+use lib.Pow.{high, low}
+use lib.ListN.{length, getD, take}
+use lib.Seq.{ext-getD, getD-take}
+use borrow.Author.Tests.{eqb-true, eqb-false, eq-eqb, ne-eqb}
+use Rattle.ring.specs.Letters.{digit}
+use Rattle.ring.specs.Polynomial.{Polynomial, value}
+use Rattle.ring.specs.Table.{present, IsTable, tabulate, table, values, held, answerTable}
+use Rattle.ring.proofs.Value.{value-cong, involution, same-values}
+use Rattle.ring.proofs.Points.{digit-lt}
+
+pub length-tabulate : (k : ℕ) (h : ℕ → Bool) → length (tabulate k h) ≡ k
+unfolding tabulate
+length-tabulate zero h = refl
+length-tabulate (suc k) h = ap suc (length-tabulate k (λ i. h (suc i)))
+
+pub getD-tabulate : (k : ℕ) (h : ℕ → Bool) (i : ℕ) → i < k → getD (tabulate k h) i 0 ≡ digit (h i)
+unfolding tabulate
+getD-tabulate zero h i l = absurd (omega arith)
+getD-tabulate (suc k) h zero l = refl
+getD-tabulate (suc k) h (suc i) l = getD-tabulate k (λ j. h (suc j)) i (omega arith)
+
+pub bits-tabulate : (k : ℕ) (h : ℕ → Bool) (i : ℕ) → getD (tabulate k h) i 0 < 2
+unfolding tabulate
+bits-tabulate zero h i = omega arith
+bits-tabulate (suc k) h zero = digit-lt (h 0)
+bits-tabulate (suc k) h (suc i) = bits-tabulate k (λ j. h (suc j)) i
+
+pub tabulate-cong : (k : ℕ) (g h : ℕ → Bool) → ((i : ℕ) → i < k → g i ≡ h i) → tabulate k g ≡ tabulate k h
+unfolding tabulate
+tabulate-cong zero g h e = refl
+tabulate-cong (suc k) g h e =
+    ap₂ (λ (b : Bool) (l : List ℕ). digit b ∷ l) (e 0 (omega arith)) (tabulate-cong k (λ i. g (suc i)) (λ i. h (suc i)) (λ i l. e (suc i) (omega arith)))
+
+pub present-tabulate : (k : ℕ) (h : ℕ → Bool) (i : ℕ) → i < k → present (tabulate k h) i ≡ h i
+unfolding present
+present-tabulate k h i l = ap (λ (x : ℕ). eqb x 1) (getD-tabulate k h i l) ∙ go (h i)
+  where
+    go : (b : Bool) → eqb (digit b) 1 ≡ b
+    go true = refl
+    go false = refl
+
+pub is-table : (n : ℕ) (h : ℕ → Bool) → IsTable n (tabulate (2 ^ n) h)
+is-table n h = record { size = length-tabulate (2 ^ n) h; bits = bits-tabulate (2 ^ n) h }
+
+same-bit : (a b : ℕ) → a < 2 → b < 2 → eqb a 1 ≡ eqb b 1 → a ≡ b
+same-bit a b ha hb e = go (eqb b 1) refl e
+  where
+    go : (t : Bool) → eqb b 1 ≡ t → eqb a 1 ≡ t → a ≡ b
+    go true p q = eqb-true a 1 q ∙ sym (eqb-true b 1 p)
+    go false p q = omega (arith, eqb-false a 1 q, eqb-false b 1 p)
+
+same-present : (n : ℕ) (s t : List ℕ) → IsTable n s → IsTable n t → ((m : ℕ) → m < 2 ^ n → present s m ≡ present t m) → s ≡ t
+unfolding present
+same-present n s t a b e =
+    ext-getD 0 s t (a .size ∙ sym (b .size)) (λ i l. same-bit (getD s i 0) (getD t i 0) (a .bits i) (b .bits i) (e i (rw (a .size) at l)))
+
+-- two tables with the same values are one
+pub same-table : (n : ℕ) (s t : List ℕ) → IsTable n s → IsTable n t → ((p : ℕ) → p < 2 ^ n → value n (present s) p ≡ value n (present t) p) → s ≡ t
+same-table n s t a b e = same-present n s t a b (same-values n (present s) (present t) e)
+
+pub values-twice : (n : ℕ) (t : List ℕ) → IsTable n t → values n (values n t) ≡ t
+unfolding values
+values-twice n t a =
+    same-present n _ t (is-table n _) a
+    (λ m l. present-tabulate (2 ^ n) (value n (present (tabulate (2 ^ n) (value n (present t))))) m l
+    ∙ value-cong n _ _ m (λ p k. present-tabulate (2 ^ n) (value n (present t)) p k)
+    ∙ involution n (present t) m l)
+
+-- the table with the values h is what the passage back from them gives
+pub table-by-values : (n : ℕ) (f : Polynomial) (h : ℕ → Bool) → ((p : ℕ) → p < 2 ^ n → h p ≡ value n f p) → values n (tabulate (2 ^ n) h) ≡ table n f
+unfolding values table
+table-by-values n f h e =
+    tabulate-cong (2 ^ n) _ f (λ m l. value-cong n _ _ m (λ p k. present-tabulate (2 ^ n) h p k ∙ e p k) ∙ involution n f m l)
+
+-- every function on the points is the value of a table, and by `same-table` of one only
+pub table-of : (n : ℕ) (h : ℕ → Bool) (p : ℕ) → p < 2 ^ n → value n (present (tabulate (2 ^ n) (value n h))) p ≡ h p
+table-of n h p l = value-cong n _ _ p (λ m k. present-tabulate (2 ^ n) (value n h) m k) ∙ involution n h p l
+
+pub table-cong : (n : ℕ) (f g : Polynomial) → ((m : ℕ) → m < 2 ^ n → f m ≡ g m) → table n f ≡ table n g
+unfolding table
+table-cong n f g e = tabulate-cong (2 ^ n) f g e
+
+-- a table's polynomial is read off its first bytes alone
+pub present-take : (k : ℕ) (t : List ℕ) (m : ℕ) → m < k → present (take k t) m ≡ present t m
+unfolding present
+present-take k t m l = ap (λ (x : ℕ). eqb x 1) (getD-take k t m 0 l)
+
+pub held-take : (n count : ℕ) (t : List ℕ) (j m : ℕ) → j < count → m < 2 ^ n → held n (take (count * 2 ^ n) t) j m ≡ held n t j m
+unfolding held
+held-take n count t j m hj hm = present-take (count * 2 ^ n) t (j * 2 ^ n + m) (digits-lt hj hm)
+
+-- what a table and an answer table hold
+pub present-table : (n : ℕ) (f : Polynomial) (m : ℕ) → m < 2 ^ n → present (table n f) m ≡ f m
+unfolding table
+present-table n f m l = present-tabulate (2 ^ n) f m l
+
+pub length-table : (n : ℕ) (f : Polynomial) → length (table n f) ≡ 2 ^ n
+unfolding table
+length-table n f = length-tabulate (2 ^ n) f
+
+pub held-answerTable : (count n : ℕ) (a : ℕ → Polynomial) (j m : ℕ) → j < count → m < 2 ^ n → held n (answerTable count n a) j m ≡ a j m
+unfolding held answerTable
+held-answerTable count n a j m hj hm =
+    present-tabulate (count * 2 ^ n) _ (j * 2 ^ n + m) (digits-lt hj hm) ∙ ap₂ a (high j n hm) (low j n hm)
+
+pub length-answerTable : (count n : ℕ) (a : ℕ → Polynomial) → length (answerTable count n a) ≡ count * 2 ^ n
+unfolding answerTable
+length-answerTable count n a = length-tabulate (count * 2 ^ n) _
+
+pub value-present-values : (n : ℕ) (t : List ℕ) (p : ℕ) → p < 2 ^ n → present (values n t) p ≡ value n (present t) p
+unfolding values
+value-present-values n t p l = present-tabulate (2 ^ n) _ p l

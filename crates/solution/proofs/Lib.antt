@@ -1,0 +1,15 @@
+pub mod Points
+pub mod Elimination
+pub mod Values
+pub mod Letters
+pub mod General
+pub mod Scan
+pub mod Blocked
+pub mod Orders
+pub mod AnswerTable
+pub mod Verdict
+pub mod Theorems
+pub mod Written
+pub mod ByPoints
+pub mod Rows
+pub mod Refuted

@@ -1,0 +1,79 @@
+-- What the engine says of a condition is right: `right-verdict`, by the two cases of what remains.
+-- Assumes nothing.
+use mathlib.Core.Path.{_≡_, refl, sym}
+use mathlib.Core.Bool.{Bool, true, false, cond}
+use mathlib.Core.List.{List}
+use Prim.Native.Nat.{ℕ, _+_, _^_, _<_}
+use native.Mathlib.Omega.{arith}
+use Rattle.ring.specs.declared.State.{State}
+use Rattle.ring.specs.Polynomial.{Polynomial, constant}
+use Rattle.ring.specs.Table.{present, held, answerTable}
+use Rattle.solution.specs.Substitution.{Substitution, putIn}
+use Rattle.solution.specs.Elimination.{booleAnswers, IsOrder, ownLowenheim, smallestBlocked, solvable, Verdict, solved, none, solve}
+use Rattle.solution.specs.General.{SmallestBlocked, General, RightVerdict, inPolynomials}
+use Rattle.solution.proofs.Blocked.{zero-values, remains-blocked, blocked-none, smallest-blocked}
+use Rattle.solution.proofs.General.{Leads, leads-same, general, each-other, boole-leads, lowenheim-leads, particular-zero}
+use Rattle.solution.proofs.AnswerTable.{held-answerTable}
+
+solved-none : {B : Type 0} (a : Substitution) (state : State) → solved a ≡ none state → B
+solved-none a state e = let z : _≡_ {A = ℕ} 0 1 = cc in absurd (omega arith)
+
+-- answers that are Boole's, wherever they are held
+unfoldable pub AreBooles : ℕ → ℕ → List ℕ → Polynomial → Substitution → Type 0
+AreBooles U G order f a = (j m : ℕ) → j < U → m < 2 ^ (U + G) → a j m ≡ booleAnswers (U + G) f order j m
+
+module _ (U G : ℕ) (order : List ℕ) (is : IsOrder U order) (f : Polynomial) (z : solvable (U + G) f order ≡ true) where
+  pub boole-leads-all : Leads U G f (booleAnswers (U + G) f order)
+  unfolding solvable
+  boole-leads-all = boole-leads U G f order is (λ p h. zero-values (U + G) _ p z)
+
+  pub booles-general : (a : Substitution) → AreBooles U G order f a → General U G f a
+  unfolding AreBooles
+  booles-general a same = general U G f a (leads-same U G f (booleAnswers (U + G) f order) a same boole-leads-all)
+
+  own-leads : Leads U G f (ownLowenheim U G order f)
+  unfolding ownLowenheim
+  own-leads = lowenheim-leads U G f _ (particular-zero U G order f (general U G f _ boole-leads-all))
+
+  pub own-general : General U G f (ownLowenheim U G order f)
+  own-general = general U G f _ own-leads
+
+  -- the engine's own Löwenheim answers as a table of bytes
+  pub own-table-general : General U G f (held (U + G) (answerTable U (U + G) (ownLowenheim U G order f)))
+  own-table-general = general U G f _ (leads-same U G f (ownLowenheim U G order f) _ (held-answerTable U (U + G) (ownLowenheim U G order f)) own-leads)
+
+  pub right-solved : (a : Substitution) → AreBooles U G order f a → RightVerdict U G order f (solved a)
+  unfolding AreBooles
+  right-solved a same =
+      record {
+        exactly = λ L g.
+            (λ e. solved-none _ _ (e .1), λ h. absurd (h (λ j. putIn U G L (a j) (λ i. constant false)) (booles-general a same .each-makes-zero L g (λ i. constant false))));
+        state = λ s e. solved-none _ _ e;
+        booles = λ b e. rw (which b e) same;
+        general = λ b e. rw (which b e) (booles-general a same);
+        lowenheims = λ b e. rw (which b e) (each-other U G f _ _ (booles-general a same) own-general);
+      }
+    where
+      which : (b : Substitution) → _≡_ {A = Verdict Substitution} (solved a) (solved b) → b ≡ a
+      which b e = cc
+
+pub right-none : (U G : ℕ) (order : List ℕ) → IsOrder U order → (f : Polynomial) → solvable (U + G) f order ≡ false → RightVerdict U G order f (none (smallestBlocked U G f))
+right-none U G order is f z =
+    let r = remains-blocked U G f order is z in
+    let least : SmallestBlocked U G f (smallestBlocked U G f) = smallest-blocked U G f (r .0) (r .1) (r .2) in
+    record {
+      exactly = λ L g. (λ e σ. blocked-none U G f (r .0) (r .1) (r .2) L g σ, λ h. (smallestBlocked U G f, refl));
+      state = λ s e. let k : s ≡ smallestBlocked U G f = cc in rw k least;
+      booles = λ a e. solved-none _ _ (sym e);
+      general = λ a e. solved-none _ _ (sym e);
+      lowenheims = λ a e. solved-none _ _ (sym e);
+    }
+
+pub right : (U G : ℕ) (order : List ℕ) → IsOrder U order → (t : List ℕ) → RightVerdict U G order (present t) (inPolynomials (U + G) (solve U G order t))
+unfolding solve inPolynomials AreBooles
+right U G order is t = go (solvable (U + G) (present t) order) refl
+  where
+    go : (b : Bool) → solvable (U + G) (present t) order ≡ b
+        → RightVerdict U G order (present t) (inPolynomials (U + G) (cond b (solved (answerTable U (U + G) (booleAnswers (U + G) (present t) order))) (none (smallestBlocked U G (present t)))))
+    go true z = right-solved U G order is (present t) z _ (held-answerTable U (U + G) (booleAnswers (U + G) (present t) order))
+    go false z = right-none U G order is (present t) z

@@ -1,0 +1,99 @@
+-- Boole's elimination and Löwenheim's formula (document 01, the sections of these names), on polynomials in n = U + G letters.
+-- Elimination goes through a list of unknowns, the order; document 01's is 0, 1, 2, ..
+-- Assumes nothing.
+use mathlib.Core.Path.{_≡_}
+use mathlib.Core.Bool.{Bool, true, false, not, _&&_, _||_, cond}
+use mathlib.Core.List.{List, [], _∷_}
+use Prim.Native.Nat.{ℕ, zero, suc, _+_, _^_}
+use lib.Dec.{eqb, ltb}
+use Rattle.ring.specs.declared.State.{State}
+use Rattle.ring.specs.Letters.{point}
+use Rattle.ring.specs.Polynomial.{Polynomial, value, constant, letter, sum, product, restrict, substitute}
+use Rattle.ring.specs.Table.{present, answerTable}
+use Rattle.solution.specs.Substitution.{Substitution, listed, ownLetters, putIn}
+
+-- 'let r be f with x = 1 and s be f with x = 0. The next condition is r*s'
+unfoldable pub nextCondition : ℕ → Polynomial → ℕ → Polynomial
+nextCondition n f x = product n (restrict f x true) (restrict f x false)
+
+-- what remains when the unknowns of the order have gone, the first of the list first
+unfoldable pub remains : ℕ → Polynomial → List ℕ → Polynomial
+remains n f [] = f
+remains n f (x ∷ order) = remains n (nextCondition n f x) order
+
+-- 'x*(r + s + 1) + s'
+unfoldable pub answerFrom : ℕ → ℕ → Polynomial → Polynomial → Polynomial
+answerFrom n x r s = sum (product n (letter x) (sum (sum r s) (constant true))) s
+
+-- Boole's answers: 'the answer for x is x*(r + s + 1) + s, with the answers already found for later unknowns put into r and s,
+-- x itself remaining as parameter'. A letter that does not go stands for itself
+unfoldable pub booleAnswers : ℕ → Polynomial → List ℕ → Substitution
+booleAnswers n f [] = letter
+booleAnswers n f (x ∷ order) =
+    let later : Substitution = booleAnswers n (nextCondition n f x) order in
+    let r : Polynomial = substitute n n (restrict f x true) later in
+    let s : Polynomial = substitute n n (restrict f x false) later in
+    λ j. cond (eqb j x) (answerFrom n x r s) (later j)
+
+-- 'The particular solution is this answer with 0 put for all parameters'
+unfoldable pub particular : ℕ → ℕ → List ℕ → Polynomial → Substitution
+particular U G order f j = putIn U G (ownLetters U G) (booleAnswers (U + G) f order j) (λ i. constant false)
+
+-- 'From a condition f and U handed polynomials b, the answer for unknown x is x + f*(x + b of x)'
+unfoldable pub lowenheim : ℕ → Polynomial → Substitution → Substitution
+lowenheim n f b x = sum (letter x) (product n f (sum (letter x) (b x)))
+
+-- 'The engine's own Löwenheim answer uses its particular solution'
+unfoldable pub ownLowenheim : ℕ → ℕ → List ℕ → Polynomial → Substitution
+ownLowenheim U G order f = lowenheim (U + G) f (particular U G order f)
+
+-- 'Unknown 0 goes first, then 1, and so on'
+unfoldable pub defaultOrder : ℕ → List ℕ
+defaultOrder U = listed U (λ j. j)
+
+-- is x in the order?
+unfoldable pub isIn : List ℕ → ℕ → Bool
+isIn [] x = false
+isIn (y ∷ order) x = eqb y x || isIn order x
+
+-- the order lists the unknowns: every one of them, and nothing else
+abbrev pub IsOrder : ℕ → List ℕ → Type 0
+IsOrder U order = (x : ℕ) → isIn order x ≡ ltb x U
+
+-- do all the numbers below k pass the test?
+unfoldable pub everyBelow : ℕ → (ℕ → Bool) → Bool
+everyBelow zero test = true
+everyBelow (suc k) test = everyBelow k test && test k
+
+-- the smallest number below k that passes the test, k if none does
+unfoldable pub smallestBelow : ℕ → (ℕ → Bool) → ℕ
+smallestBelow zero test = 0
+smallestBelow (suc k) test = cond (test 0) 0 (suc (smallestBelow k (λ i. test (suc i))))
+
+-- does every choice give f the value 1 in the state?
+unfoldable pub blocked : ℕ → ℕ → Polynomial → State → Bool
+blocked U G f state = everyBelow (2 ^ U) (λ c. value (U + G) f (point U state (record { 0 = c })))
+
+-- 'the smallest state in which every choice gives the original condition the value 1'
+unfoldable pub smallestBlocked : ℕ → ℕ → Polynomial → State
+smallestBlocked U G f = record { 0 = smallestBelow (2 ^ G) (λ s. blocked U G f (record { 0 = s })) }
+
+-- has f no monomial?
+unfoldable pub isZero : ℕ → Polynomial → Bool
+isZero n f = everyBelow (2 ^ n) (λ m. not (f m))
+
+-- 'When every unknown has gone, a polynomial in the givens remains': is it 0?
+unfoldable pub solvable : ℕ → Polynomial → List ℕ → Bool
+solvable n f order = isZero n (remains n f order)
+
+-- what is said of a condition: the answers, as a table or as polynomials, or 'none' and the state
+pub data Verdict (A : Type 0) : Type 0 where
+  solved : A → Verdict A
+  none : State → Verdict A
+
+-- the verdict on the condition with the table t: 'If it is not 0, the answer is 'none' with the smallest state ..'; 'If it is 0, go back'
+unfoldable pub solve : ℕ → ℕ → List ℕ → List ℕ → Verdict (List ℕ)
+solve U G order t =
+    cond (solvable (U + G) (present t) order)
+    (solved (answerTable U (U + G) (booleAnswers (U + G) (present t) order)))
+    (none (smallestBlocked U G (present t)))

@@ -1,0 +1,6 @@
+pub mod Filled
+pub mod Bits
+pub mod Steps
+pub mod Parts
+pub mod Questions
+pub mod Reply
