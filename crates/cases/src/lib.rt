@@ -1,0 +1,155 @@
+// Support for the test programs: fields of a line that describes a call, and printing what came back.
+// A line is `CALL U G X Y SIZE SIZE2 A B`, one space between the fields; A and B are bytes, a digit each, or `-` for none.
+// The contracts say what the programs need to index safely; what is printed is compared with stored output.
+use libc::STDOUT_FILENO;
+ghost use mathlib.Core.Path.{_≡_};
+ghost use Prim.Native.Nat.{_≤_, _<_};
+ghost use lib.ListN.{length};
+
+// Room for all cases of a program. The `ensures` gives only the length, which lending the array as a slice needs.
+pub fn input() -> [u8; 262144]
+    ensures { λ r. ⌜ 262144 ≡ length r ⌝ }
+{
+    [0; 262144]
+}
+
+// The end of the line that starts at `at`: its line feed, or the end of the data.
+pub fn line_end(bytes: &[u8], at: usize) -> usize
+    requires { ⌜ at ≤ length (now bytes) ⌝ }
+    ensures { λ r. ⌜ (at ≤ r) × (r ≤ length (now (bytes .entry))) ⌝ }
+{
+    let mut i = at;
+    while i < bytes.len() {
+        if bytes[i] == 10 {
+            return i;
+        }
+        i += 1;
+    }
+    i
+}
+
+// The start of the field after the one that starts at `at`, or the end of the line.
+pub fn skip(line: &[u8], at: usize) -> usize
+    requires { ⌜ at ≤ length (now line) ⌝ }
+    ensures { λ r. ⌜ r ≤ length (now (line .entry)) ⌝ }
+{
+    let mut i = at;
+    while i < line.len() {
+        if line[i] == 32 {
+            return i + 1;
+        }
+        i += 1;
+    }
+    i
+}
+
+fn times_ten(v: u64) -> u64 {
+    let two = std::num::wrapping_add_u64(v, v);
+    let four = std::num::wrapping_add_u64(two, two);
+    let eight = std::num::wrapping_add_u64(four, four);
+    std::num::wrapping_add_u64(eight, two)
+}
+
+fn wide(b: u8) -> u64 {
+    b as u64
+}
+
+// The decimal number that starts at `at`.
+pub fn number(line: &[u8], at: usize) -> usize
+    requires { ⌜ at ≤ length (now line) ⌝ }
+{
+    let mut v: u64 = 0;
+    let mut i = at;
+    while i < line.len() {
+        let c = line[i];
+        if c < 48 {
+            return v as usize;
+        }
+        if 57 < c {
+            return v as usize;
+        }
+        v = std::num::wrapping_add_u64(times_ten(v), wide(c - 48));
+        i += 1;
+    }
+    v as usize
+}
+
+// The bytes of the field that starts at `at`, a digit each, at the front of `out`; answers how many there are.
+pub fn digits(line: &[u8], at: usize, out: &mut [u8]) -> usize
+    requires { ⌜ at ≤ length (now line) ⌝ }
+    ensures { λ r. ⌜ r ≤ length (now (out .exit)) ⌝ }
+{
+    let mut n: usize = 0;
+    let mut i = at;
+    while i < line.len() {
+        let c = line[i];
+        if c < 48 {
+            return n;
+        }
+        if out.len() <= n {
+            return n;
+        }
+        out[n] = c - 48;
+        n += 1;
+        i += 1;
+    }
+    n
+}
+
+// Every byte of a result buffer is 7 before a call, so that one that the call should leave alone is seen.
+pub fn mark(buffer: &mut [u8]) {
+    for i in 0..buffer.len() {
+        buffer[i] = 7;
+    }
+}
+
+fn digit_of(b: u8) -> u8 {
+    if b < 10 { 48 + b } else { 63 }
+}
+
+// A space, the buffer's bytes as digits, `-` for an empty one.
+pub fn show_digits(buffer: &[u8]) {
+    io::write_all(STDOUT_FILENO, b" ");
+    if buffer.len() == 0 {
+        io::write_all(STDOUT_FILENO, b"-");
+        return;
+    }
+    if 65536 < buffer.len() {
+        return;
+    }
+    let mut text = io::large_buffer();
+    let mut i: usize = 0;
+    while i < buffer.len() {
+        text[i] = digit_of(buffer[i]);
+        i += 1;
+    }
+    io::write_all(STDOUT_FILENO, &text[..i]);
+}
+
+// A word, and a number behind it.
+pub fn show_number(word: &[u8], n: usize) {
+    io::write_all(STDOUT_FILENO, word);
+    io::write_all(STDOUT_FILENO, b" ");
+    io::print_decimal(STDOUT_FILENO, n as u64);
+}
+
+pub fn show_refused(number: u8) {
+    io::write_all(STDOUT_FILENO, b"refused ");
+    io::print_decimal(STDOUT_FILENO, wide(number));
+}
+
+pub fn show_line_end() {
+    io::write_all(STDOUT_FILENO, b"\n");
+}
+
+// What a call answers that gives no value of its own, and the buffer behind it.
+pub fn show_outcome(r: tables::Outcome, buffer: &[u8]) {
+    match r {
+        tables::Outcome::Done => {
+            io::write_all(STDOUT_FILENO, b"done");
+        }
+        tables::Outcome::Refused(q) => show_refused(q),
+    }
+    show_digits(buffer);
+    show_line_end();
+}
