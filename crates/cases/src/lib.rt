@@ -74,6 +74,44 @@ pub fn number(line: &[u8], at: usize) -> usize
     v as usize
 }
 
+// The numbers of a line, and the places where its last two fields start.
+pub struct Fields {
+    pub call: u8,
+    pub unknowns: usize,
+    pub givens: usize,
+    pub x: usize,
+    pub y: usize,
+    pub size: usize,
+    pub size2: usize,
+    pub a: usize,
+    pub b: usize,
+}
+
+pub fn take_apart(line: &[u8]) -> Fields
+    requires { ⌜ 0 < length (now line) ⌝ }
+    ensures { λ r. ⌜ (r .a ≤ length (now (line .entry))) × (r .b ≤ length (now (line .entry))) ⌝ }
+{
+    let f1 = skip(line, 0);
+    let f2 = skip(line, f1);
+    let f3 = skip(line, f2);
+    let f4 = skip(line, f3);
+    let f5 = skip(line, f4);
+    let f6 = skip(line, f5);
+    let f7 = skip(line, f6);
+    let f8 = skip(line, f7);
+    Fields {
+        call: line[0],
+        unknowns: number(line, f1),
+        givens: number(line, f2),
+        x: number(line, f3),
+        y: number(line, f4),
+        size: number(line, f5),
+        size2: number(line, f6),
+        a: f7,
+        b: f8,
+    }
+}
+
 // The bytes of the field that starts at `at`, a digit each, at the front of `out`; answers how many there are.
 pub fn digits(line: &[u8], at: usize, out: &mut [u8]) -> usize
     requires { ⌜ at ≤ length (now line) ⌝ }

@@ -15,23 +15,24 @@ fn show_value(r: Valued) {
 }
 
 // One call on buffers of the stated lengths.
-fn call(name: u8, u: usize, g: usize, x: usize, y: usize, a: &[u8], b: &[u8], out: &mut [u8]) {
+fn call(f: cases::Fields, a: &[u8], b: &[u8], out: &mut [u8]) {
+    let name = f.call;
     if name == b'v' {
-        show_value(operations::value(u, g, a, ring::State(x), ring::Choice(y)));
+        show_value(operations::value(f.unknowns, f.givens, a, ring::State(f.x), ring::Choice(f.y)));
         return;
     }
     if name == b'+' {
-        let r = operations::sum(u, g, a, b, out);
+        let r = operations::sum(f.unknowns, f.givens, a, b, out);
         cases::show_outcome(r, out);
         return;
     }
     if name == b'*' {
-        let r = operations::product(u, g, a, b, out);
+        let r = operations::product(f.unknowns, f.givens, a, b, out);
         cases::show_outcome(r, out);
         return;
     }
     if name == b's' {
-        let r = operations::substitute(u, g, a, b, out);
+        let r = operations::substitute(f.unknowns, f.givens, a, b, out);
         cases::show_outcome(r, out);
     }
 }
@@ -41,28 +42,16 @@ fn run(line: &[u8]) {
     if line.len() == 0 {
         return;
     }
-    let name = line[0];
-    let f1 = cases::skip(line, 0);
-    let f2 = cases::skip(line, f1);
-    let f3 = cases::skip(line, f2);
-    let f4 = cases::skip(line, f3);
-    let f5 = cases::skip(line, f4);
-    let f6 = cases::skip(line, f5);
-    let f7 = cases::skip(line, f6);
-    let f8 = cases::skip(line, f7);
-    let u = cases::number(line, f1);
-    let g = cases::number(line, f2);
-    let x = cases::number(line, f3);
-    let y = cases::number(line, f4);
-    let size = cases::number(line, f5);
+    let f = cases::take_apart(line);
     let mut a = io::large_buffer();
-    let na = cases::digits(line, f7, &mut a);
+    let na = cases::digits(line, f.a, &mut a);
     let mut b = io::large_buffer();
-    let nb = cases::digits(line, f8, &mut b);
+    let nb = cases::digits(line, f.b, &mut b);
     let mut out = io::large_buffer();
     cases::mark(&mut out);
+    let size = f.size;
     if size <= 65536 {
-        call(name, u, g, x, y, &a[..na], &b[..nb], &mut out[..size]);
+        call(f, &a[..na], &b[..nb], &mut out[..size]);
     }
 }
 

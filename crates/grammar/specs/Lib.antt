@@ -1,0 +1,7 @@
+pub mod Symbols
+pub mod Grammar
+pub mod Meaning
+pub mod Reader
+pub mod Words
+pub mod Text
+pub mod Parts

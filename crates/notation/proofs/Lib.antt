@@ -1,0 +1,3 @@
+mod Values
+pub mod Refusal
+pub mod Theorems

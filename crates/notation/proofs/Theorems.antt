@@ -1,0 +1,44 @@
+-- Demand 2 for accepted texts: which calls are done, what the table's values are, and when two texts share one normal form.
+-- That the reader accepts exactly the texts with a derivation, and that a text has at most one tree, stands in `grammar`.
+-- Assumes nothing.
+use mathlib.Core.Path.{_≡_, refl, sym}
+use mathlib.Core.Logic.{_↔_}
+use mathlib.Core.List.{List}
+use Prim.Native.Nat.{ℕ, _+_, _^_, _≤_, _<_}
+use Rattle.ring.specs.declared.State.{State}
+use Rattle.ring.specs.declared.Choice.{Choice}
+use Rattle.ring.specs.Letters.{point}
+use Rattle.ring.specs.Polynomial.{value}
+use Rattle.ring.specs.Table.{present}
+use Rattle.grammar.specs.Symbols.{symbols}
+use Rattle.grammar.specs.Grammar.{Tree, Sum}
+use Rattle.grammar.specs.Reader.{treeOf}
+use Rattle.grammar.specs.Text.{IsRead, Agree, textValue, textTable}
+use Rattle.grammar.proofs.Theorems as grammar
+use Rattle.notation.specs.Text.{textRefusal, Accepted}
+use Rattle.notation.proofs.Refusal.{fine, not-refused}
+
+-- no question is answered no exactly for an accepted text and a buffer with room
+pub done-exactly : (U G : ℕ) (text : List ℕ) (room : ℕ) → (textRefusal U G text room ≡ 0) ↔ (Accepted U G text × (2 ^ (U + G) ≤ room))
+done-exactly U G text room = (
+  λ z. (fine U G text room z .accepted, fine U G text room z .room-fits),
+  λ f. let a = f .0 in sym (not-refused U G text room (a .letters) (a .bytes) (2 ^ (U + G)) refl (f .1) (a .signs) (a .declared) (a .grammar)),
+)
+
+pub is-read : (U G : ℕ) (text : List ℕ) → Accepted U G text → IsRead U G text
+is-read U G text a = record { declared = a .declared; reads = a .grammar }
+
+-- an accepted text has a derivation, and only of its own tree
+pub accepted-tree : (U G : ℕ) (text : List ℕ) → Accepted U G text → Sum (symbols text) (treeOf text) × ((t : Tree) → Sum (symbols text) t → t ≡ treeOf text)
+accepted-tree U G text a =
+    let d = grammar.reads-derived text (a .grammar) in
+    (d, λ t e. grammar.one-tree e d)
+
+-- the value of the table that an accepted text is read into is the text's, at every state and choice
+pub value-text : (U G : ℕ) (text : List ℕ) → Accepted U G text → (state : State) (choice : Choice) → choice .0 < 2 ^ U
+    → value (U + G) (present (textTable U G text)) (point U state choice) ≡ textValue text state choice
+value-text U G text a = grammar.value-text U G text (is-read U G text a)
+
+-- accepted texts over the same letters share one normal form exactly when their values agree at every state and choice
+pub same-normal-form : (U G : ℕ) (a b : List ℕ) → Accepted U G a → Accepted U G b → (textTable U G a ≡ textTable U G b) ↔ Agree U G a b
+same-normal-form U G a b p q = grammar.same-normal-form U G a b (is-read U G a p) (is-read U G b q)

@@ -1,0 +1,91 @@
+-- Each way out is one of the tests of `Refusal`, in their order. Assumes nothing.
+use mathlib.Core.Path.{_≡_}
+use mathlib.Core.Bool.{true}
+use native.Mathlib.Omega.{arith}
+use borrow.Author.Needs.{needs}
+use Rattle.tables.specs.Questions.{lettersFit}
+use Rattle.tables.proofs.Questions.{failed, passed, letters-small}
+use Rattle.grammar.specs.Symbols.{allSigns}
+use Rattle.notation.specs.Text.{hasTextLength}
+use Rattle.notation.proofs.Refusal.{text-short, refused-letters, refused-length, refused-room, refused-signs, refused-declared, refused-grammar, not-refused}
+use Rattle.notation.proofs.text_refusal.Statement.{statement}
+use Rattle.notation.proofs.text_refusal.Tie as tie
+
+-- what is known once a question is passed
+letters : (c : tie.Else1) → lettersFit (c .before .before .before .args .unknowns) (c .before .before .before .args .givens) ≡ true
+letters c = passed (c .before .letters-fit .ensures) (c .if1 .left)
+
+bytes : (c : tie.Else2) → hasTextLength (c .before .before .before .before .before .args .text .now) ≡ true
+bytes c = passed (c .before .has-text-length .ensures) (c .if2 .left)
+
+signs : (c : tie.Else4) → allSigns (c .before .before .before .before .before .before .before .before .before .args .text .now) ≡ true
+signs c = passed (c .before .all-signs .ensures) (c .if4 .left)
+
+returns : tie.Need-returns
+returns c = refused-letters _ _ _ _ (failed (c .before .letters-fit .ensures) (c .if1 .taken))
+
+returns-2 : tie.Need-returns-2
+returns-2 c = refused-length _ _ _ _ (letters (c .before .before)) (failed (c .before .has-text-length .ensures) (c .if2 .taken))
+
+add-pow2 : tie.Need-add-pow2
+add-pow2 c = omega (arith, letters-small _ _ (letters (c .before .before)))
+
+returns-3 : tie.Need-returns-3
+returns-3 c =
+    let asked = c .before .before in
+    refused-room _ _ _ _ (letters (asked .before .before)) (bytes asked) _ (c .before .pow2 .ensures) (c .if3 .taken)
+
+returns-4 : tie.Need-returns-4
+returns-4 c =
+    let roomy = c .before .before in
+    let asked = roomy .before .before in
+    refused-signs _ _ _ _ (letters (asked .before .before)) (bytes asked) _ (roomy .before .pow2 .ensures) (roomy .if3 .left)
+    (failed (c .before .all-signs .ensures) (c .if4 .taken))
+
+returns-5 : tie.Need-returns-5
+returns-5 c =
+    let signed = c .before .before in
+    let roomy = signed .before .before in
+    let asked = roomy .before .before in
+    refused-declared _ _ _ _ (letters (asked .before .before)) (bytes asked) _ (roomy .before .pow2 .ensures) (roomy .if3 .left)
+    (signs signed) (failed (c .before .all-declared .ensures) (c .if5 .taken))
+
+grammar-reads-requires : tie.Need-grammar-reads-requires
+grammar-reads-requires c κs = text-short _ (bytes (c .before .before .before .before .before .before))
+
+returns-6 : tie.Need-returns-6
+returns-6 c =
+    let declared = c .before .before in
+    let signed = declared .before .before in
+    let roomy = signed .before .before in
+    let asked = roomy .before .before in
+    refused-grammar _ _ _ _ (letters (asked .before .before)) (bytes asked) _ (roomy .before .pow2 .ensures) (roomy .if3 .left)
+    (signs signed) (passed (declared .before .all-declared .ensures) (declared .if5 .left)) (failed (c .before .grammar-reads .ensures) (c .if6 .taken))
+
+returns-7 : tie.Need-returns-7
+returns-7 c =
+    let declared = c .before .before in
+    let signed = declared .before .before in
+    let roomy = signed .before .before in
+    let asked = roomy .before .before in
+    not-refused _ _ _ _ (letters (asked .before .before)) (bytes asked) _ (roomy .before .pow2 .ensures) (roomy .if3 .left)
+    (signs signed) (passed (declared .before .all-declared .ensures) (declared .if5 .left)) (passed (c .before .grammar-reads .ensures) (c .if6 .left))
+
+pub text-refusal-spec : {M : Type 1} → statement M
+text-refusal-spec =
+    tie.close
+    (tie.spec
+    (λ c κs. search needs)
+    returns
+    (λ c κs. search needs)
+    returns-2
+    add-pow2
+    (λ c κs. letters-small _ _ (letters (c .before .before)))
+    returns-3
+    (λ c κs. search needs)
+    returns-4
+    (λ c κs. search needs)
+    returns-5
+    grammar-reads-requires
+    returns-6
+    returns-7)
