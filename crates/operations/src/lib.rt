@@ -61,30 +61,30 @@ fn value_refusal(u: usize, g: usize, t: &[u8], state: State, choice: Choice) -> 
 }
 
 // The value of a table at a state and a choice.
-pub fn value(u: usize, g: usize, t: &[u8], state: State, choice: Choice) -> Valued
-    ensures { λ r. ⌜ valued r ≡ reply (valueRefusal u g (now (t .entry)) state choice) (valueAt u g (now (t .entry)) state choice ∷ []) ⌝ }
+pub fn value(unknowns: usize, givens: usize, t: &[u8], state: State, choice: Choice) -> Valued
+    ensures { λ r. ⌜ valued r ≡ reply (valueRefusal unknowns givens (now (t .entry)) state choice) (valueAt unknowns givens (now (t .entry)) state choice ∷ []) ⌝ }
 {
-    let q = value_refusal(u, g, t, state, choice);
+    let q = value_refusal(unknowns, givens, t, state, choice);
     if q != 0 {
         return Valued::Refused(q);
     }
-    let n = u + g;
+    let n = unknowns + givens;
     let k = tables::pow2(n);
-    let p = state.0 * tables::pow2(u) + choice.0;
+    let p = state.0 * tables::pow2(unknowns) + choice.0;
     Valued::Value(value_of(&t[..k], n, p))
 }
 
 // The sum of two tables, into a third.
-pub fn sum(u: usize, g: usize, a: &[u8], b: &[u8], out: &mut [u8]) -> Outcome
-    ensures { λ r. ⌜ outcome r ≡ reply (pairRefusal u g (now (a .entry)) (now (b .entry)) (now (out .entry))) [] ⌝ }
-    ensures { λ _. ⌜ now (out .exit) ≡ after (pairRefusal u g (now (a .entry)) (now (b .entry)) (now (out .entry))) (sumTable u g (now (a .entry)) (now (b .entry))) (now (out .entry)) ⌝ }
+pub fn sum(unknowns: usize, givens: usize, a: &[u8], b: &[u8], out: &mut [u8]) -> Outcome
+    ensures { λ r. ⌜ outcome r ≡ reply (pairRefusal unknowns givens (now (a .entry)) (now (b .entry)) (now (out .entry))) [] ⌝ }
+    ensures { λ _. ⌜ now (out .exit) ≡ after (pairRefusal unknowns givens (now (a .entry)) (now (b .entry)) (now (out .entry))) (sumTable unknowns givens (now (a .entry)) (now (b .entry))) (now (out .entry)) ⌝ }
 {
-    let q = tables::table_refusal(u, g, a, b, 1, out.len(), 1);
+    let q = tables::table_refusal(unknowns, givens, a, b, 1, out.len(), 1);
     if q != 0 {
         return Outcome::Refused(q);
     }
-    let k = tables::pow2(u + g);
-    add(u + g, &a[..k], &b[..k], &mut out[..k]);
+    let k = tables::pow2(unknowns + givens);
+    add(unknowns + givens, &a[..k], &b[..k], &mut out[..k]);
     Outcome::Done
 }
 
@@ -97,16 +97,16 @@ fn add(n: usize, a: &[u8], b: &[u8], out: &mut [u8])
 }
 
 // The product of two tables, into a third.
-pub fn product(u: usize, g: usize, a: &[u8], b: &[u8], out: &mut [u8]) -> Outcome
-    ensures { λ r. ⌜ outcome r ≡ reply (pairRefusal u g (now (a .entry)) (now (b .entry)) (now (out .entry))) [] ⌝ }
-    ensures { λ _. ⌜ now (out .exit) ≡ after (pairRefusal u g (now (a .entry)) (now (b .entry)) (now (out .entry))) (productTable u g (now (a .entry)) (now (b .entry))) (now (out .entry)) ⌝ }
+pub fn product(unknowns: usize, givens: usize, a: &[u8], b: &[u8], out: &mut [u8]) -> Outcome
+    ensures { λ r. ⌜ outcome r ≡ reply (pairRefusal unknowns givens (now (a .entry)) (now (b .entry)) (now (out .entry))) [] ⌝ }
+    ensures { λ _. ⌜ now (out .exit) ≡ after (pairRefusal unknowns givens (now (a .entry)) (now (b .entry)) (now (out .entry))) (productTable unknowns givens (now (a .entry)) (now (b .entry))) (now (out .entry)) ⌝ }
 {
-    let q = tables::table_refusal(u, g, a, b, 1, out.len(), 1);
+    let q = tables::table_refusal(unknowns, givens, a, b, 1, out.len(), 1);
     if q != 0 {
         return Outcome::Refused(q);
     }
-    let k = tables::pow2(u + g);
-    multiply(u + g, &a[..k], &b[..k], &mut out[..k]);
+    let k = tables::pow2(unknowns + givens);
+    multiply(unknowns + givens, &a[..k], &b[..k], &mut out[..k]);
     Outcome::Done
 }
 
@@ -133,17 +133,17 @@ fn multiply_with(n: usize, a: &[u8], b: &[u8], out: &mut [u8], scratch: &mut [u8
 }
 
 // Handed polynomials put for the unknowns of a condition, all at once; the givens stay.
-pub fn substitute(u: usize, g: usize, condition: &[u8], handed: &[u8], out: &mut [u8]) -> Outcome
-    ensures { λ r. ⌜ outcome r ≡ reply (substituteRefusal u g (now (condition .entry)) (now (handed .entry)) (now (out .entry))) [] ⌝ }
-    ensures { λ _. ⌜ now (out .exit) ≡ after (substituteRefusal u g (now (condition .entry)) (now (handed .entry)) (now (out .entry))) (substituteTable u g (now (condition .entry)) (now (handed .entry))) (now (out .entry)) ⌝ }
+pub fn substitute(unknowns: usize, givens: usize, condition: &[u8], handed: &[u8], out: &mut [u8]) -> Outcome
+    ensures { λ r. ⌜ outcome r ≡ reply (substituteRefusal unknowns givens (now (condition .entry)) (now (handed .entry)) (now (out .entry))) [] ⌝ }
+    ensures { λ _. ⌜ now (out .exit) ≡ after (substituteRefusal unknowns givens (now (condition .entry)) (now (handed .entry)) (now (out .entry))) (substituteTable unknowns givens (now (condition .entry)) (now (handed .entry))) (now (out .entry)) ⌝ }
 {
-    let q = tables::table_refusal(u, g, condition, handed, u, out.len(), 1);
+    let q = tables::table_refusal(unknowns, givens, condition, handed, unknowns, out.len(), 1);
     if q != 0 {
         return Outcome::Refused(q);
     }
-    let k = tables::pow2(u + g);
-    let all = u * k;
-    put_in(u, g, &condition[..k], &handed[..all], &mut out[..k]);
+    let k = tables::pow2(unknowns + givens);
+    let all = unknowns * k;
+    put_in(unknowns, givens, &condition[..k], &handed[..all], &mut out[..k]);
     Outcome::Done
 }
 

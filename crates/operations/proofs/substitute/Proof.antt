@@ -23,13 +23,13 @@ returns c = (
 -- no question is answered no
 all-yes : (c : tie.Else1)
     → let args = c .before .before .before .before .before .args in
-    Fine (args .u) (args .g) (args .condition .now) (args .handed .now) (args .u) (length (args .out .now)) 1
+    Fine (args .unknowns) (args .givens) (args .condition .now) (args .handed .now) (args .unknowns) (length (args .out .now)) 1
 all-yes c = fine _ _ _ _ _ _ _ (sym (c .before .table-refusal .ensures) ∙ c .if1 .left)
 
 -- the handed tables lie within their buffer
 handed-room : (c : tie.After-pow2)
     → let args = c .before .before .before .before .before .before .args in
-    args .u * c .pow2 .result ≤ length (args .handed .now)
+    args .unknowns * c .pow2 .result ≤ length (args .handed .now)
 handed-room c = rw (c .pow2 .ensures) (all-yes (c .before) .second-room)
 
 put-in-requires : tie.Need-put-in-requires

@@ -22,7 +22,7 @@ returns c = (
 -- no question is answered no
 all-yes : (c : tie.Else1)
     → let start = c .before .before .before .before .before in
-    Fine (start .args .u) (start .args .g) (start .args .a .now) (start .args .b .now) 1 (length (start .args .out .now)) 1
+    Fine (start .args .unknowns) (start .args .givens) (start .args .a .now) (start .args .b .now) 1 (length (start .args .out .now)) 1
 all-yes c = fine _ _ _ _ _ _ _ (sym (c .before .table-refusal .ensures) ∙ c .if1 .left)
 
 add-requires : tie.Need-add-requires

@@ -15,7 +15,7 @@ use Rattle.operations.proofs.value.Tie as tie
 -- no question is answered no
 all-yes : (c : tie.Else1)
     → let args = c .before .before .before .args in
-    Askable (args .u) (args .g) (args .t .now) (args .state) (args .choice)
+    Askable (args .unknowns) (args .givens) (args .t .now) (args .state) (args .choice)
 all-yes c = askable _ _ _ _ _ (sym (c .before .value-refusal .ensures) ∙ c .if1 .left)
 
 -- the point is small

@@ -1,0 +1,174 @@
+//! One line of input and one of expected output for each call.
+//!
+//! Input: CALL U G X Y SIZE SIZE2 A B, single spaces between. A and B are
+//! digits, one a byte, hexadecimal bytes, or raw text; `-` is an empty one.
+
+use reference::{Choice, Contents, Count, Reading, Refusal, Solved, State, Walk};
+
+/// No line of either file is longer.
+const LONGEST_LINE: usize = 8_000;
+/// Every byte of a result buffer before the call.
+const GARBAGE: u8 = 7;
+
+#[derive(Default)]
+pub struct Lines {
+    pub input: Vec<u8>,
+    pub output: Vec<u8>,
+    longest: usize,
+}
+
+/// The number fields of a line; those that a call does not use stay 0.
+#[derive(Clone, Copy, Default)]
+pub struct Numbers {
+    pub u: u64,
+    pub g: u64,
+    pub x: u64,
+    pub y: u64,
+    pub size: usize,
+    pub size2: usize,
+}
+
+impl Lines {
+    pub fn count(&self) -> usize {
+        self.input.iter().filter(|&&byte| byte == b'\n').count()
+    }
+
+    pub fn report(&self) -> String {
+        let (input, output) = (self.input.len(), self.output.len());
+        format!("{input} bytes in, {output} bytes out, longest line {}", self.longest)
+    }
+
+    fn add(&mut self, call: char, numbers: Numbers, a: &str, b: &[u8], expected: String) {
+        let Numbers { u, g, x, y, size, size2 } = numbers;
+        let mut line = format!("{call} {u} {g} {x} {y} {size} {size2} {a} ").into_bytes();
+        line.extend_from_slice(b);
+        self.longest = self.longest.max(line.len()).max(expected.len());
+        assert!(line.len() <= LONGEST_LINE && expected.len() <= LONGEST_LINE);
+        assert!(!line.contains(&b'\n') && !expected.contains('\n'));
+        line.push(b'\n');
+        self.input.extend(line);
+        self.output.extend(expected.as_bytes());
+        self.output.push(b'\n');
+    }
+
+    pub fn value(&mut self, u: u64, g: u64, state: u64, choice: u64, table: &[u8]) {
+        let expected = match reference::value(u, g, table, State(state), Choice(choice)) {
+            Ok(value) => format!("value {value}"),
+            Err(Refusal(number)) => format!("refused {number}"),
+        };
+        let numbers = Numbers { u, g, x: state, y: choice, ..Numbers::default() };
+        self.add('v', numbers, &digits(table), b"-", expected);
+    }
+
+    /// A call with two tables and one result buffer: `+`, `*`, `s` or `h`.
+    pub fn tables(&mut self, call: char, u: u64, g: u64, a: &[u8], b: &[u8], size: usize) {
+        let mut buffer = vec![GARBAGE; size];
+        let result = match call {
+            '+' => reference::sum(u, g, a, b, &mut buffer),
+            '*' => reference::product(u, g, a, b, &mut buffer),
+            's' => reference::substitute(u, g, a, b, &mut buffer),
+            'h' => reference::lowenheim_handed(u, g, a, b, &mut buffer),
+            _ => unreachable!("no call with two tables"),
+        };
+        let expected = format!("{} {}", done(result), digits(&buffer));
+        let numbers = Numbers { u, g, size, ..Numbers::default() };
+        self.add(call, numbers, &digits(a), digits(b).as_bytes(), expected);
+    }
+
+    pub fn text(&mut self, u: u64, g: u64, text: &[u8], size: usize) {
+        let mut buffer = vec![GARBAGE; size];
+        let result = reference::read_text(u, g, text, &mut buffer);
+        let expected = format!("{} {}", done(result), digits(&buffer));
+        self.add('t', Numbers { u, g, size, ..Numbers::default() }, "-", text, expected);
+    }
+
+    /// Boole, the particular solution or the own Löwenheim: `b`, `p` or `l`.
+    pub fn solution(&mut self, call: char, u: u64, g: u64, condition: &[u8], size: usize) {
+        let mut buffer = vec![GARBAGE; size];
+        let result = match call {
+            'b' => reference::boole(u, g, condition, &mut buffer),
+            'p' => reference::particular(u, g, condition, &mut buffer),
+            'l' => reference::lowenheim(u, g, condition, &mut buffer),
+            _ => unreachable!("no call that solves"),
+        };
+        let word = match result {
+            Ok(Solved::Done) => "done".to_string(),
+            Ok(Solved::None(State(state))) => format!("none {state}"),
+            Err(Refusal(number)) => format!("refused {number}"),
+        };
+        let numbers = Numbers { u, g, size, ..Numbers::default() };
+        let expected = format!("{word} {}", digits(&buffer));
+        self.add(call, numbers, &digits(condition), b"-", expected);
+    }
+
+    pub fn writing(&mut self, route: u64, u: u64, g: u64, condition: &[u8], size: usize) {
+        let mut buffer = vec![GARBAGE; size];
+        let word = match reference::write_entry(route, u, g, condition, &mut buffer) {
+            Ok(length) => format!("done {length}"),
+            Err(Refusal(number)) => format!("refused {number}"),
+        };
+        let numbers = Numbers { u, g, x: route, size, ..Numbers::default() };
+        let expected = format!("{word} {}", hexadecimal(&buffer));
+        self.add('w', numbers, &digits(condition), b"-", expected);
+    }
+
+    pub fn reading(&mut self, bytes: &[u8], size: usize, size2: usize) {
+        let mut condition = vec![GARBAGE; size];
+        let mut answers = vec![GARBAGE; size2];
+        let result = reference::read_entry(bytes, &mut condition, &mut answers);
+        let (condition, answers) = (digits(&condition), digits(&answers));
+        let expected = format!("{} {condition} {answers}", reading(result));
+        let numbers = Numbers { size, size2, ..Numbers::default() };
+        self.add('r', numbers, "-", hexadecimal(bytes).as_bytes(), expected);
+    }
+
+    pub fn audit(&mut self, bytes: &[u8]) {
+        let expected = reading(reference::audit(bytes));
+        self.add('a', Numbers::default(), "-", hexadecimal(bytes).as_bytes(), expected);
+    }
+
+    pub fn walk(&mut self, volume: &[u8], place: usize) {
+        let expected = match (Walk { volume, place }).count() {
+            Count::Whole(count) => format!("count {count}"),
+            Count::Refused(Refusal(number), passed) => format!("refused {number} {passed}"),
+        };
+        let numbers = Numbers { x: place as u64, ..Numbers::default() };
+        self.add('k', numbers, "-", hexadecimal(volume).as_bytes(), expected);
+    }
+}
+
+fn done(result: Result<(), Refusal>) -> String {
+    match result {
+        Ok(()) => "done".to_string(),
+        Err(Refusal(number)) => format!("refused {number}"),
+    }
+}
+
+fn reading(result: Result<Reading, Refusal>) -> String {
+    match result {
+        Err(Refusal(number)) => format!("refused {number}"),
+        Ok(Reading { route, unknowns, givens, contents, length }) => {
+            let word = match contents {
+                Contents::Solved => "solved".to_string(),
+                Contents::None(State(state)) => format!("none {state}"),
+            };
+            format!("{word} {route} {unknowns} {givens} {length}")
+        }
+    }
+}
+
+/// One digit a byte, `-` for no bytes.
+fn digits(bytes: &[u8]) -> String {
+    if bytes.is_empty() {
+        return "-".to_string();
+    }
+    bytes.iter().map(|byte| (b'0' + byte) as char).collect()
+}
+
+/// Two lower-case hexadecimal digits a byte, `-` for no bytes.
+fn hexadecimal(bytes: &[u8]) -> String {
+    if bytes.is_empty() {
+        return "-".to_string();
+    }
+    bytes.iter().map(|byte| format!("{byte:02x}")).collect()
+}

@@ -1,0 +1,212 @@
+//! Cases for value, sum, product and handed polynomials put into a condition.
+
+use crate::cases::{bench_tables, pairs, Random, TOO_LARGE};
+use crate::lines::Lines;
+
+pub fn add_values(lines: &mut Lines) {
+    let random = &mut Random::new('v');
+    for (u, g, table) in bench_tables() {
+        for point in 0..1 << (u + g) {
+            lines.value(u, g, point >> u, point & ((1 << u) - 1), &table);
+        }
+    }
+    for (u, g) in TOO_LARGE {
+        let table = random.pick(&[&[1, 0][..], &[], &[7]]);
+        lines.value(u, g, 0, 0, table);
+        lines.value(u, g, 300, 300, &[0; 16]);
+    }
+    for (u, g) in pairs(0, 4) {
+        add_all_points(lines, random, u, g);
+        add_ranges(lines, random, u, g);
+        for _ in 0..12 {
+            add_any_value(lines, random, u, g);
+        }
+    }
+    for (u, g) in pairs(5, 10) {
+        let table = random.any_table(1 << (u + g));
+        let (state, choice) = (random.below(1 << g), random.below(1 << u));
+        lines.value(u, g, state as u64, choice as u64, &table);
+        lines.value(u, g, (1 << g) - 1, (1 << u) - 1, &table[..table.len().min(512)]);
+    }
+}
+
+fn add_all_points(lines: &mut Lines, random: &mut Random, u: u64, g: u64) {
+    let table = random.any_table(1 << (u + g));
+    for point in 0..1 << (u + g) {
+        lines.value(u, g, point >> u, point & ((1 << u) - 1), &table);
+    }
+}
+
+/// State and choice at and over the range, with and without another wrong thing.
+fn add_ranges(lines: &mut Lines, random: &mut Random, u: u64, g: u64) {
+    let table = random.any_table(1 << (u + g));
+    let mut spoiled = table.clone();
+    random.spoil(&mut spoiled, table.len());
+    let (states, choices) = (1 << g, 1 << u);
+    lines.value(u, g, states - 1, choices - 1, &table);
+    lines.value(u, g, states, 0, &table);
+    lines.value(u, g, 0, choices, &table);
+    lines.value(u, g, states + 7, choices + 7, &table);
+    lines.value(u, g, 0, 1000, &table);
+    lines.value(u, g, 256, 0, &table);
+    lines.value(u, g, states, choices, &spoiled);
+    lines.value(u, g, states, 0, &table[1..]);
+    lines.value(u, g, 0, 0, &spoiled[..table.len() - 1]);
+    lines.value(u, g, 0, 0, &spoiled);
+}
+
+fn add_any_value(lines: &mut Lines, random: &mut Random, u: u64, g: u64) {
+    let mut table = random.any_table(1 << (u + g));
+    if random.once_in(4) {
+        let length = table.len();
+        random.spoil(&mut table, length);
+    }
+    random.fit(&mut table);
+    let over = random.pick(&[0, 0, 2]);
+    let (state, choice) = (random.below((1 << g) + over), random.below((1 << u) + over));
+    lines.value(u, g, state as u64, choice as u64, &table);
+}
+
+/// Sums (`+`) or products (`*`).
+pub fn add_two_tables(lines: &mut Lines, call: char) {
+    let random = &mut Random::new(call);
+    for (u, g, table) in bench_tables() {
+        let other = random.any_table(table.len());
+        lines.tables(call, u, g, &table, &other, table.len());
+        lines.tables(call, u, g, &table, &table, table.len() + 1);
+    }
+    for (u, g) in TOO_LARGE {
+        lines.tables(call, u, g, &[1, 0], &[0, 1], 2);
+        lines.tables(call, u, g, &[7], &[], 0);
+    }
+    add_every_pair_of_tables(lines, call);
+    for (u, g) in pairs(0, 4) {
+        add_wrong_tables(lines, call, random, u, g, 1 << (u + g));
+        for _ in 0..25 {
+            add_any_tables(lines, call, random, u, g, 1 << (u + g));
+        }
+    }
+    for (u, g) in pairs(5, 10) {
+        let length = 1 << (u + g);
+        let (a, b) = (random.any_table(length), random.any_table(length));
+        lines.tables(call, u, g, &a, &b, length);
+    }
+    for (u, g) in [(2, 8), (6, 4)] {
+        let (a, b) = (random.table(1024, 2), random.table(1024, 2));
+        lines.tables(call, u, g, &a, &b, 1024);
+    }
+}
+
+/// Every two tables over no letter, over one unknown and over one given.
+fn add_every_pair_of_tables(lines: &mut Lines, call: char) {
+    for (u, g) in pairs(0, 1) {
+        let length = 1 << (u + g);
+        let table =
+            |bits: usize| -> Vec<u8> { (0..length).map(|m| (bits >> m & 1) as u8).collect() };
+        for a in 0..1 << length {
+            for b in 0..1 << length {
+                lines.tables(call, u, g, &table(a), &table(b), length);
+            }
+        }
+    }
+}
+
+/// For two tables or a condition and handed ones: each wrong thing by itself, then two.
+pub fn add_wrong_tables(
+    lines: &mut Lines,
+    call: char,
+    random: &mut Random,
+    u: u64,
+    g: u64,
+    second: usize,
+) {
+    let length = 1 << (u + g);
+    let (a, b) = (random.any_table(length), random.any_table(second));
+    let size = if call == 'h' { second } else { length };
+    let (mut bad_a, mut bad_b) = (a.clone(), b.clone());
+    random.spoil(&mut bad_a, length);
+    random.spoil(&mut bad_b, second);
+    let longer = |table: &[u8]| [table, &[7, 1, 9]].concat();
+    lines.tables(call, u, g, &a, &b, size);
+    lines.tables(call, u, g, &longer(&a), &longer(&b), size + 3);
+    lines.tables(call, u, g, &a[1..], &b, size);
+    lines.tables(call, u, g, &a, &b[..second.saturating_sub(1)], size);
+    lines.tables(call, u, g, &a, &b, size.saturating_sub(1));
+    lines.tables(call, u, g, &[], &b, size);
+    lines.tables(call, u, g, &a, &[], size);
+    lines.tables(call, u, g, &a, &b, 0);
+    lines.tables(call, u, g, &bad_a, &b, size);
+    lines.tables(call, u, g, &a, &bad_b, size);
+    lines.tables(call, u, g, &bad_a, &bad_b, size + 1);
+    lines.tables(call, u, g, &bad_a, &b[..second.saturating_sub(1)], size);
+    lines.tables(call, u, g, &a[1..], &bad_b, size);
+    lines.tables(call, u, g, &bad_a, &bad_b, size.saturating_sub(1));
+}
+
+/// Random tables, each perhaps spoiled, longer, short or empty.
+pub fn add_any_tables(
+    lines: &mut Lines,
+    call: char,
+    random: &mut Random,
+    u: u64,
+    g: u64,
+    second: usize,
+) {
+    let length = 1 << (u + g);
+    let (mut a, mut b) = (random.any_table(length), random.any_table(second));
+    let size = if call == 'h' { second } else { length };
+    if random.once_in(6) {
+        random.spoil(&mut a, length);
+    }
+    if random.once_in(6) {
+        random.spoil(&mut b, second);
+    }
+    random.fit(&mut a);
+    random.fit(&mut b);
+    let size = random.size(size);
+    lines.tables(call, u, g, &a, &b, size);
+}
+
+pub fn add_substitutions(lines: &mut Lines) {
+    let random = &mut Random::new('s');
+    for (u, g, table) in bench_tables() {
+        let mut answers = vec![0; u as usize * table.len()];
+        // 'none' leaves zeros: the condition with 0 put for all unknowns
+        let _ = reference::boole(u, g, &table, &mut answers);
+        lines.tables('s', u, g, &table, &answers, table.len());
+        let other = random.any_table(answers.len());
+        lines.tables('s', u, g, &table, &other, table.len() + 2);
+    }
+    for (u, g) in TOO_LARGE {
+        lines.tables('s', u, g, &[1, 0], &[0, 1], 2);
+        lines.tables('s', u, g, &[7], &[], 0);
+    }
+    for (u, g) in pairs(0, 4) {
+        let second = u as usize * (1 << (u + g));
+        add_wrong_tables(lines, 's', random, u, g, second);
+        add_renamings(lines, random, u, g);
+        for _ in 0..10 {
+            add_any_tables(lines, 's', random, u, g, second);
+        }
+    }
+    for (u, g) in pairs(5, 10) {
+        let length = 1 << (u + g);
+        let (a, b) = (random.any_table(length), random.any_table(u as usize * length));
+        lines.tables('s', u, g, &a, &b, length);
+    }
+    for (u, g) in [(2, 8), (6, 4)] {
+        let (a, b) = (random.table(1024, 2), random.table(u as usize * 1024, 2));
+        lines.tables('s', u, g, &a, &b, 1024);
+    }
+}
+
+/// Each unknown replaced by the next one: all at once, or the result is another.
+fn add_renamings(lines: &mut Lines, random: &mut Random, u: u64, g: u64) {
+    let length = 1 << (u + g);
+    let mut handed = vec![0; u as usize * length];
+    for j in 0..u as usize {
+        handed[j * length + (1 << ((j + 1) % u as usize))] = 1;
+    }
+    let table = random.any_table(length);
+    lines.tables('s', u, g, &table, &handed, length);
+}

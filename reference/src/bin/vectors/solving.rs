@@ -1,0 +1,136 @@
+//! Cases for Boole's answer, the particular solution and Löwenheim's formula.
+
+use crate::cases::{bench_tables, pairs, Random, TOO_LARGE};
+use crate::lines::Lines;
+use crate::operations::{add_any_tables, add_wrong_tables};
+
+/// Boole (`b`), the particular solution (`p`) or the own Löwenheim (`l`).
+pub fn add_solutions(lines: &mut Lines, call: char) {
+    let random = &mut Random::new(call);
+    for (u, g, table) in bench_tables() {
+        let exact = u as usize * table.len();
+        for size in [exact, exact + 2, exact.saturating_sub(1)] {
+            lines.solution(call, u, g, &table, size);
+        }
+    }
+    for (u, g) in TOO_LARGE {
+        lines.solution(call, u, g, &[1, 0], 4);
+        lines.solution(call, u, g, &[7], 0);
+    }
+    add_every_condition(lines, call);
+    for (u, g) in pairs(0, 4) {
+        add_wrong_conditions(lines, call, random, u, g);
+        let many = if u + g < 4 { 16 } else { 8 };
+        for _ in 0..many {
+            add_any_condition(lines, call, random, u, g);
+        }
+        for state in 0..1 << g {
+            let table = random.blocked(u, g, state);
+            lines.solution(call, u, g, &table, u as usize * table.len());
+        }
+    }
+    add_large_conditions(lines, call, random);
+}
+
+/// Every condition over at most two letters.
+fn add_every_condition(lines: &mut Lines, call: char) {
+    for (u, g) in pairs(0, 2) {
+        let length = 1 << (u + g);
+        for bits in 0..1 << length {
+            let table: Vec<u8> = (0..length).map(|mask| (bits >> mask & 1) as u8).collect();
+            lines.solution(call, u, g, &table, u as usize * length);
+        }
+    }
+}
+
+/// Each wrong thing by itself, then two; conditions with and without a solution.
+fn add_wrong_conditions(lines: &mut Lines, call: char, random: &mut Random, u: u64, g: u64) {
+    let table = random.solvable(u, g);
+    let none = random.blocked(u, g, (1 << g) - 1);
+    let length = table.len();
+    let exact = u as usize * length;
+    let mut spoiled = none.clone();
+    random.spoil(&mut spoiled, length);
+    let longer = [&table[..], &[7, 1, 9]].concat();
+    lines.solution(call, u, g, &longer, exact + 4);
+    lines.solution(call, u, g, &[&none[..], &[9]].concat(), exact + 4);
+    lines.solution(call, u, g, &table[1..], exact);
+    lines.solution(call, u, g, &[], exact);
+    lines.solution(call, u, g, &table, exact.saturating_sub(1));
+    lines.solution(call, u, g, &none, exact.saturating_sub(1));
+    lines.solution(call, u, g, &table, 0);
+    lines.solution(call, u, g, &spoiled, exact);
+    lines.solution(call, u, g, &spoiled, exact.saturating_sub(1));
+    lines.solution(call, u, g, &spoiled[..length - 1], exact);
+}
+
+fn add_any_condition(lines: &mut Lines, call: char, random: &mut Random, u: u64, g: u64) {
+    let mut table = match random.below(3) {
+        0 => random.any_table(1 << (u + g)),
+        _ => random.solvable(u, g),
+    };
+    let exact = u as usize * table.len();
+    if random.once_in(12) {
+        let length = table.len();
+        random.spoil(&mut table, length);
+    }
+    if random.once_in(4) {
+        random.fit(&mut table);
+    }
+    let size = if random.once_in(4) { random.size(exact) } else { exact };
+    lines.solution(call, u, g, &table, size);
+}
+
+/// Five to ten letters: sparse, and dense at the bounds, solved and 'none'.
+fn add_large_conditions(lines: &mut Lines, call: char, random: &mut Random) {
+    for (u, g) in pairs(5, 7) {
+        let table = random.solvable(u, g);
+        lines.solution(call, u, g, &table, u as usize * table.len());
+    }
+    for (u, g) in [(0, 8), (1, 8), (2, 8), (3, 6), (4, 4), (3, 7), (5, 4), (6, 2)] {
+        let table = random.solvable(u, g);
+        lines.solution(call, u, g, &table, u as usize * table.len());
+        let state = random.below(1 << g);
+        let none = random.blocked(u, g, state);
+        lines.solution(call, u, g, &none, u as usize * none.len());
+        let sparse = random.table(none.len(), none.len() / 4);
+        lines.solution(call, u, g, &sparse, u as usize * none.len());
+    }
+    let dense = random.solvable(6, 4);
+    lines.solution(call, 6, 4, &dense, 6144);
+    lines.solution(call, 6, 4, &dense, 6143);
+    let last = random.blocked(2, 8, 255);
+    lines.solution(call, 2, 8, &last, 2048);
+}
+
+/// Löwenheim's formula with handed polynomials.
+pub fn add_handed(lines: &mut Lines) {
+    let random = &mut Random::new('h');
+    for (u, g, table) in bench_tables() {
+        let exact = u as usize * table.len();
+        let mut handed = vec![0; exact];
+        // 'none' leaves zeros: the formula is worked out either way
+        let _ = reference::particular(u, g, &table, &mut handed);
+        lines.tables('h', u, g, &table, &handed, exact);
+        let _ = reference::boole(u, g, &table, &mut handed);
+        lines.tables('h', u, g, &table, &handed, exact + 1);
+        let other = random.any_table(exact);
+        lines.tables('h', u, g, &table, &other, exact);
+    }
+    for (u, g) in TOO_LARGE {
+        lines.tables('h', u, g, &[1, 0], &[0, 1], 2);
+        lines.tables('h', u, g, &[7], &[], 0);
+    }
+    for (u, g) in pairs(0, 4) {
+        let second = u as usize * (1 << (u + g));
+        add_wrong_tables(lines, 'h', random, u, g, second);
+        for _ in 0..10 {
+            add_any_tables(lines, 'h', random, u, g, second);
+        }
+    }
+    for (u, g) in [(2, 3), (3, 3), (4, 3), (0, 8), (1, 8), (2, 8), (6, 0), (6, 4)] {
+        let length = 1 << (u + g);
+        let (a, b) = (random.table(length, 2), random.table(u as usize * length, 3));
+        lines.tables('h', u, g, &a, &b, u as usize * length);
+    }
+}

@@ -1,0 +1,214 @@
+//! Cases for the audit and the walk.
+
+use crate::cases::{bench_tables, pairs, Random};
+use crate::entry::{any_entry, damaged_entries, entry, split, table_for_line};
+use crate::lines::Lines;
+
+pub fn add_audits(lines: &mut Lines) {
+    let random = &mut Random::new('a');
+    for (u, g, table) in bench_tables() {
+        let bytes = entry(1 + random.below(250) as u64, u, g, &table);
+        lines.audit(&bytes);
+        lines.audit(&[&bytes[..], &[4, 7, 0]].concat());
+        add_other_answers(lines, u, g, &table);
+    }
+    for bytes in damaged_entries(random) {
+        lines.audit(&bytes);
+    }
+    for (u, g) in pairs(0, 4) {
+        for _ in 0..4 {
+            lines.audit(&any_entry(random, u, g));
+        }
+        let table = random.solvable(u, g);
+        add_other_answers(lines, u, g, &table);
+        let state = random.below(1 << g);
+        let none = random.blocked(u, g, state);
+        add_other_answers(lines, u, g, &none);
+    }
+    for (u, g) in pairs(5, 10) {
+        let most = if u + g == 8 { 1_500 } else { 500 };
+        let (table, _) = table_for_line(random, u, g, most);
+        let mut records = split(&entry(200, u, g, &table));
+        lines.audit(&records.concat());
+        if u + g < 8 {
+            records.remove(records.len() - 2);
+            lines.audit(&records.concat());
+        }
+    }
+    for (u, g) in [(1, 8), (2, 8), (3, 7)] {
+        // blocked in the last state alone
+        let mut text = vec![b'a'];
+        (1..g as u8).for_each(|given| text.extend([b'*', b'a' + given]));
+        let mut table = vec![0; 1 << (u + g)];
+        reference::read_text(u, g, &text, &mut table).expect("a text");
+        lines.audit(&entry(1, u, g, &table));
+    }
+}
+
+/// Well-formed entries whose answers or state are not, or perhaps not, those solved afresh.
+fn add_other_answers(lines: &mut Lines, u: u64, g: u64, table: &[u8]) {
+    let exact = u as usize * table.len();
+    let mut answers = vec![0; exact];
+    for method in [reference::lowenheim, reference::particular, reference::boole] {
+        if method(u, g, table, &mut answers) == Ok(reference::Solved::Done) {
+            lines.audit(&built(5, u, g, table, &answers));
+        }
+    }
+    for place in 0..exact.min(9) {
+        // one monomial more or less
+        let mut other = answers.clone();
+        other[place * exact / exact.min(9)] ^= 1;
+        lines.audit(&built(5, u, g, table, &other));
+    }
+    let mut unknowns = vec![0; exact];
+    (0..u as usize).for_each(|j| unknowns[j * table.len() + (1 << j)] = 1);
+    lines.audit(&built(5, u, g, table, &unknowns));
+    lines.audit(&built(5, u, g, table, &vec![0; exact]));
+    for state in 0..=1u8 << g {
+        lines.audit(&built_none(5, u, g, table, state));
+    }
+}
+
+/// An entry of a condition and any answers, in written order.
+fn built(route: u8, u: u64, g: u64, table: &[u8], answers: &[u8]) -> Vec<u8> {
+    let mut bytes = begun(route, u, g, table);
+    for (j, answer) in answers.chunks(table.len()).enumerate() {
+        for mask in written(answer) {
+            bytes.extend([3, j as u8, mask as u8, (mask >> 8) as u8]);
+        }
+    }
+    bytes.extend([4, route]);
+    bytes
+}
+
+fn built_none(route: u8, u: u64, g: u64, table: &[u8], state: u8) -> Vec<u8> {
+    [&begun(route, u, g, table)[..], &[5, state, 4, route]].concat()
+}
+
+/// Kind 1 and the kind 2 records.
+fn begun(route: u8, u: u64, g: u64, table: &[u8]) -> Vec<u8> {
+    let mut bytes = vec![1, route, u as u8, g as u8];
+    for mask in written(table) {
+        bytes.extend([2, mask as u8, (mask >> 8) as u8]);
+    }
+    bytes
+}
+
+/// The present masks, fewer letters first, then the smaller.
+fn written(table: &[u8]) -> Vec<usize> {
+    let mut masks: Vec<usize> = (0..table.len()).filter(|&mask| table[mask] == 1).collect();
+    masks.sort_by_key(|mask| (mask.count_ones(), *mask));
+    masks
+}
+
+pub fn add_walks(lines: &mut Lines) {
+    let random = &mut Random::new('k');
+    for place in [0, 1, 7, 1000, 65_536] {
+        lines.walk(&[], place);
+    }
+    let rows = bench_tables();
+    let routes: [&[u64]; 14] = [
+        &[1],
+        &[250],
+        &[1, 2],
+        &[1, 250],
+        &[2, 2],
+        &[2, 1],
+        &[250, 1],
+        &[1, 2, 3],
+        &[1, 3, 2],
+        &[1, 2, 2],
+        &[3, 3, 3],
+        &[5, 4, 6],
+        &[10, 20, 30, 40],
+        &[1, 2, 3, 4, 5, 4, 7],
+    ];
+    for list in routes {
+        let part = |(k, &route): (usize, &u64)| {
+            let (u, g, table) = &rows[(k * 3 + list.len() * 5) % rows.len()];
+            entry(route, *u, *g, table)
+        };
+        let entries: Vec<Vec<u8>> = list.iter().enumerate().map(part).collect();
+        add_places(lines, &entries);
+    }
+    add_damaged_volumes(lines, random);
+    add_wrong_answers(lines);
+    for many in [3, 6, 10, 25] {
+        add_any_volume(lines, random, many);
+    }
+}
+
+/// Walks from each place of a short volume, and from some past its end.
+fn add_places(lines: &mut Lines, entries: &[Vec<u8>]) {
+    let volume = entries.concat();
+    let mut start = 0;
+    for part in entries {
+        for place in [start, start + 1, start + 4, start + part.len() - 2] {
+            lines.walk(&volume, place);
+        }
+        start += part.len();
+    }
+    for place in [start - 1, start, start + 1, start + 100, 65_536] {
+        lines.walk(&volume, place);
+    }
+}
+
+/// A damaged entry first, between two good ones, or last; a sample of them.
+fn add_damaged_volumes(lines: &mut Lines, random: &mut Random) {
+    let first = entry(2, 1, 0, &[0, 1]);
+    let last = entry(250, 1, 1, &[0, 0, 1, 0]);
+    for bytes in damaged_entries(random) {
+        match random.below(13) {
+            0 => lines.walk(&[&bytes[..], &last].concat(), 0),
+            1 => lines.walk(&[&first[..], &bytes, &last].concat(), first.len()),
+            2..=4 => lines.walk(&[&first[..], &bytes, &last].concat(), 0),
+            5..=7 => lines.walk(&[&first[..], &bytes].concat(), 0),
+            _ => {}
+        }
+    }
+}
+
+/// An answer with one monomial more or less, and a wrong state; with a route that falls too.
+fn add_wrong_answers(lines: &mut Lines) {
+    let table = [0, 1, 1, 0];
+    let right = [0, 0, 1, 0, 0, 0, 1, 0];
+    for route in [3, 4, 5] {
+        let first = entry(4, 1, 1, &[0, 1, 1, 0]);
+        let last = entry(6, 0, 0, &[1]);
+        for place in 0..right.len() {
+            let mut answers = right;
+            answers[place] ^= 1;
+            let wrong = built(route, 2, 0, &table, &answers);
+            lines.walk(&[&first[..], &wrong, &last].concat(), 0);
+            lines.walk(&[&wrong[..], &last].concat(), 0);
+        }
+        lines.walk(&[&first[..], &built(route, 2, 0, &table, &right), &last].concat(), 0);
+        for state in 0..5 {
+            // a*b + a: blocked in state 1 alone
+            let none = built_none(route, 0, 2, &[0, 1, 0, 1], state);
+            lines.walk(&[&first[..], &none, &last].concat(), 0);
+        }
+        let solved = built(route, 0, 2, &[0, 1, 0, 1], &[]);
+        lines.walk(&[&first[..], &solved, &last].concat(), 0);
+        let none = built_none(route, 2, 0, &table, 0);
+        lines.walk(&[&first[..], &none, &last].concat(), 0);
+    }
+}
+
+/// A volume of random entries with rising routes, whole, cut and with a byte behind.
+fn add_any_volume(lines: &mut Lines, random: &mut Random, many: usize) {
+    let small = pairs(0, 3);
+    let mut entries = Vec::new();
+    for k in 0..many {
+        let (u, g) = random.pick(&small);
+        let table = random.solvable(u, g);
+        entries.push(entry(3 * k as u64 + 1 + random.below(3) as u64, u, g, &table));
+    }
+    let volume = entries.concat();
+    lines.walk(&volume, 0);
+    lines.walk(&volume, entries[0].len());
+    lines.walk(&volume[..volume.len() - 1], 0);
+    lines.walk(&volume[..volume.len() - 2], entries[0].len());
+    lines.walk(&[&volume[..], &[0]].concat(), 0);
+    lines.walk(&[&volume[..], &entries[0]].concat(), 0);
+}

@@ -1,0 +1,150 @@
+//! The calls on lent tables. Each asks its questions in document 01's order,
+//! works out the whole result, and only then changes a lent byte.
+//! Question 4 goes to all buffers before 8 goes to all tables to be read;
+//! bytes behind the asked length are neither asked nor changed.
+
+use crate::polynomial::Polynomial;
+use crate::questions::{
+    ask, ask_bytes, ask_length, ask_letters, ask_text_length, Choice, Letters, Refusal, State,
+};
+use crate::solution::{formula, solve_boole, solve_lowenheim, solve_particular, Solution, Solved};
+use crate::text::read_tree;
+
+/// Reads a text into the condition buffer. Questions 1, 3, 4, 5, 6, 7.
+pub fn read_text(u: u64, g: u64, text: &[u8], condition: &mut [u8]) -> Result<(), Refusal> {
+    let letters = ask_letters(u, g)?;
+    ask_text_length(text)?;
+    ask_length(condition, letters.table_length())?;
+    let tree = read_tree(letters, text)?;
+    fill(condition, letters, &[tree.polynomial()]);
+    Ok(())
+}
+
+/// The value of a table at a state and a choice. Questions 1, 4, 8, 16.
+pub fn value(u: u64, g: u64, table: &[u8], state: State, choice: Choice) -> Result<u8, Refusal> {
+    let letters = ask_letters(u, g)?;
+    ask_length(table, letters.table_length())?;
+    ask_bytes(table, letters.table_length())?;
+    ask(16, state.0 < letters.states() && choice.0 < letters.choices())?;
+    Ok(lent(table, letters).value(letters.point(state, choice)))
+}
+
+/// The sum of two tables. Questions 1, 4, 8.
+pub fn sum(u: u64, g: u64, a: &[u8], b: &[u8], result: &mut [u8]) -> Result<(), Refusal> {
+    let letters = ask_two_tables(u, g, a, b, result)?;
+    fill(result, letters, &[lent(a, letters).sum(&lent(b, letters))]);
+    Ok(())
+}
+
+/// The product of two tables. Questions 1, 4, 8.
+pub fn product(u: u64, g: u64, a: &[u8], b: &[u8], result: &mut [u8]) -> Result<(), Refusal> {
+    let letters = ask_two_tables(u, g, a, b, result)?;
+    fill(result, letters, &[lent(a, letters).product(&lent(b, letters))]);
+    Ok(())
+}
+
+/// Handed polynomials put into a condition. Questions 1, 4, 8.
+pub fn substitute(
+    u: u64,
+    g: u64,
+    condition: &[u8],
+    handed: &[u8],
+    result: &mut [u8],
+) -> Result<(), Refusal> {
+    let letters = ask_letters(u, g)?;
+    ask_length(result, letters.table_length())?;
+    ask_handed(letters, condition, handed)?;
+    let f = lent(condition, letters);
+    fill(result, letters, &[f.substitute(&lent_answers(handed, letters))]);
+    Ok(())
+}
+
+/// Boole's answer. Questions 1, 4, 8, 9.
+pub fn boole(u: u64, g: u64, condition: &[u8], answers: &mut [u8]) -> Result<Solved, Refusal> {
+    solve(u, g, condition, answers, solve_boole)
+}
+
+/// The particular solution. Questions 1, 4, 8, 9.
+pub fn particular(u: u64, g: u64, condition: &[u8], answers: &mut [u8]) -> Result<Solved, Refusal> {
+    solve(u, g, condition, answers, solve_particular)
+}
+
+/// The engine's own Löwenheim answer. Questions 1, 4, 8, 9.
+pub fn lowenheim(u: u64, g: u64, condition: &[u8], answers: &mut [u8]) -> Result<Solved, Refusal> {
+    solve(u, g, condition, answers, solve_lowenheim)
+}
+
+/// Löwenheim's formula with handed polynomials. Questions 1, 4, 8.
+pub fn lowenheim_handed(
+    u: u64,
+    g: u64,
+    condition: &[u8],
+    handed: &[u8],
+    answers: &mut [u8],
+) -> Result<(), Refusal> {
+    let letters = ask_letters(u, g)?;
+    ask_length(answers, letters.answer_length())?;
+    ask_handed(letters, condition, handed)?;
+    let b = lent_answers(handed, letters);
+    fill(answers, letters, &formula(letters, &lent(condition, letters), &b));
+    Ok(())
+}
+
+fn solve(
+    u: u64,
+    g: u64,
+    condition: &[u8],
+    answers: &mut [u8],
+    method: fn(Letters, &Polynomial) -> Solution,
+) -> Result<Solved, Refusal> {
+    let letters = ask_letters(u, g)?;
+    ask_length(condition, letters.table_length())?;
+    ask_length(answers, letters.answer_length())?;
+    ask_bytes(condition, letters.table_length())?;
+    match method(letters, &lent(condition, letters)) {
+        Solution::Answers(polynomials) => {
+            fill(answers, letters, &polynomials);
+            Ok(Solved::Done)
+        }
+        Solution::None(state) => Ok(Solved::None(state)),
+    }
+}
+
+/// Questions 1, 4 and 8 of two tables and the buffer for their result.
+fn ask_two_tables(u: u64, g: u64, a: &[u8], b: &[u8], result: &[u8]) -> Result<Letters, Refusal> {
+    let letters = ask_letters(u, g)?;
+    let length = letters.table_length();
+    ask_length(a, length)?;
+    ask_length(b, length)?;
+    ask_length(result, length)?;
+    ask_bytes(a, length)?;
+    ask_bytes(b, length)?;
+    Ok(letters)
+}
+
+/// Questions 4 and 8 of a condition and handed polynomials.
+fn ask_handed(letters: Letters, condition: &[u8], handed: &[u8]) -> Result<(), Refusal> {
+    ask_length(condition, letters.table_length())?;
+    ask_length(handed, letters.answer_length())?;
+    ask_bytes(condition, letters.table_length())?;
+    ask_bytes(handed, letters.answer_length())
+}
+
+/// The polynomial of a lent table.
+pub fn lent(table: &[u8], letters: Letters) -> Polynomial {
+    Polynomial::from_table(&table[..letters.table_length()])
+}
+
+/// The polynomials of a lent answer table, unknown 0 first.
+pub fn lent_answers(tables: &[u8], letters: Letters) -> Vec<Polynomial> {
+    let tables = &tables[..letters.answer_length()];
+    tables.chunks(letters.table_length()).map(Polynomial::from_table).collect()
+}
+
+/// Puts tables one after another at the start of a buffer.
+pub fn fill(buffer: &mut [u8], letters: Letters, polynomials: &[Polynomial]) {
+    let length = letters.table_length();
+    for (place, polynomial) in buffer.chunks_mut(length).zip(polynomials) {
+        place.copy_from_slice(&polynomial.to_table(length));
+    }
+}

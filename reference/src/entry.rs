@@ -1,0 +1,266 @@
+//! The archive entry: records, writing, reading, audit and the walk.
+//! Masks are two bytes, low byte first.
+
+use crate::calls::{fill, lent};
+use crate::polynomial::Polynomial;
+use crate::questions::{
+    ask, ask_bytes, ask_length, ask_letters, ask_route, Letters, Refusal, State,
+};
+use crate::solution::{solve_boole, Solution};
+
+/// One byte of kind, then a body whose length the kind fixes.
+#[derive(Clone, Copy, Debug, PartialEq, Eq)]
+pub enum Record {
+    /// Kind 1: route, U, G.
+    Start(u8, u8, u8),
+    /// Kind 2: a monomial of the condition.
+    Monomial(u16),
+    /// Kind 3: unknown number, then a monomial of its answer.
+    Answer(u8, u16),
+    /// Kind 4: the route again, end of entry.
+    End(u8),
+    /// Kind 5: 'none', the state.
+    None(u8),
+}
+
+impl Record {
+    pub fn bytes(self) -> Vec<u8> {
+        match self {
+            Record::Start(route, u, g) => vec![1, route, u, g],
+            Record::Monomial(mask) => vec![2, mask as u8, (mask >> 8) as u8],
+            Record::Answer(unknown, mask) => vec![3, unknown, mask as u8, (mask >> 8) as u8],
+            Record::End(route) => vec![4, route],
+            Record::None(state) => vec![5, state],
+        }
+    }
+
+    /// The record at the start of bytes: a kind 1 to 5 and a whole body, or nothing.
+    fn first(bytes: &[u8]) -> Option<Record> {
+        match *bytes {
+            [1, route, u, g, ..] => Some(Record::Start(route, u, g)),
+            [2, low, high, ..] => Some(Record::Monomial(u16::from_le_bytes([low, high]))),
+            [3, unknown, low, high, ..] => {
+                Some(Record::Answer(unknown, u16::from_le_bytes([low, high])))
+            }
+            [4, route, ..] => Some(Record::End(route)),
+            [5, state, ..] => Some(Record::None(state)),
+            _ => None,
+        }
+    }
+}
+
+/// The records of the entry for a route and a condition, solved by Boole's method.
+pub fn entry_records(route: u8, letters: Letters, condition: &Polynomial) -> Vec<Record> {
+    let mut records = vec![Record::Start(route, letters.unknowns as u8, letters.givens as u8)];
+    records.extend(condition.written().into_iter().map(Record::Monomial));
+    match solve_boole(letters, condition) {
+        Solution::Answers(answers) => {
+            for (unknown, answer) in answers.iter().enumerate() {
+                let record = |mask| Record::Answer(unknown as u8, mask);
+                records.extend(answer.written().into_iter().map(record));
+            }
+        }
+        Solution::None(state) => records.push(Record::None(state.0 as u8)),
+    }
+    records.push(Record::End(route));
+    records
+}
+
+/// Writes the entry of a condition and gives its length. Questions 1, 2, 4, 8, 14.
+pub fn write_entry(
+    route: u64,
+    u: u64,
+    g: u64,
+    condition: &[u8],
+    output: &mut [u8],
+) -> Result<usize, Refusal> {
+    let letters = ask_letters(u, g)?;
+    ask_route(route)?;
+    ask_length(condition, letters.table_length())?;
+    ask_bytes(condition, letters.table_length())?;
+    let records = entry_records(route as u8, letters, &lent(condition, letters));
+    let bytes: Vec<u8> = records.into_iter().flat_map(Record::bytes).collect();
+    ask(14, output.len() >= bytes.len())?;
+    output[..bytes.len()].copy_from_slice(&bytes);
+    Ok(bytes.len())
+}
+
+/// Whether an entry is solved or 'none', and in which state.
+#[derive(Clone, Copy, Debug, PartialEq, Eq)]
+pub enum Contents {
+    Solved,
+    None(State),
+}
+
+/// What reading an entry gives, beside the tables.
+#[derive(Clone, Copy, Debug, PartialEq, Eq)]
+pub struct Reading {
+    pub route: u8,
+    pub unknowns: u8,
+    pub givens: u8,
+    pub contents: Contents,
+    pub length: usize,
+}
+
+/// An entry for which questions 10, 11, 1, 2 and 12 are answered yes.
+struct Entry {
+    reading: Reading,
+    letters: Letters,
+    condition: Polynomial,
+    solution: Solution,
+}
+
+/// Reads an entry into the two buffers. Questions 10, 11, 1, 2, 12, 4.
+/// A 'none' entry leaves the answer buffer untouched, but 4 is asked of it.
+pub fn read_entry(
+    bytes: &[u8],
+    condition: &mut [u8],
+    answers: &mut [u8],
+) -> Result<Reading, Refusal> {
+    let entry = examine(bytes)?;
+    ask_length(condition, entry.letters.table_length())?;
+    ask_length(answers, entry.letters.answer_length())?;
+    fill(condition, entry.letters, &[entry.condition]);
+    if let Solution::Answers(polynomials) = entry.solution {
+        fill(answers, entry.letters, &polynomials);
+    }
+    Ok(entry.reading)
+}
+
+/// Reads an entry, solves its condition afresh and compares.
+/// Questions 10, 11, 1, 2, 12, 13.
+pub fn audit(bytes: &[u8]) -> Result<Reading, Refusal> {
+    let entry = examine(bytes)?;
+    ask(13, entry.solution == solve_boole(entry.letters, &entry.condition))?;
+    Ok(entry.reading)
+}
+
+/// Asks 10, 11, 1, 2 and 12 and takes the records apart.
+fn examine(bytes: &[u8]) -> Result<Entry, Refusal> {
+    let records = records_to_end(bytes).ok_or(Refusal(10))?;
+    let (route, u, g) = ask_order_of_kinds(&records)?;
+    let letters = ask_letters(u as u64, g as u64)?;
+    ask_route(route as u64)?;
+    ask(12, are_numbers_right(letters, &records))?;
+    let solution = solution_of(letters, &records);
+    let contents = match solution {
+        Solution::Answers(_) => Contents::Solved,
+        Solution::None(state) => Contents::None(state),
+    };
+    let length = records.iter().map(|record| record.bytes().len()).sum();
+    let reading = Reading { route, unknowns: u, givens: g, contents, length };
+    Ok(Entry { reading, letters, condition: condition_of(&records), solution })
+}
+
+/// 10. The records to the first kind 4, or nothing.
+fn records_to_end(bytes: &[u8]) -> Option<Vec<Record>> {
+    let mut records = Vec::new();
+    let mut place = 0;
+    loop {
+        let record = Record::first(&bytes[place..])?;
+        place += record.bytes().len();
+        records.push(record);
+        if let Record::End(_) = record {
+            return Some(records);
+        }
+    }
+}
+
+/// 11. One kind 1; kind 2; kind 3 or one kind 5; one kind 4; both routes equal.
+fn ask_order_of_kinds(records: &[Record]) -> Result<(u8, u8, u8), Refusal> {
+    let [Record::Start(route, u, g), inner @ .., Record::End(again)] = records else {
+        return Err(Refusal(11));
+    };
+    let is_monomial = |record: &Record| matches!(record, Record::Monomial(_));
+    let is_answer = |record: &Record| matches!(record, Record::Answer(..));
+    let monomials = inner.iter().take_while(|record| is_monomial(record)).count();
+    let last = &inner[monomials..];
+    let is_none = matches!(last, [Record::None(_)]);
+    ask(11, (is_none || last.iter().all(is_answer)) && route == again)?;
+    Ok((*route, *u, *g))
+}
+
+/// 12. Masks below 2^n, unknowns below U, the state below 2^G, all in order, none twice.
+fn are_numbers_right(letters: Letters, records: &[Record]) -> bool {
+    let below = records.iter().all(|record| match *record {
+        Record::Monomial(mask) => (mask as usize) < letters.table_length(),
+        Record::Answer(unknown, mask) => {
+            (unknown as usize) < letters.unknowns && (mask as usize) < letters.table_length()
+        }
+        Record::None(state) => (state as u64) < letters.states(),
+        Record::Start(..) | Record::End(_) => true,
+    });
+    below && records.windows(2).all(|pair| are_rising(pair[0], pair[1]))
+}
+
+/// By unknown, then fewer letters, then the smaller mask; other pairs of kinds pass.
+fn are_rising(first: Record, second: Record) -> bool {
+    let key = |mask: u16| (mask.count_ones(), mask);
+    match (first, second) {
+        (Record::Monomial(m), Record::Monomial(k)) => key(m) < key(k),
+        (Record::Answer(x, m), Record::Answer(y, k)) => (x, key(m)) < (y, key(k)),
+        _ => true,
+    }
+}
+
+/// The condition that the kind 2 records hold.
+fn condition_of(records: &[Record]) -> Polynomial {
+    let mut condition = Polynomial::zero();
+    for record in records {
+        if let Record::Monomial(mask) = *record {
+            condition.add(mask);
+        }
+    }
+    condition
+}
+
+/// The answers that the kind 3 records hold, 0 where there are none, or kind 5's state.
+fn solution_of(letters: Letters, records: &[Record]) -> Solution {
+    let mut answers = vec![Polynomial::zero(); letters.unknowns];
+    for record in records {
+        match *record {
+            Record::Answer(unknown, mask) => answers[unknown as usize].add(mask),
+            Record::None(state) => return Solution::None(State(state as u64)),
+            _ => {}
+        }
+    }
+    Solution::Answers(answers)
+}
+
+/// A lent volume and a place in it.
+#[derive(Clone, Copy, Debug)]
+pub struct Walk<'a> {
+    pub volume: &'a [u8],
+    pub place: usize,
+}
+
+/// What a walk answers.
+#[derive(Clone, Copy, Debug, PartialEq, Eq)]
+pub enum Count {
+    Whole(usize),
+    /// The refusal, and the count of entries passed before it.
+    Refused(Refusal, usize),
+}
+
+impl Walk<'_> {
+    /// The count of entries from the place to the end: per entry the audit's questions, then 15.
+    pub fn count(self) -> Count {
+        let mut rest = self.volume.get(self.place..).unwrap_or(&[]);
+        let mut passed = 0;
+        let mut before = 0;
+        while !rest.is_empty() {
+            match audit(rest) {
+                Err(refusal) => return Count::Refused(refusal, passed),
+                Ok(reading) if reading.route <= before => {
+                    return Count::Refused(Refusal(15), passed)
+                }
+                Ok(reading) => {
+                    before = reading.route;
+                    rest = &rest[reading.length..];
+                    passed += 1;
+                }
+            }
+        }
+        Count::Whole(passed)
+    }
+}

@@ -1,0 +1,25 @@
+//! A plain implementation of document 01, the thirty-year route volume.
+//!
+//! Written from the paper alone, to test the engine against: polynomials are
+//! sets of monomials and every step is worked out in the paper's own words.
+//! Module `values` works out the same answers a second way, by values.
+//! The public calls are the functions and types named below.
+
+mod calls;
+mod entry;
+mod polynomial;
+mod programs;
+mod questions;
+mod solution;
+mod text;
+pub mod values;
+
+pub use calls::{
+    boole, lowenheim, lowenheim_handed, particular, product, read_text, substitute, sum, value,
+};
+pub use entry::{audit, read_entry, write_entry, Contents, Count, Reading, Walk};
+pub use polynomial::Polynomial;
+pub use programs::{sheet, walk_output};
+pub use questions::{Choice, Letters, Refusal, State};
+pub use solution::{Solution, Solved};
+pub use text::{read_tree, Tree};

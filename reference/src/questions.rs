@@ -1,0 +1,104 @@
+//! The questions of document 01 that more than one call asks, their numbers,
+//! and the letters, states and choices that they speak of.
+
+/// U counts the unknowns, 0 to 6.
+pub const MOST_UNKNOWNS: u64 = 6;
+/// G counts the givens, 0 to 8.
+pub const MOST_GIVENS: u64 = 8;
+/// n = U + G, at most 10.
+pub const MOST_LETTERS: u64 = 10;
+/// The route is 1 to 250.
+pub const LAST_ROUTE: u64 = 250;
+/// The text has 1 to 200 bytes.
+pub const LONGEST_TEXT: usize = 200;
+
+/// The number of the first question answered no.
+#[derive(Clone, Copy, Debug, PartialEq, Eq)]
+pub struct Refusal(pub u8);
+
+/// A number below 2^G: bit i is the value of given i.
+#[derive(Clone, Copy, Debug, PartialEq, Eq)]
+pub struct State(pub u64);
+
+/// A number below 2^U: bit j is the value of unknown j.
+#[derive(Clone, Copy, Debug, PartialEq, Eq)]
+pub struct Choice(pub u64);
+
+/// Counts of unknowns and givens for which question 1 is answered yes.
+#[derive(Clone, Copy, Debug, PartialEq, Eq)]
+pub struct Letters {
+    pub unknowns: usize,
+    pub givens: usize,
+}
+
+impl Letters {
+    /// The bytes of one table: 2^n.
+    pub fn table_length(self) -> usize {
+        1 << (self.unknowns + self.givens)
+    }
+
+    /// The bytes of an answer table: U times 2^n.
+    pub fn answer_length(self) -> usize {
+        self.unknowns * self.table_length()
+    }
+
+    pub fn states(self) -> u64 {
+        1 << self.givens
+    }
+
+    pub fn choices(self) -> u64 {
+        1 << self.unknowns
+    }
+
+    /// The monomial of unknown j alone.
+    pub fn unknown(self, j: usize) -> u16 {
+        1 << j
+    }
+
+    /// The monomial of given i alone.
+    pub fn given(self, i: usize) -> u16 {
+        1 << (self.unknowns + i)
+    }
+
+    /// The letters that are 1 at a state and a choice, as a mask.
+    pub fn point(self, state: State, choice: Choice) -> u16 {
+        (choice.0 | state.0 << self.unknowns) as u16
+    }
+}
+
+/// Yes, or the number of the question.
+pub fn ask(number: u8, yes: bool) -> Result<(), Refusal> {
+    if yes {
+        Ok(())
+    } else {
+        Err(Refusal(number))
+    }
+}
+
+/// 1. Are U at most 6, G at most 8, n at most 10?
+pub fn ask_letters(unknowns: u64, givens: u64) -> Result<Letters, Refusal> {
+    let yes =
+        unknowns <= MOST_UNKNOWNS && givens <= MOST_GIVENS && unknowns + givens <= MOST_LETTERS;
+    ask(1, yes)?;
+    Ok(Letters { unknowns: unknowns as usize, givens: givens as usize })
+}
+
+/// 2. Is the route 1 to 250?
+pub fn ask_route(route: u64) -> Result<(), Refusal> {
+    ask(2, (1..=LAST_ROUTE).contains(&route))
+}
+
+/// 3. Has the text 1 to 200 bytes?
+pub fn ask_text_length(text: &[u8]) -> Result<(), Refusal> {
+    ask(3, (1..=LONGEST_TEXT).contains(&text.len()))
+}
+
+/// 4, of one buffer: has it that many bytes or more?
+pub fn ask_length(buffer: &[u8], length: usize) -> Result<(), Refusal> {
+    ask(4, buffer.len() >= length)
+}
+
+/// 8, of one table: is each byte, as far as the length, 0 or 1?
+pub fn ask_bytes(table: &[u8], length: usize) -> Result<(), Refusal> {
+    ask(8, table[..length].iter().all(|&byte| byte <= 1))
+}

@@ -1,0 +1,93 @@
+//! Solving "condition = 0": Boole's elimination, the particular solution and
+//! Löwenheim's formula, on polynomials.
+
+use crate::polynomial::Polynomial;
+use crate::questions::{Choice, Letters, State};
+
+/// The answers, unknown 0 first, or 'none' and the state.
+#[derive(Clone, Debug, PartialEq, Eq)]
+pub enum Solution {
+    Answers(Vec<Polynomial>),
+    None(State),
+}
+
+/// What a solving call gives when it is not refused.
+#[derive(Clone, Copy, Debug, PartialEq, Eq)]
+pub enum Solved {
+    Done,
+    /// The no of question 9.
+    None(State),
+}
+
+/// f with x = 1 and f with x = 0.
+struct Step {
+    r: Polynomial,
+    s: Polynomial,
+}
+
+/// Unknown 0 goes first; the answers are found from the last unknown back.
+pub fn solve_boole(letters: Letters, condition: &Polynomial) -> Solution {
+    let mut steps = Vec::new();
+    let mut current = condition.clone();
+    for j in 0..letters.unknowns {
+        let x = letters.unknown(j);
+        let step = Step { r: current.with_one(x), s: current.with_zero(x) };
+        current = step.r.product(&step.s);
+        steps.push(step);
+    }
+    if !current.is_zero() {
+        return Solution::None(blocked_state(letters, condition));
+    }
+    Solution::Answers(go_back(letters, &steps))
+}
+
+/// x*(r + s + 1) + s, with the answers already found put into r and s.
+fn go_back(letters: Letters, steps: &[Step]) -> Vec<Polynomial> {
+    // An unknown that has gone is in no later r or s; it stands for itself.
+    let itself = |j| Polynomial::monomial(letters.unknown(j));
+    let mut answers: Vec<Polynomial> = (0..letters.unknowns).map(itself).collect();
+    for j in (0..letters.unknowns).rev() {
+        let r = steps[j].r.substitute(&answers);
+        let s = steps[j].s.substitute(&answers);
+        let factor = r.sum(&s).sum(&Polynomial::one());
+        answers[j] = itself(j).product(&factor).sum(&s);
+    }
+    answers
+}
+
+/// The smallest state in which every choice gives the condition the value 1.
+fn blocked_state(letters: Letters, condition: &Polynomial) -> State {
+    let blocked = |state: &State| {
+        (0..letters.choices()).all(|c| condition.value(letters.point(*state, Choice(c))) == 1)
+    };
+    let found = (0..letters.states()).map(State).find(blocked);
+    found.expect("a remainder that is not 0 is 1 in some state")
+}
+
+/// Boole's answer with 0 put for all parameters.
+pub fn solve_particular(letters: Letters, condition: &Polynomial) -> Solution {
+    match solve_boole(letters, condition) {
+        Solution::Answers(answers) => {
+            let zeros = vec![Polynomial::zero(); letters.unknowns];
+            Solution::Answers(answers.iter().map(|answer| answer.substitute(&zeros)).collect())
+        }
+        none => none,
+    }
+}
+
+/// Löwenheim's formula with the particular solution.
+pub fn solve_lowenheim(letters: Letters, condition: &Polynomial) -> Solution {
+    match solve_particular(letters, condition) {
+        Solution::Answers(b) => Solution::Answers(formula(letters, condition, &b)),
+        none => none,
+    }
+}
+
+/// The answer for unknown x is x + f*(x + b of x).
+pub fn formula(letters: Letters, f: &Polynomial, b: &[Polynomial]) -> Vec<Polynomial> {
+    let answer = |j: usize| {
+        let x = Polynomial::monomial(letters.unknown(j));
+        x.sum(&f.product(&x.sum(&b[j])))
+    };
+    (0..letters.unknowns).map(answer).collect()
+}

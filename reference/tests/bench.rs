@@ -1,0 +1,139 @@
+//! The rows of the bench table, the slips to shut out, and the two programs.
+
+use reference::*;
+
+/// The condition table of a text.
+fn condition(u: u64, g: u64, text: &str) -> Vec<u8> {
+    let mut table = vec![7; 1 << (u + g)];
+    assert_eq!(read_text(u, g, text.as_bytes(), &mut table), Ok(()));
+    table
+}
+
+fn refusal(u: u64, g: u64, text: &str) -> u8 {
+    let mut buffer = [7; 1024];
+    let result = read_text(u, g, text.as_bytes(), &mut buffer);
+    assert_eq!(buffer, [7; 1024]);
+    result.expect_err("a refusal").0
+}
+
+/// Checks an answer against texts for its polynomials.
+fn assert_answers(u: u64, g: u64, text: &str, boole_texts: &[&str], lowenheim_texts: &[&str]) {
+    let table = condition(u, g, text);
+    let tables =
+        |texts: &[&str]| -> Vec<u8> { texts.iter().flat_map(|t| condition(u, g, t)).collect() };
+    let mut answers = vec![7; u as usize * table.len()];
+    assert_eq!(boole(u, g, &table, &mut answers), Ok(Solved::Done));
+    assert_eq!(answers, tables(boole_texts), "{text}");
+    if !lowenheim_texts.is_empty() {
+        assert_eq!(lowenheim(u, g, &table, &mut answers), Ok(Solved::Done));
+        assert_eq!(answers, tables(lowenheim_texts), "{text}");
+    }
+}
+
+fn assert_none(u: u64, g: u64, text: &str, state: u64) {
+    let table = condition(u, g, text);
+    let mut answers = vec![7; u as usize * table.len()];
+    for method in [boole, particular, lowenheim] {
+        assert_eq!(method(u, g, &table, &mut answers), Ok(Solved::None(State(state))));
+        assert!(answers.iter().all(|&byte| byte == 7));
+    }
+}
+
+#[test]
+fn starred_rows() {
+    assert_answers(0, 0, "0", &[], &[]);
+    assert_none(0, 0, "1", 0);
+    assert_answers(1, 0, "u", &["0"], &[]);
+    assert_answers(1, 0, "!u", &["1"], &[]);
+    assert_answers(2, 0, "u+v", &["v", "v"], &["u*v", "u*v"]);
+    assert_answers(2, 0, "u*v", &["u+u*v", "v"], &[]);
+    assert_answers(2, 0, "u+v+1", &["1+v", "v"], &["1+v+u*v", "v+u*v"]);
+    assert_answers(1, 1, "u+a", &["a"], &[]);
+    assert_none(1, 1, "a", 1);
+    assert_none(1, 2, "a*u+b*u+b", 3);
+    assert_answers(2, 0, "(v+1)*(u+v)+(v+1)*u", &["u", "v"], &[]);
+    assert_eq!(condition(2, 0, "(v+1)*(u+v)+(v+1)*u"), [0; 4]);
+}
+
+#[test]
+fn other_rows() {
+    let mut buffer = [0; 1024];
+    assert_eq!(read_text(1, 0, &[&[b' '; 199][..], b"u"].concat(), &mut buffer), Ok(()));
+    assert_eq!(refusal(1, 0, &" ".repeat(201)), 3);
+    assert_eq!(read_text(6, 4, b"z*d", &mut buffer), Ok(()));
+    assert_eq!(refusal(6, 5, "u"), 1);
+    assert_eq!(refusal(2, 0, "w"), 6);
+    assert_eq!(refusal(2, 0, "()"), 7);
+    assert_eq!(write_entry(250, 1, 0, &[0, 1], &mut buffer), Ok(9));
+    assert_eq!(write_entry(251, 1, 0, &[0, 1], &mut buffer), Err(Refusal(2)));
+    assert_eq!(write_entry(0, 1, 0, &[0, 1], &mut buffer), Err(Refusal(2)));
+}
+
+#[test]
+fn slips() {
+    assert_eq!(condition(2, 0, "u|v"), [0, 1, 1, 1]);
+    assert_eq!(condition(1, 0, "u+u+u"), [0, 1]);
+    assert_eq!(condition(2, 0, "u|v+v"), condition(2, 0, "(u|v)+v"));
+    assert_answers(2, 1, "(u+v)|(v+a)", &["a", "a"], &[]);
+}
+
+#[test]
+fn order_of_questions_for_a_text() {
+    assert_eq!(refusal(u64::MAX, 1, ""), 1);
+    assert_eq!(refusal(1, 0, ""), 3);
+    assert_eq!(read_text(1, 0, b"#", &mut [7]), Err(Refusal(4)));
+    assert_eq!(refusal(1, 0, "(v#"), 5);
+    assert_eq!(refusal(1, 0, "(v"), 6);
+    assert_eq!(refusal(1, 0, "(u"), 7);
+    assert_eq!(refusal(1, 0, "   "), 7);
+}
+
+const SHEET: &str =
+    "01070200\n020100\n020200\n03000200\n03010200\n0407\n01080101\n020200\n0501\n0408\n";
+
+#[test]
+fn sample_sheet() {
+    assert_eq!(sheet(b"7 2 0 u+v\n8 1 1 a\n"), SHEET.as_bytes());
+    assert_eq!(sheet(b"7 2 0 u+v\n8 1 1 a"), SHEET.as_bytes());
+}
+
+#[test]
+fn sheet_lines() {
+    let prints = |input: &[u8]| String::from_utf8(sheet(input)).expect("text");
+    assert_eq!(prints(b""), "");
+    assert_eq!(prints(b"\n"), "unreadable\n");
+    assert_eq!(prints(b"7 2 0"), "unreadable\n");
+    assert_eq!(prints(b"7 2 0 "), "refused 3\n");
+    assert_eq!(prints(b"7  2 0 u"), "unreadable\n");
+    assert_eq!(prints(b"0007 2 0 u"), "unreadable\n");
+    assert_eq!(prints(b"000 9 0 "), "refused 1\n");
+    assert_eq!(prints(b"251 6 4 "), "refused 2\n");
+    assert_eq!(prints(b"7 1 0 u\r\n"), "refused 5\n");
+    assert_eq!(prints(b"7 1 0 v\n7 1 0 (\n"), "refused 6\nrefused 7\n");
+    let line = |length: usize| [&b"7 1 0 "[..], &vec![b' '; length - 6]].concat();
+    assert_eq!(prints(&line(300)), "refused 3\n");
+    assert_eq!(prints(&line(301)), "unreadable\n");
+}
+
+#[test]
+fn sheet_routes_rise() {
+    let output = String::from_utf8(sheet(b"5 0 0 1\n5 0 0 0\n9 0 0 (\n6 0 0 0\n")).expect("text");
+    let five = "01050000\n020000\n0500\n0405\n";
+    assert_eq!(output, format!("{five}refused 15\nrefused 7\n01060000\n0406\n"));
+}
+
+#[test]
+fn walk_prints() {
+    let digits: String = SHEET.split('\n').collect();
+    let byte = |place: usize| u8::from_str_radix(&digits[place..place + 2], 16).expect("digits");
+    let volume: Vec<u8> = (0..digits.len()).step_by(2).map(byte).collect();
+    assert_eq!(walk_output(Some(&volume)), "2\n");
+    assert_eq!(walk_output(Some(&[])), "0\n");
+    assert_eq!(walk_output(None), "unreadable\n");
+    assert_eq!(walk_output(Some(&volume[..volume.len() - 1])), "refused 10 1\n");
+    assert_eq!(walk_output(Some(&[&volume[..], &volume].concat())), "refused 15 2\n");
+    assert_eq!(walk_output(Some(&[0; 65_536])), "refused 10 0\n");
+    assert_eq!(walk_output(Some(&[0; 65_537])), "unreadable\n");
+    assert_eq!(Walk { volume: &volume, place: 20 }.count(), Count::Whole(1));
+    assert_eq!(Walk { volume: &volume, place: usize::MAX }.count(), Count::Whole(0));
+}

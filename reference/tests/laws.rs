@@ -1,0 +1,292 @@
+//! The demands on small random conditions, by brute force, and the two ways
+//! of working out an answer against each other.
+
+use reference::values;
+use reference::*;
+
+struct Random(u64);
+
+impl Random {
+    fn below(&mut self, bound: usize) -> usize {
+        self.0 ^= self.0 << 13;
+        self.0 ^= self.0 >> 7;
+        self.0 ^= self.0 << 17;
+        ((self.0 >> 11) % bound as u64) as usize
+    }
+
+    fn table(&mut self, length: usize) -> Vec<u8> {
+        let many = [2, 2, 3, 1 + length / 3][self.below(4)];
+        (0..length).map(|_| (self.below(many) == 0) as u8).collect()
+    }
+
+    /// A condition with a solution in each state.
+    fn solvable(&mut self, letters: Letters) -> Vec<u8> {
+        let mut values = self.table(letters.table_length());
+        for state in 0..1 << letters.givens {
+            values[state << letters.unknowns | self.below(1 << letters.unknowns)] = 0;
+        }
+        values::transform(&values)
+    }
+}
+
+fn all_letters(most: usize) -> Vec<Letters> {
+    let pairs =
+        (0..=6).flat_map(|unknowns| (0..=8).map(move |givens| Letters { unknowns, givens }));
+    pairs.filter(|letters| letters.unknowns + letters.givens <= most).collect()
+}
+
+type Method = fn(u64, u64, &[u8], &mut [u8]) -> Result<Solved, Refusal>;
+
+/// The answer tables, or the state.
+fn solved(letters: Letters, condition: &[u8], method: Method) -> Result<Vec<u8>, State> {
+    let mut answers = vec![7; letters.answer_length()];
+    let (u, g) = (letters.unknowns as u64, letters.givens as u64);
+    match method(u, g, condition, &mut answers).expect("no refusal") {
+        Solved::Done => Ok(answers),
+        Solved::None(state) => Err(state),
+    }
+}
+
+/// Substitutions over a list of letters, the givens first, as values: item
+/// [point] is the choice that the polynomials of the unknowns give there.
+fn substitutions(letters: Letters, list: usize) -> Vec<Vec<usize>> {
+    let mut found = vec![vec![]];
+    for _ in 0..1 << list {
+        let longer = |begun: &Vec<usize>| {
+            let begun = begun.clone();
+            (0..1 << letters.unknowns).map(move |choice| [&begun[..], &[choice]].concat())
+        };
+        found = found.iter().flat_map(longer).collect();
+    }
+    found
+}
+
+/// The value of a table where the letters of the list and the unknowns are so;
+/// a given's value is its own.
+fn value_at(letters: Letters, table: &[u8], point: usize, choice: usize) -> u8 {
+    let state = State((point & ((1 << letters.givens) - 1)) as u64);
+    let (u, g) = (letters.unknowns as u64, letters.givens as u64);
+    value(u, g, table, state, Choice(choice as u64)).expect("a value")
+}
+
+fn makes_zero(letters: Letters, condition: &[u8], substitution: &[usize]) -> bool {
+    let zero = |(point, &choice)| value_at(letters, condition, point, choice) == 0;
+    substitution.iter().enumerate().all(zero)
+}
+
+/// A substitution put for the parameters of an answer.
+fn put(letters: Letters, answers: &[u8], substitution: &[usize]) -> Vec<usize> {
+    let tables: Vec<&[u8]> = answers.chunks(letters.table_length()).collect();
+    let at = |(point, &choice): (usize, &usize)| {
+        let bit =
+            |(j, table): (usize, &&[u8])| (value_at(letters, table, point, choice) as usize) << j;
+        tables.iter().enumerate().map(bit).sum()
+    };
+    substitution.iter().enumerate().map(at).collect()
+}
+
+/// 'None' exactly where no substitution solves; every answer solves; every
+/// substitution that solves is an instance.
+#[test]
+fn every_solution_is_an_instance() {
+    let mut random = Random(0x1234_5678_9abc_def1);
+    for (unknowns, givens, list) in [
+        (0, 1, 1),
+        (0, 2, 3),
+        (1, 0, 1),
+        (1, 1, 1),
+        (1, 1, 2),
+        (1, 2, 2),
+        (2, 0, 1),
+        (2, 1, 1),
+        (2, 1, 2),
+        (3, 0, 1),
+        (3, 1, 1),
+    ] {
+        let letters = Letters { unknowns, givens };
+        let all = substitutions(letters, list);
+        for round in 0..12 {
+            let length = letters.table_length();
+            let condition =
+                if round % 3 == 0 { random.table(length) } else { random.solvable(letters) };
+            let solutions: Vec<_> =
+                all.iter().filter(|s| makes_zero(letters, &condition, s)).collect();
+            for method in [boole as Method, lowenheim] {
+                match solved(letters, &condition, method) {
+                    Err(_) => assert!(solutions.is_empty()),
+                    Ok(answers) => {
+                        let instances: Vec<_> =
+                            all.iter().map(|s| put(letters, &answers, s)).collect();
+                        assert!(solutions.iter().all(|s| instances.contains(s)));
+                        assert!(instances.iter().all(|s| makes_zero(letters, &condition, s)));
+                    }
+                }
+            }
+        }
+    }
+}
+
+/// The smallest state in which every choice has the value 1, and only where there is one.
+#[test]
+fn none_names_the_smallest_state() {
+    let mut random = Random(77);
+    for letters in all_letters(6) {
+        for _ in 0..20 {
+            let condition = random.table(letters.table_length());
+            let blocked = |state: &usize| {
+                (0..1 << letters.unknowns)
+                    .all(|choice| value_at(letters, &condition, *state, choice) == 1)
+            };
+            let expected = (0..1 << letters.givens).find(blocked).map(|state| State(state as u64));
+            assert_eq!(solved(letters, &condition, boole).err(), expected);
+        }
+    }
+}
+
+/// An answer put into the condition, or into itself, and Boole's and Löwenheim's
+/// put into each other: each keeps its values.
+#[test]
+fn answers_are_reproductive() {
+    let mut random = Random(4242);
+    for letters in all_letters(6) {
+        let condition = random.solvable(letters);
+        let length = letters.table_length();
+        let (u, g) = (letters.unknowns as u64, letters.givens as u64);
+        let put_into = |table: &[u8], handed: &[u8]| {
+            let mut result = vec![7; length];
+            assert_eq!(substitute(u, g, table, handed, &mut result), Ok(()));
+            result
+        };
+        let first = solved(letters, &condition, boole).expect("a solution");
+        let second = solved(letters, &condition, lowenheim).expect("a solution");
+        for (outer, inner) in
+            [(&first, &first), (&first, &second), (&second, &first), (&second, &second)]
+        {
+            assert_eq!(put_into(&condition, inner), vec![0; length]);
+            let again: Vec<u8> =
+                outer.chunks(length).flat_map(|table| put_into(table, inner)).collect();
+            assert_eq!(&again, inner);
+        }
+    }
+}
+
+/// By monomials and by values.
+fn assert_two_ways_agree(letters: Letters, random: &mut Random) {
+    let length = letters.table_length();
+    let (u, g) = (letters.unknowns as u64, letters.givens as u64);
+    let (a, b, handed) =
+        (random.table(length), random.table(length), random.table(letters.answer_length()));
+    let mut result = vec![7; length];
+    assert_eq!(sum(u, g, &a, &b, &mut result), Ok(()));
+    assert_eq!(result, values::sum(&a, &b));
+    assert_eq!(product(u, g, &a, &b, &mut result), Ok(()));
+    assert_eq!(result, values::product(&a, &b));
+    assert_eq!(substitute(u, g, &a, &handed, &mut result), Ok(()));
+    assert_eq!(result, values::substitute(letters, &a, &handed));
+    let mut answers = vec![7; letters.answer_length()];
+    assert_eq!(lowenheim_handed(u, g, &a, &handed, &mut answers), Ok(()));
+    assert_eq!(answers, values::lowenheim_handed(letters, &a, &handed));
+    for condition in [a, random.solvable(letters)] {
+        assert_eq!(solved(letters, &condition, boole), values::boole(letters, &condition));
+        assert_eq!(
+            solved(letters, &condition, particular),
+            values::particular(letters, &condition)
+        );
+        assert_eq!(solved(letters, &condition, lowenheim), values::lowenheim(letters, &condition));
+    }
+}
+
+#[test]
+fn two_ways_agree() {
+    let mut random = Random(99);
+    for letters in all_letters(6) {
+        (0..10).for_each(|_| assert_two_ways_agree(letters, &mut random));
+    }
+    for (unknowns, givens) in [(0, 8), (1, 8), (2, 8), (3, 6), (4, 4), (5, 5), (6, 4)] {
+        assert_two_ways_agree(Letters { unknowns, givens }, &mut random);
+    }
+}
+
+/// Demand 2: a value of the table is the value of the tree, on all short texts.
+#[test]
+fn a_text_keeps_its_values() {
+    let letters = Letters { unknowns: 2, givens: 1 };
+    let signs = b"uva1+|*!()";
+    let mut accepted = 0;
+    for length in 1..=5 {
+        for number in 0..signs.len().pow(length) {
+            let sign = |place| signs[number / signs.len().pow(place) % signs.len()];
+            let text: Vec<u8> = (0..length).map(sign).collect();
+            let mut table = [7; 8];
+            let read = read_text(2, 1, &text, &mut table);
+            let Ok(tree) = read_tree(letters, &text) else {
+                assert_eq!((read, table), (Err(Refusal(7)), [7; 8]));
+                continue;
+            };
+            accepted += 1;
+            assert_eq!(read, Ok(()));
+            for point in 0..8 {
+                assert_eq!(
+                    value_at(letters, &table, point >> 2, point & 3),
+                    tree.value(point as u16) as u8
+                );
+            }
+        }
+    }
+    assert!(accepted > 1000);
+}
+
+/// An entry reads back and passes the audit with its own length, whatever follows.
+#[test]
+fn entries_read_back() {
+    let mut random = Random(5);
+    for letters in all_letters(7) {
+        let (u, g) = (letters.unknowns as u64, letters.givens as u64);
+        for condition in [random.table(letters.table_length()), random.solvable(letters)] {
+            let route = 1 + random.below(250) as u64;
+            let mut bytes = vec![random.below(256) as u8; 27_660];
+            let length = write_entry(route, u, g, &condition, &mut bytes).expect("an entry");
+            assert!(length <= 27_654);
+            let mut table = vec![7; letters.table_length()];
+            let mut answers = vec![7; letters.answer_length()];
+            let reading = read_entry(&bytes, &mut table, &mut answers).expect("read");
+            assert_eq!(audit(&bytes), Ok(reading));
+            assert_eq!((reading.route as u64, reading.length), (route, length));
+            assert_eq!(table, condition);
+            match solved(letters, &condition, boole) {
+                Ok(expected) => {
+                    assert_eq!((reading.contents, answers), (Contents::Solved, expected))
+                }
+                Err(state) => {
+                    assert_eq!(reading.contents, Contents::None(state));
+                    assert!(answers.iter().all(|&byte| byte == 7));
+                }
+            }
+        }
+    }
+}
+
+/// Of all bytes that differ from an entry in one, the audit passes only what the writer writes.
+#[test]
+fn audit_passes_only_entries() {
+    let mut bytes = [0; 64];
+    let length = write_entry(7, 2, 1, &[0, 1, 1, 0, 1, 0, 0, 1], &mut bytes).expect("an entry");
+    for place in 0..length {
+        for byte in 0..=255 {
+            let mut changed = bytes[..length].to_vec();
+            changed[place] = byte;
+            if let Ok(reading) = audit(&changed) {
+                let mut table = [7; 1024];
+                let mut answers = [7; 6144];
+                assert_eq!(read_entry(&changed, &mut table, &mut answers), Ok(reading));
+                let (u, g) = (reading.unknowns as u64, reading.givens as u64);
+                let mut again = vec![0; reading.length];
+                assert_eq!(
+                    write_entry(reading.route as u64, u, g, &table, &mut again),
+                    Ok(reading.length)
+                );
+                assert_eq!(again, changed[..reading.length]);
+            }
+        }
+    }
+}
