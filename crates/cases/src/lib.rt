@@ -164,6 +164,74 @@ pub fn show_digits(buffer: &[u8]) {
     io::write_all(STDOUT_FILENO, &text[..i]);
 }
 
+fn hex_digit(n: u8) -> u8 {
+    if n < 10 {
+        return 48 + n;
+    }
+    if n < 16 { 87 + n } else { 63 }
+}
+
+// A space, the buffer's bytes as two hexadecimal digits each, `-` for an empty one.
+pub fn show_hex(buffer: &[u8]) {
+    io::write_all(STDOUT_FILENO, b" ");
+    if buffer.len() == 0 {
+        io::write_all(STDOUT_FILENO, b"-");
+        return;
+    }
+    if 32768 < buffer.len() {
+        return;
+    }
+    let mut text = io::large_buffer();
+    let mut i: usize = 0;
+    while i < buffer.len() {
+        text[2 * i] = hex_digit(buffer[i] / 16);
+        text[2 * i + 1] = hex_digit(buffer[i] % 16);
+        i += 1;
+    }
+    let n = 2 * i;
+    io::write_all(STDOUT_FILENO, &text[..n]);
+}
+
+fn from_hex(c: u8) -> u8
+    ensures { λ r. ⌜ r < 16 ⌝ }
+{
+    if c < 48 {
+        return 0;
+    }
+    if c < 58 {
+        return c - 48;
+    }
+    if c < 97 {
+        return 0;
+    }
+    if c < 103 { c - 87 } else { 0 }
+}
+
+// The bytes of the field that starts at `at`, two hexadecimal digits each, at the front of `out`; answers how many there are.
+pub fn hex_bytes(line: &[u8], at: usize, out: &mut [u8]) -> usize
+    requires { ⌜ at ≤ length (now line) ⌝ }
+    ensures { λ r. ⌜ r ≤ length (now (out .exit)) ⌝ }
+{
+    let mut n: usize = 0;
+    let mut i = at;
+    while i < line.len() {
+        let c = line[i];
+        if c < 48 {
+            return n;
+        }
+        if line.len() - i < 2 {
+            return n;
+        }
+        if out.len() <= n {
+            return n;
+        }
+        out[n] = 16 * from_hex(c) + from_hex(line[i + 1]);
+        n += 1;
+        i += 2;
+    }
+    n
+}
+
 // A word, and a number behind it.
 pub fn show_number(word: &[u8], n: usize) {
     io::write_all(STDOUT_FILENO, word);

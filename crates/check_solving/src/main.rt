@@ -1,0 +1,74 @@
+// Solves the conditions of standard input by every call, and prints what comes back.
+// The stored input and output were made by the independent implementation in `reference/`.
+use libc::STDIN_FILENO;
+use libc::STDOUT_FILENO;
+use solver::Solving;
+
+fn show_solving(r: Solving, answers: &[u8]) {
+    match r {
+        Solving::Solved => {
+            io::write_all(STDOUT_FILENO, b"done");
+        }
+        Solving::None(state) => cases::show_number(b"none", state.0),
+        Solving::Refused(q) => cases::show_refused(q),
+    }
+    cases::show_digits(answers);
+    cases::show_line_end();
+}
+
+// One call on buffers of the stated lengths.
+fn call(f: cases::Fields, condition: &[u8], handed: &[u8], answers: &mut [u8]) {
+    let name = f.call;
+    if name == b'b' {
+        let r = solver::boole(f.unknowns, f.givens, condition, answers);
+        show_solving(r, answers);
+        return;
+    }
+    if name == b'p' {
+        let r = solver::particular(f.unknowns, f.givens, condition, answers);
+        show_solving(r, answers);
+        return;
+    }
+    if name == b'l' {
+        let r = solver::lowenheim(f.unknowns, f.givens, condition, answers);
+        show_solving(r, answers);
+        return;
+    }
+    if name == b'h' {
+        let r = solver::lowenheim_handed(f.unknowns, f.givens, condition, handed, answers);
+        cases::show_outcome(r, answers);
+    }
+}
+
+// A line, taken apart.
+fn run(line: &[u8]) {
+    if line.len() == 0 {
+        return;
+    }
+    let f = cases::take_apart(line);
+    let mut a = io::large_buffer();
+    let na = cases::digits(line, f.a, &mut a);
+    let mut b = io::large_buffer();
+    let nb = cases::digits(line, f.b, &mut b);
+    let mut out = io::large_buffer();
+    cases::mark(&mut out);
+    let size = f.size;
+    if size <= 65536 {
+        call(f, &a[..na], &b[..nb], &mut out[..size]);
+    }
+}
+
+fn run_all(input: &[u8]) {
+    let mut at: usize = 0;
+    while at < input.len() {
+        let end = cases::line_end(input, at);
+        run(&input[at..end]);
+        at = end + 1;
+    }
+}
+
+fn main() {
+    let mut input = cases::input();
+    let n = io::read_full(STDIN_FILENO, &mut input);
+    run_all(&input[..n]);
+}

@@ -1,0 +1,25 @@
+-- `layodegi::value_code` meets its contract, case by case.
+-- Assumes nothing.
+use mathlib.Core.Path.{sym, ap, _∙_}
+use Prim.Native.Nat.{_+_, _*_}
+use borrow.Author.Needs.{needs}
+use Rattle.operations.specs.Calls.{valued}
+use Rattle.layodegi.specs.Codes.{code}
+use Rattle.layodegi.proofs.value_code.Statement.{statement}
+use Rattle.layodegi.proofs.value_code.Tie as tie
+
+returns : tie.Need-returns
+returns c = ap (λ x. 256 * x) (c .narrow .ensures .0) ∙ sym (ap (λ x. code (valued x)) (c .before .before .r .given .1))
+
+pub value-code-spec : {M : Type 1} → statement M
+value-code-spec =
+    tie.close
+    (tie.spec
+    (λ c. search needs)
+    (λ c. search needs)
+    (λ c κs. search needs)
+    (λ c. search needs)
+    (λ c. search needs)
+    (λ c. search needs)
+    returns
+    (λ c. search needs))

@@ -1,0 +1,3 @@
+pub mod Calls
+pub mod Methods
+pub mod Rows

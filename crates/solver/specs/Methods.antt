@@ -1,0 +1,34 @@
+-- The three methods that ask question 9, and what solving by one of them says of a condition table.
+-- By Boole's it is the verdict that an archive entry holds, `solve` (document 01, 'The archive entry': 'Answers are Boole's').
+-- Assumes nothing.
+use mathlib.Core.Bool.{cond}
+use mathlib.Core.List.{List}
+use Prim.Native.Nat.{ℕ, _+_}
+use Rattle.ring.specs.Table.{present}
+use Rattle.solution.specs.Elimination.{defaultOrder, smallestBlocked, solvable, solved, none, Verdict as Said}
+use Rattle.solver.specs.Calls.{booleTable, particularTable, lowenheimTable}
+use Rattle.solver.specs.declared.Method.{Method}
+use Rattle.solver.specs.declared.Method.the-variants.{Boole, Particular, Lowenheim}
+use Rattle.solver.specs.declared.Verdict.{Verdict}
+use Rattle.solver.specs.declared.Verdict.the-variants.{Solved, None}
+
+-- the answer table of each method
+abbrev pub tableBy : Method → ℕ → ℕ → List ℕ → List ℕ
+tableBy Boole = booleTable
+tableBy Particular = particularTable
+tableBy Lowenheim = lowenheimTable
+
+-- the verdict on a condition table, with the answers of a method
+unfoldable pub solveBy : Method → ℕ → ℕ → List ℕ → Said (List ℕ)
+solveBy method U G t =
+    cond (solvable (U + G) (present t) (defaultOrder U)) (solved (tableBy method U G t)) (none (smallestBlocked U G (present t)))
+
+-- what each case of the code's `Verdict` says, once the answers stand in `answers`
+abbrev pub verdict : Verdict → List ℕ → Said (List ℕ)
+verdict Solved answers = solved answers
+verdict (None state) answers = none state
+
+-- the answer buffer after a verdict: the answers, or every byte as it was if there are none
+abbrev pub answersAfter : Said (List ℕ) → List ℕ → List ℕ
+answersAfter (solved answers) lent = answers
+answersAfter (none state) lent = lent
