@@ -1,0 +1,95 @@
+-- THE THEOREM: demand 3 holds of the bytes that are archived for every accepted text, every U and G, every route and every list of letters.
+-- The bytes are `entry route U G t`, which `write_entry` writes and `read_entry` and `audit` read; t is the table that `read_text` reads the text into.
+-- What the entry's records say is right (`entry-right`), and a written entry reads back (`reads-back`); both are put into the demand's own words here.
+-- Assumes nothing.
+use mathlib.Core.Path.{_≡_, refl, sym, ap, _∙_}
+use mathlib.Core.Bool.{Bool, true, false, _||_, cond}
+use mathlib.Core.Logic.{_↔_}
+use mathlib.Core.List.{List, [], _∷_, _++_}
+use Prim.Native.Nat.{ℕ, _+_}
+use native.Mathlib.Omega.{arith}
+use Rattle.ring.specs.declared.State.{State}
+use Rattle.ring.specs.Table.{IsTable, present, table}
+use Rattle.ring.proofs.Table.{is-table}
+use Rattle.solution.specs.Letters.{Letter, HoldsGivens}
+use Rattle.solution.specs.Substitution.{Substitution, ownLetters, MakesZero}
+use Rattle.solution.specs.Elimination.{solved, none, defaultOrder, solve}
+use Rattle.solution.specs.General.{RightVerdict}
+use Rattle.solution.proofs.Letters.{own-holds}
+use Rattle.grammar.specs.Text.{textTable}
+use Rattle.notation.specs.Text.{Accepted}
+use Rattle.entry.specs.declared.Record.{Record}
+use Rattle.entry.specs.Record.{isNone, stateIn}
+use Rattle.entry.specs.Held.{records, answersIn, unlessNone, says, heldCondition, heldVerdict}
+use Rattle.entry.specs.Questions.{routeFits}
+use Rattle.entry.specs.Entry.{entry}
+use Rattle.entry.proofs.Theorems.{ReadsBack, reads-back, entry-right}
+use Rattle.demands.specs.Demand3.{hasNone, Demand3}
+
+-- records with kind 5 say 'none' and its state, those without it hold answers
+says-none : {A : Type 0} (a : A) (rs : List Record) → hasNone rs ≡ true → (state : State) × (unlessNone a rs ≡ none state)
+unfolding hasNone unlessNone
+says-none a [] h = let z : _≡_ {A = ℕ} 0 1 = cc in absurd (omega arith)
+says-none a (r ∷ rs) h = go (isNone r) (says-none a rs) h
+  where
+    go : (b : Bool) → (hasNone rs ≡ true → (state : State) × (unlessNone a rs ≡ none state)) → (b || hasNone rs) ≡ true
+        → (state : State) × (cond b (none (record { 0 = stateIn r })) (unlessNone a rs) ≡ none state)
+    go true ih e = (record { 0 = stateIn r }, refl)
+    go false ih e = ih e
+
+says-solved : {A : Type 0} (a : A) (rs : List Record) → hasNone rs ≡ false → unlessNone a rs ≡ solved a
+unfolding hasNone unlessNone
+says-solved a [] h = refl
+says-solved a (r ∷ rs) h = go (isNone r) (says-solved a rs) h
+  where
+    go : (b : Bool) → (hasNone rs ≡ false → unlessNone a rs ≡ solved a) → (b || hasNone rs) ≡ false
+        → cond b (none (record { 0 = stateIn r })) (unlessNone a rs) ≡ solved a
+    go true ih e = let z : _≡_ {A = ℕ} 0 1 = cc in absurd (omega arith)
+    go false ih e = ih e
+
+-- the demand, of records whose verdict is right
+module _ (U G : ℕ) (t e : List ℕ) (r : RightVerdict U G (defaultOrder U) (present t) (says (records e))) where
+  one-list : (L : List Letter) → HoldsGivens G L → (hasNone (records e) ≡ true) ↔ ((σ : Substitution) → ¬ MakesZero U G (present t) L σ)
+  unfolding says
+  one-list L g = (
+    λ h. r .exactly L g .0 (says-none (answersIn (records e)) (records e) h),
+    λ none-makes. go (hasNone (records e)) refl (r .exactly L g .1 none-makes),
+  )
+    where
+      go : (b : Bool) → hasNone (records e) ≡ b → (state : State) × (unlessNone (answersIn (records e)) (records e) ≡ none state) → b ≡ true
+      go true h s = refl
+      go false h s =
+          let q : solved (answersIn (records e)) ≡ none (s .0) = sym (says-solved (answersIn (records e)) (records e) h) ∙ s .1 in
+          let z : _≡_ {A = ℕ} 0 1 = cc in
+          absurd (omega arith)
+
+  without-none : hasNone (records e) ≡ false → says (records e) ≡ solved (answersIn (records e))
+  unfolding says
+  without-none h = says-solved (answersIn (records e)) (records e) h
+
+  right-demand : heldCondition (records e) ≡ t → heldVerdict (records e) ≡ solve U G (defaultOrder U) t → Demand3 U G t e
+  right-demand condition verdict =
+      record {
+        none-exactly = (λ h L g. one-list L g .0 h, λ all. one-list (ownLetters U G) (own-holds U G) .1 (all (ownLetters U G) (own-holds U G)));
+        none-on-list = one-list;
+        smallest-state = r .state;
+        holds-booles = λ h. r .booles _ (without-none h);
+        makes-zero = λ h. r .general _ (without-none h) .makes-zero;
+        every-instance = λ h. r .general _ (without-none h) .every-instance;
+        each-other = λ h. r .lowenheims _ (without-none h);
+        condition-read = condition;
+        verdict-read = verdict;
+      }
+
+-- the table that a text is read into is one
+pub text-is-table : (U G : ℕ) (text : List ℕ) → IsTable (U + G) (textTable U G text)
+unfolding textTable table
+text-is-table U G text = is-table (U + G) _
+
+-- demand 3, whole, whatever stands behind the entry
+pub demand-3 : (U G route : ℕ) (text behind : List ℕ) → Accepted U G text → routeFits route ≡ true
+    → Demand3 U G (textTable U G text) (entry route U G (textTable U G text) ++ behind)
+demand-3 U G route text behind accepted fits =
+    let t : List ℕ = textTable U G text in
+    let back : ReadsBack route U G t (records (entry route U G t ++ behind)) = reads-back route U G t behind (accepted .letters) fits (text-is-table U G text) in
+    right-demand U G t (entry route U G t ++ behind) (entry-right route U G t behind) (back .condition) (back .verdict)

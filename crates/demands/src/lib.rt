@@ -1,0 +1,2 @@
+// The demands on what is archived, from the text to the bytes: definitions in `specs/`, theorems in `proofs/`. No code.
+// `specs/Demand3.antt` says what is promised of the bytes of an entry; `proofs/Demand3.antt` proves it for every accepted text.

@@ -1,0 +1,74 @@
+-- How long an entry is: 4 bytes of kind 1; 3 for each monomial of the condition, at most 2 ^ n; 4 for each monomial of each answer, at
+-- most U * 2 ^ n, or 2 of kind 5; 2 of kind 4. With U at most 6 and n at most 10 that is 4 + 3 * 1,024 + 4 * 6,144 + 2 = 27,654.
+-- Assumes nothing.
+use mathlib.Core.Path.{_≡_, refl, ap, _∙_}
+use mathlib.Core.List.{List, [], _∷_, _++_, map}
+use Prim.Native.Nat.{ℕ, zero, suc, _+_, _*_, _^_, _≤_}
+use native.Mathlib.Nat.{suc-mul, mul-le-mul}
+use native.Mathlib.Omega.{arith}
+use lib.Pow.{pow-mono}
+use lib.ListN.{length, length-append}
+use Rattle.ring.specs.Polynomial.{Polynomial}
+use Rattle.ring.specs.Table.{present, held}
+use Rattle.order.specs.Order.{monomials, order}
+use Rattle.order.proofs.Lists.{length-keep}
+use Rattle.order.proofs.Order.{length-order}
+use Rattle.solution.specs.Elimination.{Verdict, solved, none}
+use Rattle.entry.specs.declared.Record.{Record}
+use Rattle.entry.specs.declared.Record.the-variants.{Condition, Answer, End}
+use Rattle.entry.specs.Record.{bytes}
+use Rattle.entry.specs.Entry.{conditionRecords, answerRecords, verdictRecords, entryRecords}
+use Rattle.entry.proofs.Back.{bytes-append}
+
+length-monomials : (n : ℕ) (f : Polynomial) → length (monomials n f) ≤ 2 ^ n
+unfolding monomials
+length-monomials n f = omega (arith, length-keep f (order n), length-order n)
+
+length-bytes : (rs ss : List Record) → length (bytes (rs ++ ss)) ≡ length (bytes rs) + length (bytes ss)
+length-bytes rs ss = ap length (bytes-append rs ss) ∙ length-append (bytes rs) (bytes ss)
+
+condition-bytes : (ms : List ℕ) → length (bytes (map Condition ms)) ≡ 3 * length ms
+unfolding bytes
+condition-bytes [] = refl
+condition-bytes (m ∷ ms) = omega (arith, condition-bytes ms)
+
+answer-bytes : (j : ℕ) (ms : List ℕ) → length (bytes (map (Answer j) ms)) ≡ 4 * length ms
+unfolding bytes
+answer-bytes j [] = refl
+answer-bytes j (m ∷ ms) = omega (arith, answer-bytes j ms)
+
+-- the condition's records
+pub condition-most : (n : ℕ) (t : List ℕ) → length (bytes (conditionRecords n t)) ≤ 3 * 2 ^ n
+unfolding conditionRecords
+condition-most n t = omega (arith, condition-bytes (monomials n (present t)), length-monomials n (present t))
+
+-- the answers' records
+pub answers-most : (j n : ℕ) (a : List ℕ) → length (bytes (answerRecords j n a)) ≤ j * (4 * 2 ^ n)
+unfolding answerRecords bytes
+answers-most zero n a = omega arith
+answers-most (suc j) n a =
+    let e : length (bytes (answerRecords (suc j) n a)) ≡ length (bytes (answerRecords j n a)) + 4 * length (monomials n (held n a j)) =
+        length-bytes (answerRecords j n a) (map (Answer j) (monomials n (held n a j))) ∙ ap (λ (k : ℕ). length (bytes (answerRecords j n a)) + k) (answer-bytes j (monomials n (held n a j))) in
+    let ih : length (bytes (answerRecords j n a)) ≤ j * (4 * 2 ^ n) = answers-most j n a in
+    omega (arith, length-monomials n (held n a j), suc-mul j (4 * 2 ^ n))
+
+module _ (U n : ℕ) (hu : U ≤ 6) (hn : n ≤ 10) where
+  size-most : 2 ^ n ≤ 1024
+  size-most = pow-mono hn
+
+  -- the verdict's records
+  pub verdict-most : (v : Verdict (List ℕ)) → length (bytes (verdictRecords U n v)) ≤ 24576
+  unfolding verdictRecords bytes
+  verdict-most (solved a) =
+      let q : 4 * 2 ^ n ≤ 4096 = omega (arith, size-most) in
+      let p : U * (4 * 2 ^ n) ≤ 6 * 4096 = mul-le-mul hu q in
+      omega (arith, answers-most U n a)
+  verdict-most (none state) = omega arith
+
+pub entry-most : (route U G : ℕ) (t : List ℕ) (v : Verdict (List ℕ)) → U ≤ 6 → U + G ≤ 10 → length (bytes (entryRecords route U G t v)) ≤ 27654
+unfolding entryRecords bytes
+entry-most route U G t v hu hn =
+    let c : length (bytes (conditionRecords (U + G) t ++ (verdictRecords U (U + G) v ++ (End route ∷ [])))) ≡ length (bytes (conditionRecords (U + G) t)) + length (bytes (verdictRecords U (U + G) v ++ (End route ∷ []))) =
+        length-bytes (conditionRecords (U + G) t) (verdictRecords U (U + G) v ++ (End route ∷ [])) in
+    let d : length (bytes (verdictRecords U (U + G) v ++ (End route ∷ []))) ≡ length (bytes (verdictRecords U (U + G) v)) + 2 = length-bytes (verdictRecords U (U + G) v) (End route ∷ []) in
+    omega (arith, condition-most (U + G) t, size-most U (U + G) hu hn, verdict-most U (U + G) hu hn v)

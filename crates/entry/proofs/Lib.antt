@@ -1,0 +1,12 @@
+pub mod Records
+pub mod Back
+pub mod Places
+pub mod Verdicts
+pub mod Passed
+pub mod Held
+pub mod Unique
+pub mod Canonical
+pub mod Bytes
+pub mod Bound
+pub mod Passes
+pub mod Theorems

@@ -1,0 +1,5 @@
+pub mod Record
+pub mod Entry
+pub mod Held
+pub mod Questions
+pub mod Places

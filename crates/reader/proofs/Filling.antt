@@ -1,0 +1,231 @@
+-- Filling a table from the records: each monomial sets its own byte, so that what stands there in the end is whether the records have it.
+-- Assumes nothing.
+use mathlib.Core.Path.{_≡_, refl, sym, ap, ap₂, _∙_}
+use mathlib.Core.Bool.{Bool, true, false, cond, _&&_, _||_}
+use mathlib.Core.List.{List, [], _∷_}
+use mathlib.Core.Logic.{_⊎_, inl, inr}
+use Prim.Native.Nat.{ℕ, suc, _+_, _-_, _*_, _/_, _%_, _^_, _≤_, _<_}
+use native.Mathlib.Nat.{zero-add, mul-le-mul-right, div-add-mod', div-eq-of-lt, mod-eq-of-lt}
+use native.Mathlib.Omega.{arith}
+use lib.Dec.{leb, eqb}
+use lib.Arith.{digits-div, digits-mod}
+use lib.Pow.{pow-mono}
+use lib.ListN.{length, getD, drop, set, length-set}
+use lib.Seq.{ext-getD, getD-set-same, getD-set-other}
+use borrow.Author.Tests.{le-leb, lt-leb, leb-true, leb-false, eq-eqb, ne-eqb, eqb-true, eqb-false}
+use Rattle.ring.specs.Letters.{digit}
+use Rattle.ring.specs.Table.{tabulate, table, answerTable}
+use Rattle.ring.proofs.Bool.{bool-iff}
+use Rattle.ring.proofs.Table.{length-tabulate, getD-tabulate, tabulate-cong}
+use Rattle.order.proofs.Lists.{and-left, and-right, both, bool-cases}
+use Rattle.entry.specs.declared.Record.{Record}
+use Rattle.entry.specs.Record.{size, kind, isEnd, isMonomial, maskIn, tableIn}
+use Rattle.entry.specs.Held.{next, records, hasMonomial, conditionIn, answersIn}
+use Rattle.entry.specs.Questions.{inBounds}
+use Rattle.entry.specs.Places.{placeOf, fitsBehind}
+use Rattle.entry.proofs.Records.{records-none, here-none, here}
+use Rattle.entry.proofs.Places.{mask-in-bounds, table-in-bounds}
+use Rattle.entry.proofs.Unique.{fits-bounds, fits-rest}
+use Rattle.reader.specs.Steps.{zeros, putMonomial, filled, Fitting}
+
+-- ---- one record
+module _ (base k : ℕ) (r : Record) (t : List ℕ) where
+  pub put-other : {b : Bool} → b ≡ isMonomial r → b ≡ false → t ≡ putMonomial base k r t
+  unfolding putMonomial
+  put-other e f = let h : isMonomial r ≡ false = sym e ∙ f in rw h
+
+  pub put-before : {i : ℕ} → i ≡ tableIn r → i < base → t ≡ putMonomial base k r t
+  unfolding putMonomial
+  put-before {i} e l = let h : leb base (tableIn r) ≡ false = rw (← e) (lt-leb base i l) in rw h (sym (ap (λ (b : Bool). cond b (set t ((tableIn r - base) * k + maskIn r) 1) t) (never-both (isMonomial r))))
+    where
+      never-both : (b : Bool) → (b && false) ≡ false
+      never-both true = refl
+      never-both false = refl
+
+  pub put-here : {b : Bool} {i m w : ℕ} {t′ : List ℕ} → b ≡ isMonomial r → b ≡ true → i ≡ tableIn r → base ≤ i → m ≡ maskIn r → w ≡ k → t′ ≡ set t ((i - base) * w + m) 1 → t′ ≡ putMonomial base k r t
+  unfolding putMonomial
+  put-here e f ei l em ew et =
+      let h : isMonomial r ≡ true = sym e ∙ f in
+      et ∙ rw (h, ← ei, le-leb _ _ l, ← em, ew)
+
+  pub length-put : length (putMonomial base k r t) ≡ length t
+  unfolding putMonomial
+  length-put = go (isMonomial r && leb base (tableIn r))
+    where
+      go : (b : Bool) → length (cond b (set t ((tableIn r - base) * k + maskIn r) 1) t) ≡ length t
+      go true = length-set t ((tableIn r - base) * k + maskIn r) 1
+      go false = refl
+
+-- the byte's index is small
+pub put-small : (base u g : ℕ) (r : Record) {i k : ℕ} → u ≤ 6 → u + g ≤ 10 → inBounds u g r ≡ true → i ≡ tableIn r → k ≡ 2 ^ (u + g) → (i - base) * k ≤ 6144
+put-small base u g r {i} {k} hu h b ei ek =
+    let p : 2 ^ (u + g) ≤ 1024 = pow-mono h in
+    let l : i ≤ u = rw ei (table-in-bounds u g r b) in
+    let q : (i - base) * k ≤ 6 * k = mul-le-mul-right k (omega arith) in
+    omega arith
+
+pub mask-small : (u g : ℕ) (r : Record) {b : Bool} {m : ℕ} → u + g ≤ 10 → inBounds u g r ≡ true → b ≡ isMonomial r → b ≡ true → m ≡ maskIn r → m < 1024
+mask-small u g r {b} {m} h e eb f em =
+    let p : 2 ^ (u + g) ≤ 1024 = pow-mono h in
+    let l : maskIn r < 2 ^ (u + g) = mask-in-bounds u g r e (sym eb ∙ f) in
+    omega arith
+
+-- ---- what the loop of `fill` keeps
+pub record Filling (bs : List ℕ) (base u g : ℕ) (t₀ t : List ℕ) (at : ℕ) : Type 0 where
+  pub inside : at ≤ length bs
+  pub long : length t ≡ length t₀
+  pub same : filled base (2 ^ (u + g)) (records bs) t₀ ≡ filled base (2 ^ (u + g)) (records (drop at bs)) t
+  pub fitting : Fitting u g (records (drop at bs))
+
+pub fill-start : (bs : List ℕ) (base u g : ℕ) (t : List ℕ) → Fitting u g (records bs) → Filling bs base u g t t 0
+fill-start bs base u g t f = record { inside = omega arith; long = refl; same = refl; fitting = f }
+
+module _ (bs : List ℕ) (base u g : ℕ) (t₀ t : List ℕ) (at : ℕ) (w : Filling bs base u g t₀ t at) where
+  pub fill-none : length bs ≤ at → t ≡ filled base (2 ^ (u + g)) (records bs) t₀
+  unfolding filled
+  fill-none h = sym (w .same ∙ rw (records-none bs at h))
+
+  module _ {r : Record} (er : r ≡ next (drop at bs)) {n : ℕ} (en : n ≡ size r) where
+    pub fill-broken : n ≡ 0 → t ≡ filled base (2 ^ (u + g)) (records bs) t₀
+    unfolding filled
+    fill-broken e = sym (w .same ∙ rw (here-none bs at er en e))
+
+    module _ (s : n ≡ 0 → ⊥) where
+      fits-here : fitsBehind u g (w .fitting .from) (r ∷ cond (isEnd r) [] (records (drop (at + n) bs))) ≡ true
+      fits-here = rw (here bs at er en s) at (w .fitting .fits)
+
+      pub fill-bounds : inBounds u g r ≡ true
+      fill-bounds = fits-bounds u g (w .fitting .from) r _ fits-here
+
+      module _ {t′ : List ℕ} (et : t′ ≡ putMonomial base (2 ^ (u + g)) r t) {k : ℕ} (ek : k ≡ kind r) where
+        pub fill-end : k ≡ 4 → t′ ≡ filled base (2 ^ (u + g)) (records bs) t₀
+        unfolding filled
+        fill-end e = sym (w .same ∙ rw (here bs at er en s, ← ek, eq-eqb k 4 e) (sym et))
+
+        pub fill-next : at + n ≤ length bs → (k ≡ 4 → ⊥) → Filling bs base u g t₀ t′ (at + n)
+        unfolding filled
+        fill-next l e =
+            let not-end : isEnd r ≡ false = rw (← ek) (ne-eqb k 4 e) in
+            record {
+              inside = l;
+              long = ap length et ∙ length-put base (2 ^ (u + g)) r t ∙ w .long;
+              same = w .same ∙ rw (here bs at er en s, not-end) (ap (filled base (2 ^ (u + g)) (records (drop (at + n) bs))) (sym et));
+              fitting = record {
+                unknowns = w .fitting .unknowns;
+                letters = w .fitting .letters;
+                from = placeOf r;
+                fits = (rw not-end at (fits-rest u g (w .fitting .from) r _ fits-here));
+              };
+            }
+
+-- ---- what stands at x when all is filled
+hits : ℕ → ℕ → ℕ → List Record → Bool
+hits base k x [] = false
+hits base k x (r ∷ rs) = (isMonomial r && (leb base (tableIn r) && eqb x ((tableIn r - base) * k + maskIn r))) || hits base k x rs
+
+length-filled : (base k : ℕ) (rs : List Record) (t : List ℕ) → length (filled base k rs t) ≡ length t
+unfolding filled
+length-filled base k [] t = refl
+length-filled base k (r ∷ rs) t = length-filled base k rs (putMonomial base k r t) ∙ length-put base k r t
+
+put-at : (base k x : ℕ) (r : Record) (t : List ℕ) → x < length t → getD (putMonomial base k r t) x 0 ≡ cond (isMonomial r && (leb base (tableIn r) && eqb x ((tableIn r - base) * k + maskIn r))) 1 (getD t x 0)
+unfolding putMonomial
+put-at base k x r t h = go (isMonomial r) (leb base (tableIn r)) (bool-cases (eqb x ((tableIn r - base) * k + maskIn r)))
+  where
+    go : (a b : Bool) → (eqb x ((tableIn r - base) * k + maskIn r) ≡ true) ⊎ (eqb x ((tableIn r - base) * k + maskIn r) ≡ false)
+        → getD (cond (a && b) (set t ((tableIn r - base) * k + maskIn r) 1) t) x 0 ≡ cond (a && (b && eqb x ((tableIn r - base) * k + maskIn r))) 1 (getD t x 0)
+    go false b q = refl
+    go true false q = refl
+    go true true (inl e) = let p : x ≡ (tableIn r - base) * k + maskIn r = eqb-true _ _ e in rw (e, ← p) (getD-set-same t x 1 0 h)
+    go true true (inr e) = rw e (getD-set-other t ((tableIn r - base) * k + maskIn r) x 1 0 (eqb-false _ _ e))
+
+filled-at : (base k x : ℕ) (rs : List Record) (t : List ℕ) → x < length t → getD (filled base k rs t) x 0 ≡ cond (hits base k x rs) 1 (getD t x 0)
+unfolding filled hits
+filled-at base k x [] t h = refl
+filled-at base k x (r ∷ rs) t h =
+    filled-at base k x rs (putMonomial base k r t) (rw (length-put base k r t) h)
+    ∙ ap (cond (hits base k x rs) 1) (put-at base k x r t h)
+    ∙ either (isMonomial r && (leb base (tableIn r) && eqb x ((tableIn r - base) * k + maskIn r))) (hits base k x rs)
+  where
+    either : (a b : Bool) → cond b 1 (cond a 1 (getD t x 0)) ≡ cond (a || b) 1 (getD t x 0)
+    either true true = refl
+    either true false = refl
+    either false b = refl
+
+-- the byte x is that of the monomial x % k of the table base + x / k
+split-eq : (x j m k : ℕ) → m < k → eqb x (j * k + m) ≡ (eqb (x / k) j && eqb (x % k) m)
+split-eq x j m k h =
+    bool-iff (eqb x (j * k + m)) (eqb (x / k) j && eqb (x % k) m)
+    (λ e. let p : x ≡ j * k + m = eqb-true _ _ e in rw p (both (eq-eqb _ _ (digits-div j h)) (eq-eqb _ _ (digits-mod j h))))
+    (λ e.
+        let a : x / k ≡ j = eqb-true _ _ (and-left (eqb (x / k) j) _ e) in
+        let b : x % k ≡ m = eqb-true _ _ (and-right (eqb (x / k) j) (eqb (x % k) m) e) in
+        eq-eqb x (j * k + m) (sym (div-add-mod' x k) ∙ rw (a, b)))
+
+one-hit : (base k x i m : ℕ) → m < k → (leb base i && eqb x ((i - base) * k + m)) ≡ (eqb (base + x / k) i && eqb (x % k) m)
+one-hit base k x i m h =
+    rw (split-eq x (i - base) m k h) (go (bool-cases (leb base i)))
+  where
+    up : base ≤ i → x / k ≡ i - base → base + x / k ≡ i
+    up l e = omega arith
+
+    down : base + x / k ≡ i → x / k ≡ i - base
+    down e = omega arith
+
+    low : i < base → base + x / k ≡ i → ⊥
+    low l e = omega arith
+
+    go : (leb base i ≡ true) ⊎ (leb base i ≡ false) → (leb base i && (eqb (x / k) (i - base) && eqb (x % k) m)) ≡ (eqb (base + x / k) i && eqb (x % k) m)
+    go (inl e) =
+        rw e (ap (λ (b : Bool). b && eqb (x % k) m)
+        (bool-iff (eqb (x / k) (i - base)) (eqb (base + x / k) i) (λ s. eq-eqb _ _ (up (leb-true _ _ e) (eqb-true _ _ s))) (λ s. eq-eqb _ _ (down (eqb-true _ _ s)))))
+    go (inr e) = rw (e, ne-eqb (base + x / k) i (low (leb-false _ _ e)))
+
+hits-has : (base U G q x : ℕ) (rs : List Record) → fitsBehind U G q rs ≡ true → hits base (2 ^ (U + G)) x rs ≡ hasMonomial (base + x / 2 ^ (U + G)) (x % 2 ^ (U + G)) rs
+unfolding hits hasMonomial
+hits-has base U G q x [] f = refl
+hits-has base U G q x (r ∷ rs) f = rw (hits-has base U G (placeOf r) x rs (fits-rest U G q r rs f)) (go (bool-cases (isMonomial r)))
+  where
+    rest : Bool
+    rest = hasMonomial (base + x / 2 ^ (U + G)) (x % 2 ^ (U + G)) rs
+
+    go : (isMonomial r ≡ true) ⊎ (isMonomial r ≡ false) → ((isMonomial r && (leb base (tableIn r) && eqb x ((tableIn r - base) * 2 ^ (U + G) + maskIn r))) || rest) ≡ ((isMonomial r && (eqb (base + x / 2 ^ (U + G)) (tableIn r) && eqb (x % 2 ^ (U + G)) (maskIn r))) || rest)
+    go (inl e) = rw (e, one-hit base (2 ^ (U + G)) x (tableIn r) (maskIn r) (mask-in-bounds U G r (fits-bounds U G q r rs f) e))
+    go (inr e) = rw e
+
+digit-cond : (b : Bool) → cond b 1 0 ≡ digit b
+digit-cond true = refl
+digit-cond false = refl
+
+filled-table : (base U G q l : ℕ) (rs : List Record) → fitsBehind U G q rs ≡ true
+    → filled base (2 ^ (U + G)) rs (zeros l) ≡ tabulate l (λ x. hasMonomial (base + x / 2 ^ (U + G)) (x % 2 ^ (U + G)) rs)
+filled-table base U G q l rs f =
+    ext-getD 0 (filled base (2 ^ (U + G)) rs (zeros l)) _ (long ∙ sym (length-tabulate l _))
+    (λ x h. at x (rw long at h))
+  where
+    long : length (filled base (2 ^ (U + G)) rs (zeros l)) ≡ l
+    long = length-filled base (2 ^ (U + G)) rs (zeros l) ∙ length-tabulate l (λ i. false)
+
+    at : (x : ℕ) → x < l → getD (filled base (2 ^ (U + G)) rs (zeros l)) x 0 ≡ getD (tabulate l (λ x. hasMonomial (base + x / 2 ^ (U + G)) (x % 2 ^ (U + G)) rs)) x 0
+    at x h =
+        filled-at base (2 ^ (U + G)) x rs (zeros l) (rw (length-tabulate l (λ i. false)) h)
+        ∙ rw (getD-tabulate l (λ i. false) x h, hits-has base U G q x rs f) (digit-cond (hasMonomial (base + x / 2 ^ (U + G)) (x % 2 ^ (U + G)) rs))
+        ∙ sym (getD-tabulate l (λ x. hasMonomial (base + x / 2 ^ (U + G)) (x % 2 ^ (U + G)) rs) x h)
+
+-- the tables that are asked for, filled from cleared bytes
+module _ (U G : ℕ) (rs : List Record) (f : Fitting U G rs) (t : List ℕ) {t₁ t₂ : List ℕ} (e₁ : t₁ ≡ zeros (length t)) where
+  pub filled-condition : t₂ ≡ filled 0 (2 ^ (U + G)) rs t₁ → length t ≡ 2 ^ (U + G) → t₂ ≡ table (U + G) (conditionIn rs)
+  unfolding table conditionIn
+  filled-condition e₂ l =
+      e₂ ∙ rw (e₁, l) (filled-table 0 U G (f .from) (2 ^ (U + G)) rs (f .fits))
+      ∙ tabulate-cong (2 ^ (U + G)) _ _
+      (λ x h. ap₂ (λ (i m : ℕ). hasMonomial i m rs) (zero-add (x / 2 ^ (U + G)) ∙ div-eq-of-lt h) (mod-eq-of-lt h))
+
+  pub filled-answers : t₂ ≡ filled 1 (2 ^ (U + G)) rs t₁ → length t ≡ U * 2 ^ (U + G) → t₂ ≡ answerTable U (U + G) (answersIn rs)
+  unfolding answerTable answersIn
+  filled-answers e₂ l =
+      e₂ ∙ rw (e₁, l) (filled-table 1 U G (f .from) (U * 2 ^ (U + G)) rs (f .fits))
+      ∙ tabulate-cong (U * 2 ^ (U + G)) _ _ (λ x h. ap (λ (i : ℕ). hasMonomial i (x % 2 ^ (U + G)) rs) (next-one (x / 2 ^ (U + G))))
+    where
+      next-one : (y : ℕ) → 1 + y ≡ suc y
+      next-one y = omega arith

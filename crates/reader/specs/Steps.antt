@@ -1,0 +1,59 @@
+-- Inner work: what the reader's inner functions answer and ask.
+-- Assumes nothing.
+use mathlib.Core.Path.{_≡_}
+use mathlib.Core.Bool.{true, false, _&&_, cond}
+use mathlib.Core.List.{List, [], _∷_}
+use Prim.Native.Nat.{ℕ, _+_, _-_, _*_, _≤_}
+use lib.Dec.{leb}
+use lib.ListN.{length, set}
+use Rattle.ring.specs.Table.{tabulate}
+use Rattle.tables.specs.Reply.{reply, after}
+use Rattle.solution.specs.Elimination.{Verdict, solved, none}
+use Rattle.entry.specs.declared.Record.{Record}
+use Rattle.entry.specs.Record.{bytes, isMonomial, maskIn, tableIn}
+use Rattle.entry.specs.Held.{records, routeOf, unknownsOf, givensOf, heldCondition}
+use Rattle.entry.specs.Questions.{hasEnd}
+use Rattle.entry.specs.Places.{fitsBehind}
+use Rattle.reader.specs.declared.Heading.{Heading}
+use Rattle.reader.specs.declared.Read.{Read}
+use Rattle.reader.specs.declared.Said.{Said}
+use Rattle.reader.specs.declared.Said.the-variants.{Solved, None}
+use Rattle.reader.specs.Reading.{reading, readRefusal, readValues, heldAnswers}
+
+-- the length to the end of the first kind 4, 0 if there is none
+unfoldable pub lengthUsed : List Record → ℕ
+lengthUsed rs = cond (hasEnd rs) (length (bytes rs)) 0
+
+-- what the start says, and the length used
+unfoldable pub headingOf : List Record → Heading
+headingOf rs = record { route = routeOf rs; unknowns = unknownsOf rs; givens = givensOf rs; used = lengthUsed rs }
+
+-- whether a verdict is 'none', and in which state
+abbrev pub said : {A : Type 0} → Verdict A → Said
+said (solved a) = Solved
+said (none state) = None state
+
+-- k bytes 0
+abbrev pub zeros : ℕ → List ℕ
+zeros k = tabulate k (λ i. false)
+
+-- tables of k bytes each, from number `base` on: the monomial of a record becomes 1
+unfoldable pub putMonomial : ℕ → ℕ → Record → List ℕ → List ℕ
+putMonomial base k r t = cond (isMonomial r && leb base (tableIn r)) (set t ((tableIn r - base) * k + maskIn r) 1) t
+
+unfoldable pub filled : ℕ → ℕ → List Record → List ℕ → List ℕ
+filled base k [] t = t
+filled base k (r ∷ rs) t = filled base k rs (putMonomial base k r t)
+
+-- records that pass question 12 for U and G that pass question 1, behind one with the place `from`
+pub record Fitting (U G : ℕ) (rs : List Record) : Type 0 where
+  pub unknowns : U ≤ 6
+  pub letters : U + G ≤ 10
+  pub from : ℕ
+  pub fits : fitsBehind U G from rs ≡ true
+
+-- what `read_entry` answers, and what becomes of its two buffers
+pub record Reads (bs c a : List ℕ) (r : Read) (c′ a′ : List ℕ) : Type 0 where
+  pub answer : reading r ≡ reply (readRefusal bs (length c) (length a)) (readValues (records bs))
+  pub condition : c′ ≡ after (readRefusal bs (length c) (length a)) (heldCondition (records bs)) c
+  pub answers : a′ ≡ after (readRefusal bs (length c) (length a)) (heldAnswers (records bs)) a
