@@ -2,3 +2,4 @@ pub mod OneRecord
 pub mod Loops
 pub mod Filling
 pub mod Buffers
+pub mod Theorems

@@ -1,3 +1,4 @@
 pub mod Puts
 pub mod Parts
 pub mod Asked
+pub mod Theorems

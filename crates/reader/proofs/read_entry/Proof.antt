@@ -1,5 +1,6 @@
 -- The call asks the questions on the bytes, and then reads into the buffers. Assumes nothing.
-use mathlib.Core.Path.{sym, _∙_}
+use mathlib.Core.Path.{_≡_, sym, _∙_}
+use native.Mathlib.Omega.{arith}
 use borrow.Author.Needs.{needs}
 use Rattle.reader.proofs.Buffers.{read-refused}
 use Rattle.reader.proofs.read_entry.Statement.{statement}
@@ -7,7 +8,8 @@ use Rattle.reader.proofs.read_entry.Tie as tie
 
 returns : tie.Need-returns
 returns c =
-    let r = read-refused _ _ _ (c .before .entry-refusal .ensures) (c .if1 .taken) in
+    let some : (c .before .entry-refusal .result ≡ 0 → ⊥) = λ z. omega (arith, c .if1 .taken) in
+    let r = read-refused _ _ _ (c .before .entry-refusal .ensures) some in
     (r .answer, (r .condition, r .answers))
 
 returns-2 : tie.Need-returns-2

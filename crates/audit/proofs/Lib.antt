@@ -1,0 +1,3 @@
+pub mod Same
+pub mod Passing
+pub mod Theorems

@@ -1,0 +1,4 @@
+pub mod Walking
+pub mod Turns
+pub mod Theorems
+pub mod Examples

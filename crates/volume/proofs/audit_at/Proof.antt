@@ -1,0 +1,46 @@
+-- What is left of the volume is all that stands from the place on; the audit's answer there, then 15. Assumes nothing.
+use mathlib.Core.Path.{_≡_, ap, _∙_}
+use Prim.Native.Nat.{_-_}
+use native.Mathlib.Omega.{arith}
+use lib.ListN.{length, drop, length-drop}
+use lib.Seq.{take-all}
+use borrow.Author.Needs.{needs}
+use Rattle.tables.proofs.Questions.{failed, passed}
+use Rattle.audit.specs.Audit.{auditReply, audited}
+use Rattle.volume.proofs.Turns.{refused-first, refused-15, passed-all}
+use Rattle.volume.proofs.audit_at.Statement.{statement}
+use Rattle.volume.proofs.audit_at.Tie as tie
+
+-- the audit's answer, from the place on
+answer : (c : tie.After-audit) → audited (c .audit .result) ≡ auditReply (drop (c .before .before .before .args .at) (c .before .before .before .args .volume .now))
+answer c =
+    let a = c .before .before .before .args in
+    c .audit .ensures ∙ ap auditReply (take-all (length (a .volume .now) - a .at) (drop (a .at) (a .volume .now)) (omega (arith, length-drop (a .at) (a .volume .now))))
+
+returns : tie.Need-returns
+returns c =
+    let told = c .before .before .before in
+    refused-15 _ _ _ (answer (told .before .before)) (told .heading .given .1) (failed (c .before .route-rises .ensures) (c .if1 .taken))
+
+returns-2 : tie.Need-returns-2
+returns-2 c =
+    let told = c .before .before .before in
+    passed-all _ _ _ (answer (told .before .before)) (told .heading .given .1) (passed (c .before .route-rises .ensures) (c .if1 .left))
+
+returns-3 : tie.Need-returns-3
+returns-3 c = let told = c .before in refused-first _ _ _ (answer (told .before .before)) (told .number .given .1)
+
+pub audit-at-spec : {M : Type 1} → statement M
+audit-at-spec =
+    tie.close
+    (tie.spec
+    (λ c. search needs)
+    (λ c. search needs)
+    (λ c. search needs)
+    (λ c κs. search needs)
+    (λ c. search needs)
+    (λ c κs. search needs)
+    returns
+    (λ c. search needs)
+    returns-2
+    returns-3)

@@ -1,0 +1,90 @@
+// The walk over a volume. Public calls: `walk_volume`, and over the struct `Walk` the two functions `walk_from`, which makes one, and `answer`.
+// `walk_at` does the work on the slice and the number; the functions over the struct only take it apart.
+ghost use mathlib.Core.Path.{_≡_};
+ghost use Prim.Native.Nat.{_≤_};
+ghost use lib.ListN.{length, drop};
+ghost use Rattle.tables.specs.Reply.{reply};
+ghost use Rattle.entry.specs.Held.{records};
+ghost use Rattle.reader.specs.Reading.{readValues};
+ghost use Rattle.audit.specs.Audit.{audited};
+ghost use Rattle.volume.specs.Walk.{routeRises, walkRefusal, walkReply, walked};
+use audit::Audited;
+
+// What a walk answers: the count of entries, or the number of the first no and the count of entries that passed before it.
+pub enum Walked {
+    Count(usize),
+    Refused(u8, usize),
+}
+
+// 'A walk is made from a lent volume and a place in it'
+pub struct Walk<'a> {
+    pub volume: &'a [u8],
+    pub place: usize,
+}
+
+// Question 15; 0 stands for no route before.
+fn route_rises(before: u8, route: u8) -> bool
+    ensures { λ r. ⌜ r ≡ routeRises before route ⌝ }
+{
+    if before == 0 {
+        return true;
+    }
+    before < route
+}
+
+// The audit's questions, then 15, of the entry that stands at a place.
+fn audit_at(volume: &[u8], at: usize, before: u8) -> Audited
+    requires { ⌜ at ≤ length (now volume) ⌝ }
+    ensures { λ r. ⌜ audited r ≡ reply (walkRefusal before (drop at (now (volume .entry)))) (readValues (records (drop at (now (volume .entry))))) ⌝ }
+{
+    match audit::audit(&volume[at..]) {
+        Audited::Passed(heading, said) => {
+            if !route_rises(before, heading.route) {
+                return Audited::Refused(tables::RISING);
+            }
+            Audited::Passed(heading, said)
+        }
+        Audited::Refused(number) => Audited::Refused(number),
+    }
+}
+
+// The walk, on the slice and the number.
+fn walk_at(volume: &[u8], place: usize) -> Walked
+    ensures { λ r. ⌜ walked r ≡ walkReply (now (volume .entry)) place ⌝ }
+{
+    let mut at = place;
+    let mut before = 0;
+    let mut passed = 0;
+    while at < volume.len() {
+        match audit_at(volume, at, before) {
+            Audited::Passed(heading, _) => {
+                before = heading.route;
+                passed += 1;
+                at += heading.used;
+            }
+            Audited::Refused(number) => {
+                return Walked::Refused(number, passed);
+            }
+        }
+    }
+    Walked::Count(passed)
+}
+
+pub fn walk_from<'a>(volume: &'a [u8], place: usize) -> Walk<'a>
+    ensures { λ r. ⌜ (r .volume ≡ volume .entry) × (r .place ≡ place) ⌝ }
+{
+    Walk { volume, place }
+}
+
+pub fn answer<'a>(walk: Walk<'a>) -> Walked
+    ensures { λ r. ⌜ walked r ≡ walkReply (now (walk .entry .volume)) (walk .entry .place) ⌝ }
+{
+    walk_at(walk.volume, walk.place)
+}
+
+// The walk, for callers that hold no `Walk`.
+pub fn walk_volume(volume: &[u8], place: usize) -> Walked
+    ensures { λ r. ⌜ walked r ≡ walkReply (now (volume .entry)) place ⌝ }
+{
+    answer(walk_from(volume, place))
+}
