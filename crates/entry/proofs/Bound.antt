@@ -24,7 +24,7 @@ length-monomials : (n : ℕ) (f : Polynomial) → length (monomials n f) ≤ 2 ^
 unfolding monomials
 length-monomials n f = omega (arith, length-keep f (order n), length-order n)
 
-length-bytes : (rs ss : List Record) → length (bytes (rs ++ ss)) ≡ length (bytes rs) + length (bytes ss)
+pub length-bytes : (rs ss : List Record) → length (bytes (rs ++ ss)) ≡ length (bytes rs) + length (bytes ss)
 length-bytes rs ss = ap length (bytes-append rs ss) ∙ length-append (bytes rs) (bytes ss)
 
 condition-bytes : (ms : List ℕ) → length (bytes (map Condition ms)) ≡ 3 * length ms
@@ -48,7 +48,7 @@ unfolding answerRecords bytes
 answers-most zero n a = omega arith
 answers-most (suc j) n a =
     let e : length (bytes (answerRecords (suc j) n a)) ≡ length (bytes (answerRecords j n a)) + 4 * length (monomials n (held n a j)) =
-        length-bytes (answerRecords j n a) (map (Answer j) (monomials n (held n a j))) ∙ ap (λ (k : ℕ). length (bytes (answerRecords j n a)) + k) (answer-bytes j (monomials n (held n a j))) in
+    length-bytes (answerRecords j n a) (map (Answer j) (monomials n (held n a j))) ∙ ap (λ (k : ℕ). length (bytes (answerRecords j n a)) + k) (answer-bytes j (monomials n (held n a j))) in
     let ih : length (bytes (answerRecords j n a)) ≤ j * (4 * 2 ^ n) = answers-most j n a in
     omega (arith, length-monomials n (held n a j), suc-mul j (4 * 2 ^ n))
 
@@ -69,6 +69,6 @@ pub entry-most : (route U G : ℕ) (t : List ℕ) (v : Verdict (List ℕ)) → U
 unfolding entryRecords bytes
 entry-most route U G t v hu hn =
     let c : length (bytes (conditionRecords (U + G) t ++ (verdictRecords U (U + G) v ++ (End route ∷ [])))) ≡ length (bytes (conditionRecords (U + G) t)) + length (bytes (verdictRecords U (U + G) v ++ (End route ∷ []))) =
-        length-bytes (conditionRecords (U + G) t) (verdictRecords U (U + G) v ++ (End route ∷ [])) in
+    length-bytes (conditionRecords (U + G) t) (verdictRecords U (U + G) v ++ (End route ∷ [])) in
     let d : length (bytes (verdictRecords U (U + G) v ++ (End route ∷ []))) ≡ length (bytes (verdictRecords U (U + G) v)) + 2 = length-bytes (verdictRecords U (U + G) v) (End route ∷ []) in
     omega (arith, condition-most (U + G) t, size-most U (U + G) hu hn, verdict-most U (U + G) hu hn v)

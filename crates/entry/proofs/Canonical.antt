@@ -290,8 +290,8 @@ module _ (rs : List Record) (k : kindsFit rs ≡ true) (c : endsThere rs ≡ tru
           let cs : endsThere ss ≡ true = sym (ap endsThere e) ∙ c in
           let ps : fitsBehind U G 0 ss ≡ true = sym (ap (fitsBehind U G 0) e) ∙ places in
           let em : onlyMonomials ss ≡ onlyMonomials tail =
-              rising-unique U G 0 0 (onlyMonomials ss) (onlyMonomials tail) (only-all ss) (only-all tail) (rise ss os cs ps) (rise tail kinds ends fits)
-              (λ i m. only-has i m ss ∙ sym (ap (hasMonomial i m) e) ∙ sym (same-monomials i m) ∙ sym (only-has i m tail)) in
+          rising-unique U G 0 0 (onlyMonomials ss) (onlyMonomials tail) (only-all ss) (only-all tail) (rise ss os cs ps) (rise tail kinds ends fits)
+          (λ i m. only-has i m ss ∙ sym (ap (hasMonomial i m) e) ∙ sym (same-monomials i m) ∙ sym (only-has i m tail)) in
           let ev : unlessNone answered ss ≡ unlessNone answered tail = sym (ap (unlessNone answered) e) ∙ sym same-verdict in
           e
           ∙ ap (λ (x : List Record). Start (routeOf rs) U G ∷ x)

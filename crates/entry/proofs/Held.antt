@@ -157,6 +157,6 @@ pub verdict-back : (route U G : ℕ) (t : List ℕ) (v : Verdict (List ℕ)) →
 unfolding heldVerdict entryRecords
 verdict-back route U G t (solved a) fits =
     let e : answerTable U (U + G) (answersIn (entryRecords route U G t (solved a))) ≡ answerTable U (U + G) (held (U + G) a) =
-        answerTable-cong U (U + G) _ _ (λ j m h l. answers-held route U G t a j m h l) in
+    answerTable-cong U (U + G) _ _ (λ j m h l. answers-held route U G t a j m h l) in
     solved-unless _ route U G t a ∙ ap solved (e ∙ fits)
 verdict-back route U G t (none state) fits = none-unless _ route U G t state

@@ -158,9 +158,9 @@ split-eq x j m k h =
     bool-iff (eqb x (j * k + m)) (eqb (x / k) j && eqb (x % k) m)
     (λ e. let p : x ≡ j * k + m = eqb-true _ _ e in rw p (both (eq-eqb _ _ (digits-div j h)) (eq-eqb _ _ (digits-mod j h))))
     (λ e.
-        let a : x / k ≡ j = eqb-true _ _ (and-left (eqb (x / k) j) _ e) in
-        let b : x % k ≡ m = eqb-true _ _ (and-right (eqb (x / k) j) (eqb (x % k) m) e) in
-        eq-eqb x (j * k + m) (sym (div-add-mod' x k) ∙ rw (a, b)))
+    let a : x / k ≡ j = eqb-true _ _ (and-left (eqb (x / k) j) _ e) in
+    let b : x % k ≡ m = eqb-true _ _ (and-right (eqb (x / k) j) (eqb (x % k) m) e) in
+    eq-eqb x (j * k + m) (sym (div-add-mod' x k) ∙ rw (a, b)))
 
 one-hit : (base k x i m : ℕ) → m < k → (leb base i && eqb x ((i - base) * k + m)) ≡ (eqb (base + x / k) i && eqb (x % k) m)
 one-hit base k x i m h =

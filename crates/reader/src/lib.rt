@@ -13,7 +13,6 @@ ghost use Rattle.entry.specs.Questions.{routeFits, mayFollow, kindsFollow, inBo
 ghost use Rattle.entry.specs.Places.{placeOf, standsBehind, fitsBehind};
 ghost use Rattle.reader.specs.Reading.{reading, readRefusal, readValues, heldAnswers};
 ghost use Rattle.reader.specs.Steps.{lengthUsed, headingOf, said, putMonomial, filled, zeros, Fitting, Reads};
-
 use entry::Record;
 use ring::State;
 

@@ -24,13 +24,10 @@ use Rattle.entry.specs.declared.Record.the-variants as record-variants
 use Rattle.entry.specs.Record.{bytes}
 use Rattle.entry.specs.Entry.{conditionRecords, answerRecords, verdictRecords, entryRecords, entry}
 use Rattle.entry.proofs.Back.{bytes-append}
-use Rattle.entry.proofs.Bound.{entry-most}
+use Rattle.entry.proofs.Bound.{length-bytes, entry-most}
 use Rattle.entry.proofs.Verdicts.{VerdictFits, solve-fits}
 use Rattle.writer.specs.Steps.{Put, monomialRecord, tableRecords, Ready}
 use Rattle.writer.proofs.Puts.{put-then, put-nothing, put-as, put-length}
-
-length-bytes : (rs ss : List Record) → length (bytes (rs ++ ss)) ≡ length (bytes rs) + length (bytes ss)
-length-bytes rs ss = ap length (bytes-append rs ss) ∙ length-append (bytes rs) (bytes ss)
 
 -- ---- the records of a table are those of the condition, or of an unknown's answer
 condition-records : (ms : List ℕ) → map (monomialRecord 0) ms ≡ map record-variants.Condition ms

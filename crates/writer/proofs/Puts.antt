@@ -154,7 +154,7 @@ module _ {i n : ℕ} {t masks old : List ℕ} {from p at : ℕ} {new : List ℕ}
     pub record-fits : at + length (monomialBytes i t m) ≤ length new
     record-fits =
         let e : length (each (monomialBytes i t) (take (p + 1) masks)) ≡ length (each (monomialBytes i t) (take p masks)) + length (monomialBytes i t m) =
-            ap length (each-next (monomialBytes i t) masks p l) ∙ length-append (each (monomialBytes i t) (take p masks)) (monomialBytes i t (getD masks p 0)) ∙ rw em in
+        ap length (each-next (monomialBytes i t) masks p l) ∙ length-append (each (monomialBytes i t) (take p masks)) (monomialBytes i t (getD masks p 0)) ∙ rw em in
         let f : length (each (monomialBytes i t) (take (p + 1) masks)) ≤ length (each (monomialBytes i t) masks) = each-most (monomialBytes i t) masks (p + 1) in
         let g : length (each (monomialBytes i t) masks) ≡ length (bytes (tableRecords i n (present t))) = ap (λ (x : List ℕ). length (each (monomialBytes i t) x)) (w .ordered) ∙ ap length (table-each i n t) in
         omega (arith, w .put .next, w .room, w .long)

@@ -12,7 +12,6 @@ ghost use Rattle.entry.specs.Record.{bytes};
 ghost use Rattle.entry.specs.Entry.{answerRecords, verdictRecords, entry};
 ghost use Rattle.writer.specs.Writing.{archived, writeRefusal, written};
 ghost use Rattle.writer.specs.Steps.{tableRefusal, tableRecords, monomialBytes, Put, Ready, HandsOut};
-
 use solver::Verdict;
 
 // What writing answers: the entry's length, or the number of the first no.
@@ -143,14 +142,7 @@ fn put_solved(
 }
 
 // The entry, at the start of `out`.
-fn compose(
-    route: u8,
-    u: usize,
-    g: usize,
-    condition: &[u8],
-    masks: &[u16],
-    out: &mut [u8],
-) -> usize
+fn compose(route: u8, u: usize, g: usize, condition: &[u8], masks: &[u16], out: &mut [u8]) -> usize
     requires { ⌜ Ready u g (now condition) × (now masks ≡ order (u + g)) × (length (entry route u g (now condition)) ≤ length (now out)) ⌝ }
     ensures { λ r. ⌜ Put 0 (now (out .entry)) (entry route u g (now (condition .entry))) r (now (out .exit)) ⌝ }
 {
