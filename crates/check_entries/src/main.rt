@@ -1,7 +1,9 @@
 // Writes and reads the entries of standard input, and prints what comes back.
 // The stored input and output were made by the independent implementation in `reference/`.
-use libc::{STDIN_FILENO, STDOUT_FILENO};
-use reader::{Heading, Read};
+use libc::STDIN_FILENO;
+use libc::STDOUT_FILENO;
+use reader::Heading;
+use reader::Read;
 use writer::Written;
 
 fn show_written(r: Written, out: &[u8]) {

@@ -1,8 +1,10 @@
 // Audits the entries and walks the volumes of standard input, and prints what comes back.
 // The stored input and output were made by the independent implementation in `reference/`.
 use audit::Audited;
-use libc::{STDIN_FILENO, STDOUT_FILENO};
-use reader::{Heading, Said};
+use libc::STDIN_FILENO;
+use libc::STDOUT_FILENO;
+use reader::Heading;
+use reader::Said;
 use volume::Walked;
 
 fn show_heading(h: Heading) {

@@ -133,7 +133,13 @@ fn multiply_with(n: usize, a: &[u8], b: &[u8], out: &mut [u8], scratch: &mut [u8
 }
 
 // Handed polynomials put for the unknowns of a condition, all at once; the givens stay.
-pub fn substitute(unknowns: usize, givens: usize, condition: &[u8], handed: &[u8], out: &mut [u8]) -> Outcome
+pub fn substitute(
+    unknowns: usize,
+    givens: usize,
+    condition: &[u8],
+    handed: &[u8],
+    out: &mut [u8],
+) -> Outcome
     ensures { λ r. ⌜ outcome r ≡ reply (substituteRefusal unknowns givens (now (condition .entry)) (now (handed .entry)) (now (out .entry))) [] ⌝ }
     ensures { λ _. ⌜ now (out .exit) ≡ after (substituteRefusal unknowns givens (now (condition .entry)) (now (handed .entry)) (now (out .entry))) (substituteTable unknowns givens (now (condition .entry)) (now (handed .entry))) (now (out .entry)) ⌝ }
 {
@@ -143,7 +149,13 @@ pub fn substitute(unknowns: usize, givens: usize, condition: &[u8], handed: &[u8
     }
     let k = tables::pow2(unknowns + givens);
     let all = unknowns * k;
-    put_in(unknowns, givens, &condition[..k], &handed[..all], &mut out[..k]);
+    put_in(
+        unknowns,
+        givens,
+        &condition[..k],
+        &handed[..all],
+        &mut out[..k],
+    );
     Outcome::Done
 }
 
