@@ -101,6 +101,13 @@ fn add_large_conditions(lines: &mut Lines, call: char, random: &mut Random) {
     lines.solution(call, 6, 4, &dense, 6143);
     let last = random.blocked(2, 8, 255);
     lines.solution(call, 2, 8, &last, 2048);
+    // the other pairs of eight to ten letters, by Boole alone, so that the files stay small
+    if call == 'b' {
+        for (u, g) in [(1, 7), (2, 6), (2, 7), (3, 5), (4, 5), (4, 6), (5, 3), (5, 5), (6, 3)] {
+            let table = random.solvable(u, g);
+            lines.solution(call, u, g, &table, u as usize * table.len());
+        }
+    }
 }
 
 /// Löwenheim's formula with handed polynomials.
