@@ -7,11 +7,12 @@ use Prim.Native.Nat.{ℕ, zero, suc}
 use native.Mathlib.Omega.{arith}
 use Rattle.tables.specs.Questions.{firstNo}
 use Rattle.tables.specs.Reply.{accepted, refused, reply}
+use Rattle.tables.proofs.FirstNo.{first-counts}
 use Rattle.tables.proofs.Reply.{reply-refused, reply-accepted}
 use Rattle.solution.specs.Elimination.{Verdict, solved, none}
 use Rattle.entry.specs.Held.{records, heldVerdict}
 use Rattle.entry.specs.Questions.{entryQuestions, answersHold, auditQuestions}
-use Rattle.entry.proofs.Passes.{passes, then-asked, first-counts}
+use Rattle.entry.proofs.Passes.{passes, then-asked}
 use Rattle.reader.specs.declared.Heading.{Heading}
 use Rattle.reader.specs.declared.Said.{Said}
 use Rattle.reader.specs.Reading.{readValues, stateOf}

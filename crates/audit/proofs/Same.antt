@@ -3,7 +3,6 @@
 use mathlib.Core.Path.{_≡_, sym, ap, ap₂, _∙_}
 use mathlib.Core.Bool.{Bool, true, false}
 use mathlib.Core.List.{List}
-use mathlib.Core.Logic.{_⊎_, inl, inr}
 use Prim.Native.Nat.{ℕ, _+_, _≤_, _<_}
 use native.Mathlib.Numerals.{add-one}
 use native.Mathlib.Omega.{arith}
@@ -15,12 +14,12 @@ use Rattle.ring.specs.Table.{IsTable, table, answerTable}
 use Rattle.ring.proofs.Table.{is-table}
 use Rattle.solution.specs.Elimination.{Verdict, solved, none, defaultOrder, solve}
 use Rattle.entry.specs.declared.Record.{Record}
-use Rattle.entry.specs.Held.{unknownsOf, givensOf, conditionIn, answersIn, unlessNone, heldCondition, heldVerdict}
+use Rattle.entry.specs.Held.{conditionIn, answersIn, heldCondition, heldVerdict}
 use Rattle.entry.specs.Questions.{sameBytes, sameVerdict, solvedAfresh, answersHold}
-use Rattle.entry.proofs.Canonical.{unless-cases}
 use Rattle.reader.specs.declared.Heading.{Heading}
 use Rattle.reader.specs.declared.Said.the-variants.{Solved, None}
 use Rattle.reader.specs.Steps.{headingOf, said}
+use Rattle.reader.proofs.Buffers.{heading-u, heading-g, said-none, said-solved}
 use Rattle.solver.specs.declared.Verdict.{Verdict as Afresh}
 use Rattle.solver.specs.declared.Verdict.the-variants as fresh-variants
 use Rattle.solver.specs.Methods.{verdict}
@@ -47,28 +46,8 @@ module _ (xs ys : List ℕ) (i : ℕ) (b : Bool) (inv : b ≡ sameBytes (drop i 
 pub against-solved : (held fresh : List ℕ) {b : Bool} {v : Afresh} → v ≡ fresh-variants.Solved → b ≡ sameBytes held fresh → b ≡ sameVerdict (solved held) (verdict v fresh)
 against-solved held fresh e q = rw e q
 
--- ---- what an entry says
-said-none : {A : Type 0} (v : Verdict A) (state : State) → said v ≡ None state → v ≡ none state
-said-none (solved a) state e = let z : _≡_ {A = ℕ} 0 1 = (cc) in absurd (omega arith)
-said-none (none s) state e = let f : s ≡ state = (cc) in ap none f
-
-said-solved : {A : Type 0} (a : A) (rs : List Record) → said (unlessNone a rs) ≡ Solved → unlessNone a rs ≡ solved a
-said-solved a rs e = go (unless-cases a rs)
-  where
-    go : (unlessNone a rs ≡ solved a) ⊎ ((state : State) × (unlessNone a rs ≡ none state)) → unlessNone a rs ≡ solved a
-    go (inl f) = f
-    go (inr f) = let g : None (f .0) ≡ Solved = sym (ap said (f .1)) ∙ e in let z : _≡_ {A = ℕ} 0 1 = (cc) in absurd (omega arith)
-
 -- ---- question 13, of an entry whose condition t was read and solved afresh, with the verdict w
 module _ (rs : List Record) (h : Heading) (eh : h ≡ headingOf rs) (t : List ℕ) (et : t ≡ table (h .unknowns + h .givens) (conditionIn rs)) where
-  of-u : h .unknowns ≡ unknownsOf rs
-  unfolding headingOf
-  of-u = ap (λ (x : Heading). x .unknowns) eh
-
-  of-g : h .givens ≡ givensOf rs
-  unfolding headingOf
-  of-g = ap (λ (x : Heading). x .givens) eh
-
   pub condition-table : IsTable (h .unknowns + h .givens) t
   unfolding table
   condition-table = rw et (is-table (h .unknowns + h .givens) (conditionIn rs))
@@ -76,7 +55,7 @@ module _ (rs : List Record) (h : Heading) (eh : h ≡ headingOf rs) (t : List �
   module _ (w : Verdict (List ℕ)) (ew : w ≡ solve (h .unknowns) (h .givens) (defaultOrder (h .unknowns)) t) where
     afresh : w ≡ solvedAfresh rs
     unfolding solvedAfresh heldCondition
-    afresh = ew ∙ rw (et, of-u, of-g)
+    afresh = ew ∙ rw (et, heading-u rs eh, heading-g rs eh)
 
     pub hold-none : (state : State) (b : Bool) → said (heldVerdict rs) ≡ None state → b ≡ sameVerdict (none state) w → b ≡ answersHold rs
     unfolding answersHold
@@ -85,4 +64,4 @@ module _ (rs : List Record) (h : Heading) (eh : h ≡ headingOf rs) (t : List �
     pub hold-solved : (a : List ℕ) (b : Bool) → said (heldVerdict rs) ≡ Solved → a ≡ answerTable (h .unknowns) (h .unknowns + h .givens) (answersIn rs) → b ≡ sameVerdict (solved a) w → b ≡ answersHold rs
     unfolding answersHold heldVerdict
     hold-solved a b es ea eb =
-        eb ∙ ap₂ sameVerdict (ap solved (ea ∙ rw (of-u, of-g)) ∙ sym (said-solved _ rs es)) afresh
+        eb ∙ ap₂ sameVerdict (ap solved (ea ∙ rw (heading-u rs eh, heading-g rs eh)) ∙ sym (said-solved _ rs es)) afresh

@@ -2,17 +2,15 @@
 -- after kind 4 and gives the length used; the bytes that pass are those up to there, and later ones play no part.'
 -- Assumes nothing.
 use mathlib.Core.Path.{_≡_}
-use mathlib.Core.Bool.{true}
 use mathlib.Core.List.{List, [], _∷_, _++_}
-use Prim.Native.Nat.{ℕ, _+_}
+use Prim.Native.Nat.{ℕ}
 use lib.ListN.{length}
-use Rattle.ring.specs.Table.{IsTable}
-use Rattle.tables.specs.Questions.{firstNo, lettersFit}
+use Rattle.tables.specs.Questions.{firstNo}
 use Rattle.tables.specs.Reply.{Reply, accepted, refused, reply}
 use Rattle.solution.specs.Elimination.{defaultOrder, solve}
-use Rattle.entry.specs.Entry.{entry}
+use Rattle.entry.specs.Entry.{entry, Archivable}
 use Rattle.entry.specs.Held.{records}
-use Rattle.entry.specs.Questions.{routeFits, auditQuestions}
+use Rattle.entry.specs.Questions.{auditQuestions}
 use Rattle.reader.specs.declared.Said.{Said}
 use Rattle.reader.specs.declared.Said.the-variants.{Solved, None}
 use Rattle.reader.specs.Reading.{readValues, stateOf}
@@ -36,12 +34,6 @@ stateSaid (None state) = state .0 ∷ []
 abbrev pub audited : Audited → Reply
 audited (Passed heading said) = accepted (heading .route ∷ heading .unknowns ∷ heading .givens ∷ heading .used ∷ stateSaid said)
 audited (Refused number) = refused number []
-
--- the route, U, G and the table t pass the writer's questions on them: they have an entry
-pub record Archivable (route U G : ℕ) (t : List ℕ) : Type 0 where
-  pub letters : lettersFit U G ≡ true
-  pub of-route : routeFits route ≡ true
-  pub of-table : IsTable (U + G) t
 
 -- the bytes begin with an entry that the writer makes, whatever stands behind it, and the values are its route, U, G, length and, if it
 -- says 'none', state

@@ -3,20 +3,21 @@
 -- Assumes nothing.
 use mathlib.Core.Path.{_≡_, refl, sym, ap, _∙_}
 use mathlib.Core.Bool.{Bool, true, false, _&&_}
-use mathlib.Core.List.{List, [], _∷_, _++_, append-assoc, map}
+use mathlib.Core.List.{List, [], _∷_, _++_, append-assoc, append-nil, map}
 use Prim.Native.Nat.{ℕ, zero, suc, _+_, _*_, _/_, _%_}
 use native.Mathlib.Omega.{arith}
+use lib.Dec.{ltb}
 use lib.ListN.{length, drop}
 use borrow.Author.Tests.{le-leb}
 use Rattle.ring.specs.Table.{present, held}
 use Rattle.order.specs.Order.{monomials}
 use Rattle.order.proofs.Lists.{and-left, and-right, both, never}
-use Rattle.solution.specs.Elimination.{Verdict, solved, none, defaultOrder, solve}
+use Rattle.solution.specs.Elimination.{Verdict, solved, none}
 use Rattle.entry.specs.declared.Record.{Record}
 use Rattle.entry.specs.declared.Record.the-variants.{Start, Condition, Answer, End, None, Broken}
 use Rattle.entry.specs.Record.{recordBytes, bytes, size, isEnd}
-use Rattle.entry.specs.Entry.{conditionRecords, answerRecords, verdictRecords, entryRecords, entry}
-use Rattle.entry.specs.Held.{next, untilEnd, records}
+use Rattle.entry.specs.Entry.{conditionRecords, answerRecords, verdictRecords, entryRecords, archivedRecords, entry}
+use Rattle.entry.specs.Held.{next, untilEnd, records, allWhole, AreRecords}
 use Rattle.entry.proofs.Records.{records-next}
 
 pub bytes-append : (rs ss : List Record) → bytes (rs ++ ss) ≡ bytes rs ++ bytes ss
@@ -40,8 +41,8 @@ mask-back m = omega arith
 next-inner : (r : Record) (bs : List ℕ) → isInner r ≡ true → next (recordBytes r ++ bs) ≡ r
 unfolding next
 next-inner (Start route U G) bs p = rw (le-leb 4 (suc (suc (suc (suc (length bs))))) (omega arith))
-next-inner (Condition m) bs p = rw (le-leb 3 (suc (suc (suc (length bs)))) (omega arith), mask-back m)
-next-inner (Answer j m) bs p = rw (le-leb 4 (suc (suc (suc (suc (length bs))))) (omega arith), mask-back m)
+next-inner (Condition m) bs p = rw (le-leb 3 (suc (suc (suc (length bs)))) (omega arith)) (ap Condition (mask-back m))
+next-inner (Answer j m) bs p = rw (le-leb 4 (suc (suc (suc (suc (length bs))))) (omega arith)) (ap (Answer j) (mask-back m))
 next-inner (End route) bs p = never p refl
 next-inner (None state) bs p = rw (le-leb 2 (suc (suc (length bs))) (omega arith))
 next-inner Broken bs p = never p refl
@@ -119,6 +120,21 @@ unfolding verdictRecords allInner
 verdict-inner U n (solved a) = answers-inner U n a
 verdict-inner U n (none state) = refl
 
+-- ---- they are whole
+inner-whole : (r : Record) → isInner r ≡ true → ltb 0 (size r) ≡ true
+inner-whole (Start route U G) p = refl
+inner-whole (Condition m) p = refl
+inner-whole (Answer j m) p = refl
+inner-whole (End route) p = refl
+inner-whole (None state) p = refl
+inner-whole Broken p = never p refl
+
+end-whole : (rs : List Record) (route : ℕ) → allInner rs ≡ true → allWhole (rs ++ (End route ∷ [])) ≡ true
+unfolding allInner allWhole
+end-whole [] route p = refl
+end-whole (r ∷ rs) route p = both (inner-whole r (and-left (isInner r) (allInner rs) p)) (end-whole rs route (and-right (isInner r) (allInner rs) p))
+
+-- ---- an entry
 module _ (route U G : ℕ) (t : List ℕ) (v : Verdict (List ℕ)) where
   -- all of an entry but its end
   unfoldable pub body : List Record
@@ -138,6 +154,19 @@ module _ (route U G : ℕ) (t : List ℕ) (v : Verdict (List ℕ)) where
   written-records bs =
       ap (λ (l : List Record). records (bytes l ++ bs)) entry-body ∙ records-back body route bs body-inner ∙ sym entry-body
 
-pub entry-records : (route U G : ℕ) (t bs : List ℕ) → records (entry route U G t ++ bs) ≡ entryRecords route U G t (solve U G (defaultOrder U) t)
-unfolding entry
-entry-records route U G t bs = written-records route U G t (solve U G (defaultOrder U) t) bs
+  -- none of them is broken
+  written-whole : allWhole (entryRecords route U G t v) ≡ true
+  written-whole = ap allWhole entry-body ∙ end-whole body route body-inner
+
+module _ (route U G : ℕ) (t : List ℕ) where
+  pub entry-records : (bs : List ℕ) → records (entry route U G t ++ bs) ≡ archivedRecords route U G t
+  unfolding entry
+  entry-records bs = written-records route U G t _ bs
+
+  -- with nothing behind it
+  pub held-records : records (entry route U G t) ≡ archivedRecords route U G t
+  held-records = ap records (sym (append-nil (entry route U G t))) ∙ entry-records []
+
+  pub are-records : AreRecords (entry route U G t)
+  unfolding entry
+  are-records = record { same = ap bytes held-records; whole = ap allWhole held-records ∙ written-whole route U G t _ }

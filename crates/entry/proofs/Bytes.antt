@@ -56,7 +56,7 @@ next-bytes bs w =
         go (inl e) (inr l) = rw (e, l)
         go (inr e) l = rw e q
 
-drop-bytes : (k : ℕ) (bs : List ℕ) → AreBytes bs → AreBytes (drop k bs)
+pub drop-bytes : (k : ℕ) (bs : List ℕ) → AreBytes bs → AreBytes (drop k bs)
 drop-bytes k bs w i = rw (getD-drop k bs i 0) (w (k + i))
 
 -- those of a record and the ones behind it

@@ -9,7 +9,7 @@ use Prim.Native.Nat.{ℕ, zero, suc, _+_, _^_, _≤_, _<_}
 use native.Mathlib.Omega.{arith}
 use lib.Dec.{eqb, ltb}
 use lib.ListN.{length, drop}
-use borrow.Author.Tests.{lt-leb, ltb-true, ltb-false, eqb-true, ne-eqb}
+use borrow.Author.Tests.{ltb-true, ltb-false, eqb-true, ne-eqb}
 use Rattle.ring.specs.declared.State.{State}
 use Rattle.ring.specs.Polynomial.{Polynomial}
 use Rattle.ring.specs.Table.{present, held, answerTable}
@@ -105,20 +105,16 @@ module _ {A : Type 0} (a : A) where
   behind-none route (Broken ∷ rs) o c = never o refl
 
   -- neither a kind 1 nor a broken record follows anything
+  no-way : (a b : Bool) → cond a false (cond b false false) ≡ true → ⊥
+  no-way true b e = never e refl
+  no-way false true e = never e refl
+  no-way false false e = never e refl
+
   not-behind : (p k : ℕ) → k ≤ 1 → mayFollow (suc p) k ≡ true → ⊥
   unfolding mayFollow
-  not-behind p k h e = at (bool-cases (eqb (suc p) 3)) (bool-cases (eqb (suc p) 5)) e
-    where
-      not3 : k ≡ 3 → ⊥
-      not3 z = omega arith
-
-      not4 : k ≡ 4 → ⊥
-      not4 z = omega arith
-
-      at : (eqb (suc p) 3 ≡ true) ⊎ (eqb (suc p) 3 ≡ false) → (eqb (suc p) 5 ≡ true) ⊎ (eqb (suc p) 5 ≡ false) → mayFollow (suc p) k ≡ true → ⊥
-      at (inl a) b q = never (rw (ne-eqb (suc p) 0 (λ (z : suc p ≡ 0). absurd (omega arith)), a, ne-eqb k 3 not3, ne-eqb k 4 not4) at q) refl
-      at (inr a) (inl b) q = never (rw (ne-eqb (suc p) 0 (λ (z : suc p ≡ 0). absurd (omega arith)), a, b, ne-eqb k 4 not4) at q) refl
-      at (inr a) (inr b) q = never (rw (ne-eqb (suc p) 0 (λ (z : suc p ≡ 0). absurd (omega arith)), a, b, lt-leb 2 k (omega arith)) at q) refl
+  not-behind p zero h e = no-way (eqb (suc p) 3) (eqb (suc p) 5) (rw (ne-eqb (suc p) 0 (λ (z : suc p ≡ 0). absurd (omega arith))) at e)
+  not-behind p (suc zero) h e = no-way (eqb (suc p) 3) (eqb (suc p) 5) (rw (ne-eqb (suc p) 0 (λ (z : suc p ≡ 0). absurd (omega arith))) at e)
+  not-behind p (suc (suc k)) h e = omega arith
 
   -- the records behind the start: the monomials, the state if there is one, and the end
   shape : (p route : ℕ) (rs : List Record) → kindsFollow (suc p) route rs ≡ true → endsThere rs ≡ true → rs ≡ onlyMonomials rs ++ (noneRecord (unlessNone a rs) ++ (End route ∷ []))
@@ -131,7 +127,7 @@ module _ {A : Type 0} (a : A) where
   shape p route (None state ∷ rs) o c = let e = behind-none route rs (and-right (mayFollow (suc p) 5) (kindsFollow 5 route rs) o) c in rw e
   shape p route (Broken ∷ rs) o c = absurd (not-behind p 0 (omega arith) (and-left (mayFollow (suc p) 0) _ o))
 
-  -- an entry with a kind 5 has no answers
+  -- behind an answer stands no kind 5 ..
   behind-answer : (route : ℕ) (rs : List Record) → kindsFollow 3 route rs ≡ true → endsThere rs ≡ true → unlessNone a rs ≡ solved a
   unfolding kindsFollow mayFollow endsThere unlessNone
   behind-answer route [] o c = refl
@@ -142,6 +138,7 @@ module _ {A : Type 0} (a : A) where
   behind-answer route (None state ∷ rs) o c = never o refl
   behind-answer route (Broken ∷ rs) o c = never o refl
 
+  -- .. so that an entry with a kind 5 has no answers
   none-alone : (p route j m : ℕ) (state : State) (rs : List Record) → kindsFollow p route rs ≡ true → endsThere rs ≡ true → unlessNone a rs ≡ none state → hasMonomial (suc j) m rs ≡ false
   unfolding kindsFollow endsThere unlessNone hasMonomial
   none-alone p route j m s [] o c e = refl

@@ -12,11 +12,12 @@ use lib.Dec.{leb, eqb}
 use lib.ListN.{length, getD, drop, length-drop, drop-of-length-le}
 use lib.Seq.{drop-drop}
 use borrow.Author.Tests.{leb-true}
-use Rattle.order.proofs.Lists.{bool-cases}
+use Rattle.order.proofs.Lists.{bool-cases, never}
 use Rattle.entry.specs.declared.Record.{Record}
 use Rattle.entry.specs.declared.Record.the-variants.{Start, Condition, Answer, End, None, Broken}
-use Rattle.entry.specs.Record.{size, isEnd}
+use Rattle.entry.specs.Record.{bytes, size, isEnd}
 use Rattle.entry.specs.Held.{whole, next, untilEnd, firstRecords, records, first}
+use Rattle.entry.specs.Questions.{hasEnd}
 
 -- ---- the first record
 whole-fits : (bs : List ℕ) (r : Record) → size (whole bs r) ≤ length bs
@@ -118,3 +119,38 @@ first-next bs = ap first (records-next bs) ∙ cases (next bs) (records (drop (s
     cases (End route) rs = refl
     cases (None state) rs = refl
     cases Broken rs = refl
+
+-- ---- the length used
+until-length : (r : Record) (rs : List Record) → length (bytes (untilEnd r rs)) ≤ size r + length (bytes rs)
+unfolding bytes
+until-length (Start route U G) rs = omega arith
+until-length (Condition m) rs = omega arith
+until-length (Answer j m) rs = omega arith
+until-length (End route) rs = omega arith
+until-length (None state) rs = omega arith
+until-length Broken rs = omega arith
+
+first-length : (k : ℕ) (bs : List ℕ) → length (bytes (firstRecords k bs)) ≤ length bs
+unfolding firstRecords bytes
+first-length zero bs = omega arith
+first-length (suc k) bs =
+    let rs : List Record = firstRecords k (drop (size (next bs)) bs) in
+    let u : length (bytes (untilEnd (next bs) rs)) ≤ size (next bs) + length (bytes rs) = until-length (next bs) rs in
+    let l : length (bytes rs) ≤ length (drop (size (next bs)) bs) = first-length k (drop (size (next bs)) bs) in
+    omega (arith, size-fits bs, length-drop (size (next bs)) bs)
+
+-- it is within the bytes
+pub used-fits : (bs : List ℕ) → length (bytes (records bs)) ≤ length bs
+unfolding records
+used-fits bs = first-length (length bs) bs
+
+-- an end has bytes
+pub some-bytes : (rs : List Record) → hasEnd rs ≡ true → 0 < length (bytes rs)
+unfolding hasEnd bytes
+some-bytes [] h = never h refl
+some-bytes (Start route U G ∷ rs) h = omega arith
+some-bytes (Condition m ∷ rs) h = omega arith
+some-bytes (Answer j m ∷ rs) h = omega arith
+some-bytes (End route ∷ rs) h = omega arith
+some-bytes (None state ∷ rs) h = omega arith
+some-bytes (Broken ∷ rs) h = some-bytes rs h

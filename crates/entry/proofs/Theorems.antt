@@ -1,5 +1,5 @@
--- The headlines: what is written reads back; what is accepted has only that one form; what passes the audit is what the writer makes; no
--- entry is longer than document 01 says; and what an entry says of its condition is right. Each holds for any bytes behind the entry.
+-- The headlines: what an entry says of its condition is right; what is written reads back; what is accepted has only that one form; what
+-- passes the audit is what the writer makes; and no entry is longer than document 01 says. Each holds for any bytes behind the entry.
 -- Assumes nothing.
 use mathlib.Core.Path.{_≡_, refl, sym, ap, ap₂, _∙_}
 use mathlib.Core.Bool.{Bool, true, false, cond}
@@ -12,6 +12,7 @@ use borrow.Author.Tests.{eqb-true, eq-eqb}
 use Rattle.ring.specs.Table.{IsTable, present, answerTable}
 use Rattle.ring.proofs.Table.{held-answerTable}
 use Rattle.tables.specs.Questions.{asks, firstNo, lettersFit}
+use Rattle.tables.proofs.FirstNo.{asked-before}
 use Rattle.tables.proofs.Questions.{letters-small, unknowns-small}
 use Rattle.order.proofs.Lists.{and-left, and-right, both, never}
 use Rattle.solution.specs.Elimination.{Verdict, solved, none, defaultOrder, solve, solvable, booleAnswers, smallestBlocked}
@@ -20,7 +21,7 @@ use Rattle.solution.proofs.Orders.{default-order}
 use Rattle.solution.proofs.Verdict.{AreBooles, right-solved, right-none}
 use Rattle.entry.specs.declared.Record.{Record}
 use Rattle.entry.specs.Record.{AreBytes, bytes}
-use Rattle.entry.specs.Entry.{entryRecords, entry}
+use Rattle.entry.specs.Entry.{entryRecords, archivedRecords, entry}
 use Rattle.entry.specs.Held.{records, routeOf, unknownsOf, givensOf, answersIn, says, heldCondition, heldVerdict}
 use Rattle.entry.specs.Questions.{routeFits, entryQuestions, sameBytes, sameVerdict, solvedAfresh, answersHold, auditQuestions}
 use Rattle.entry.proofs.Back.{entry-records}
@@ -30,7 +31,25 @@ use Rattle.entry.proofs.Held.{condition-back, verdict-back, answers-hel
 use Rattle.entry.proofs.Canonical.{records-end, canonical}
 use Rattle.entry.proofs.Bytes.{records-bytes}
 use Rattle.entry.proofs.Bound.{entry-most}
-use Rattle.entry.proofs.Passes.{Passes, passes, all-yes, then-asked, asked-before}
+use Rattle.entry.proofs.Passes.{Passes, passes, all-yes, then-asked}
+
+-- demand 3, of an entry, whatever stands behind it: what its kind 3 and kind 5 records say of the condition t is right
+pub entry-right : (route U G : ℕ) (t behind : List ℕ) → RightVerdict U G (defaultOrder U) (present t) (says (records (entry route U G t ++ behind)))
+unfolding says solve AreBooles
+entry-right route U G t behind = rw (entry-records route U G t behind) (go (solvable (U + G) (present t) (defaultOrder U)) refl)
+  where
+    booles : List ℕ
+    booles = answerTable U (U + G) (booleAnswers (U + G) (present t) (defaultOrder U))
+
+    go : (b : Bool) → solvable (U + G) (present t) (defaultOrder U) ≡ b
+        → RightVerdict U G (defaultOrder U) (present t) (says (entryRecords route U G t (cond b (solved booles) (none (smallestBlocked U G (present t))))))
+    go true e =
+        rw (solved-unless (answersIn (entryRecords route U G t (solved booles))) route U G t booles)
+        (right-solved U G (defaultOrder U) (default-order U) (present t) e (answersIn (entryRecords route U G t (solved booles)))
+        (λ j m h l. answers-held route U G t booles j m h l ∙ held-answerTable U (U + G) (booleAnswers (U + G) (present t) (defaultOrder U)) j m h l))
+    go false e =
+        rw (none-unless (answersIn (entryRecords route U G t (none (smallestBlocked U G (present t))))) route U G t (smallestBlocked U G (present t)))
+        (right-none U G (defaultOrder U) (default-order U) (present t) e)
 
 -- what reading finds in records that were written
 pub record ReadsBack (route U G : ℕ) (t : List ℕ) (rs : List Record) : Type 0 where
@@ -42,7 +61,7 @@ pub record ReadsBack (route U G : ℕ) (t : List ℕ) (rs : List Record) : Type 
   pub verdict : heldVerdict rs ≡ solve U G (defaultOrder U) t
   pub used : length (bytes rs) ≡ length (entry route U G t)
 
-written : (route U G : ℕ) (t : List ℕ) → lettersFit U G ≡ true → routeFits route ≡ true → IsTable (U + G) t → ReadsBack route U G t (entryRecords route U G t (solve U G (defaultOrder U) t))
+written : (route U G : ℕ) (t : List ℕ) → lettersFit U G ≡ true → routeFits route ≡ true → IsTable (U + G) t → ReadsBack route U G t (archivedRecords route U G t)
 unfolding entryRecords entry
 written route U G t letters fits is =
     let v : Verdict (List ℕ) = solve U G (defaultOrder U) t in
@@ -127,21 +146,3 @@ entry-audited route U G t behind letters fits is =
 pub entry-bound : (route U G : ℕ) (t : List ℕ) → lettersFit U G ≡ true → length (entry route U G t) ≤ 27654
 unfolding entry
 entry-bound route U G t letters = entry-most route U G t (solve U G (defaultOrder U) t) (unknowns-small U G letters) (letters-small U G letters)
-
--- demand 3, of an entry, whatever stands behind it: what its kind 3 and kind 5 records say of the condition t is right
-pub entry-right : (route U G : ℕ) (t behind : List ℕ) → RightVerdict U G (defaultOrder U) (present t) (says (records (entry route U G t ++ behind)))
-unfolding says solve AreBooles
-entry-right route U G t behind = rw (entry-records route U G t behind) (go (solvable (U + G) (present t) (defaultOrder U)) refl)
-  where
-    booles : List ℕ
-    booles = answerTable U (U + G) (booleAnswers (U + G) (present t) (defaultOrder U))
-
-    go : (b : Bool) → solvable (U + G) (present t) (defaultOrder U) ≡ b
-        → RightVerdict U G (defaultOrder U) (present t) (says (entryRecords route U G t (cond b (solved booles) (none (smallestBlocked U G (present t))))))
-    go true e =
-        rw (solved-unless (answersIn (entryRecords route U G t (solved booles))) route U G t booles)
-        (right-solved U G (defaultOrder U) (default-order U) (present t) e (answersIn (entryRecords route U G t (solved booles)))
-        (λ j m h l. answers-held route U G t booles j m h l ∙ held-answerTable U (U + G) (booleAnswers (U + G) (present t) (defaultOrder U)) j m h l))
-    go false e =
-        rw (none-unless (answersIn (entryRecords route U G t (none (smallestBlocked U G (present t))))) route U G t (smallestBlocked U G (present t)))
-        (right-none U G (defaultOrder U) (default-order U) (present t) e)

@@ -16,21 +16,21 @@ use Rattle.ring.specs.Table.{table, answerTable}
 use Rattle.ring.proofs.Table.{length-table, length-answerTable}
 use Rattle.tables.specs.Questions.{firstNo, lettersFit, hasRoom, haveRoom}
 use Rattle.tables.specs.Reply.{accepted, after}
+use Rattle.tables.proofs.FirstNo.{first-counts}
 use Rattle.tables.proofs.Questions.{letters-small, unknowns-small}
-use Rattle.order.proofs.Lists.{bool-cases, never}
+use Rattle.order.proofs.Lists.{bool-cases}
 use Rattle.tables.proofs.Reply.{reply-refused, reply-accepted, after-refused, after-done}
 use Rattle.solution.specs.Elimination.{Verdict, solved, none}
 use Rattle.entry.specs.declared.Record.{Record}
-use Rattle.entry.specs.declared.Record.the-variants as record-variants
 use Rattle.entry.specs.Record.{bytes}
 use Rattle.entry.specs.Held.{next, records, first, routeOf, unknownsOf, givensOf, conditionIn, answersIn, unlessNone, heldCondition, heldVerdict}
 use Rattle.entry.specs.Record.{routeIn, unknownsIn, givensIn}
 use Rattle.entry.specs.Questions.{routeFits, hasEnd, kindsFollow, kindsFit, numbersFit, entryQuestions, readQuestions}
 use Rattle.entry.specs.Places.{fitsBehind}
-use Rattle.entry.proofs.Records.{first-next}
+use Rattle.entry.proofs.Records.{first-next, some-bytes}
 use Rattle.entry.proofs.Places.{numbers-by-places}
 use Rattle.entry.proofs.Canonical.{unless-cases}
-use Rattle.entry.proofs.Passes.{Passes, passes, then-asked, first-counts}
+use Rattle.entry.proofs.Passes.{Passes, passes, then-asked}
 use Rattle.reader.specs.declared.Heading.{Heading}
 use Rattle.reader.specs.declared.Read.the-variants.{Solved, None, Refused}
 use Rattle.reader.specs.declared.Said.{Said}
@@ -39,17 +39,6 @@ use Rattle.reader.specs.Reading.{readRefusal, readValues, stateOf, answe
 use Rattle.reader.specs.Steps.{lengthUsed, headingOf, said, Fitting, Reads}
 
 -- ---- the first no of 10, 11, 1, 2 and 12
--- an end has bytes
-some-bytes : (rs : List Record) → hasEnd rs ≡ true → 0 < length (bytes rs)
-unfolding hasEnd bytes
-some-bytes [] h = never h refl
-some-bytes (record-variants.Start route U G ∷ rs) h = omega arith
-some-bytes (record-variants.Condition m ∷ rs) h = omega arith
-some-bytes (record-variants.Answer j m ∷ rs) h = omega arith
-some-bytes (record-variants.End route ∷ rs) h = omega arith
-some-bytes (record-variants.None state ∷ rs) h = omega arith
-some-bytes (record-variants.Broken ∷ rs) h = some-bytes rs h
-
 module _ (rs : List Record) {n : ℕ} (e : n ≡ lengthUsed rs) where
   whole-no : n ≡ 0 → hasEnd rs ≡ false
   unfolding lengthUsed
@@ -117,6 +106,15 @@ heading-is bs {r} er eroute eu eg en =
     let f : r ≡ first (records bs) = er ∙ sym (first-next bs) in
     rw (eroute ∙ ap routeIn f, eu ∙ ap unknownsIn f, eg ∙ ap givensIn f, en)
 
+module _ (rs : List Record) {h : Heading} (eh : h ≡ headingOf rs) where
+  pub heading-u : h .unknowns ≡ unknownsOf rs
+  unfolding headingOf
+  heading-u = ap (λ (x : Heading). x .unknowns) eh
+
+  pub heading-g : h .givens ≡ givensOf rs
+  unfolding headingOf
+  heading-g = ap (λ (x : Heading). x .givens) eh
+
 -- ---- refused before question 4
 pub read-refused : (bs c a : List ℕ) {q : ℕ} → q ≡ firstNo (entryQuestions (records bs)) → (q ≡ 0 → ⊥) → Reads bs c a (Refused q) c a
 unfolding readRefusal readQuestions
@@ -129,11 +127,11 @@ read-refused bs c a {q} e n =
     }
 
 -- ---- the verdict
-said-none : {A : Type 0} (v : Verdict A) (state : State) → said v ≡ said-variants.None state → v ≡ none state
+pub said-none : {A : Type 0} (v : Verdict A) (state : State) → said v ≡ said-variants.None state → v ≡ none state
 said-none (solved a) state e = let z : _≡_ {A = ℕ} 0 1 = (cc) in absurd (omega arith)
 said-none (none s) state e = let f : s ≡ state = (cc) in ap none f
 
-said-solved : {A : Type 0} (a : A) (rs : List Record) → said (unlessNone a rs) ≡ said-variants.Solved → unlessNone a rs ≡ solved a
+pub said-solved : {A : Type 0} (a : A) (rs : List Record) → said (unlessNone a rs) ≡ said-variants.Solved → unlessNone a rs ≡ solved a
 said-solved a rs e = go (unless-cases a rs)
   where
     go : (unlessNone a rs ≡ solved a) ⊎ ((state : State) × (unlessNone a rs ≡ none state)) → unlessNone a rs ≡ solved a
@@ -146,12 +144,10 @@ module _ (bs : List ℕ) (p : firstNo (entryQuestions (records bs)) ≡ 0) {h : 
   held = passes (records bs) p
 
   of-u : h .unknowns ≡ unknownsOf (records bs)
-  unfolding headingOf
-  of-u = ap (λ (x : Heading). x .unknowns) eh
+  of-u = heading-u (records bs) eh
 
   of-g : h .givens ≡ givensOf (records bs)
-  unfolding headingOf
-  of-g = ap (λ (x : Heading). x .givens) eh
+  of-g = heading-g (records bs) eh
 
   letters : lettersFit (h .unknowns) (h .givens) ≡ true
   letters = rw (of-u, of-g) (held .letters)

@@ -84,6 +84,12 @@ are-bits [] e i = omega arith
 are-bits (b ∷ t) e zero = omega (arith, leb-true b 1 (both-left (leb b 1) (areBits t) e))
 are-bits (b ∷ t) e (suc i) = are-bits t (both-right (leb b 1) (areBits t) e) i
 
+-- and what a yes to it needs
+pub bits-are : (t : List ℕ) → AreBits t → areBits t ≡ true
+unfolding areBits
+bits-are [] h = refl
+bits-are (b ∷ t) h = both-true (leb b 1) (areBits t) (le-leb b 1 (omega (arith, h 0))) (bits-are t (λ i. h (suc i)))
+
 -- a part of bytes that are 0 or 1
 pub bits-drop : (k : ℕ) (t : List ℕ) → AreBits t → AreBits (drop k t)
 bits-drop k t bits i = rw (getD-drop k t i 0) (bits (k + i))

@@ -4,3 +4,6 @@ pub mod Steps
 pub mod Parts
 pub mod Questions
 pub mod Reply
+pub mod FirstNo
+pub mod Put
+pub mod Slices

@@ -1,3 +1,4 @@
 pub mod Questions
 pub mod Reply
 pub mod Steps
+pub mod Put

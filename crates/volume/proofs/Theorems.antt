@@ -11,26 +11,24 @@ use native.Mathlib.Nat.{not-suc-le-zero, zero-add}
 use native.Mathlib.Omega.{arith}
 use lib.Dec.{eqb, leb}
 use lib.ListN.{length, drop, length-drop, length-append, take-append-drop, drop-of-length-le}
-use lib.Seq.{getD-drop, drop-at}
+use lib.Seq.{drop-at}
 use borrow.Author.Tests.{eqb-true, leb-true, ltb-true, lt-ltb}
 use Rattle.order.proofs.Lists.{and-left, bool-cases, or-right}
 use Rattle.tables.specs.Questions.{firstNo}
 use Rattle.tables.specs.Reply.{Reply, accepted, refused}
 use Rattle.entry.specs.Record.{AreBytes, bytes}
-use Rattle.entry.specs.Entry.{entry, entryRecords}
+use Rattle.entry.specs.Entry.{entry, entryRecords, Archivable}
 use Rattle.entry.specs.Held.{records, routeOf, unknownsOf, givensOf, heldCondition}
 use Rattle.entry.specs.Questions.{routeFits, auditQuestions}
+use Rattle.entry.proofs.Bytes.{drop-bytes}
 use Rattle.entry.proofs.Theorems.{ReadsBack, reads-back, entry-audited}
-use Rattle.audit.specs.Audit.{auditRefusal, Archivable}
+use Rattle.audit.specs.Audit.{auditRefusal}
 use Rattle.audit.proofs.Theorems.{passed-archivable, passed-entry}
 use Rattle.volume.specs.Volume.{Entries, no-entry, one-more, IsVolume}
 use Rattle.volume.specs.Walk.{routeRises, walkRefusal, atEntry, walkBehind, walkReply, Ends, at-end, refused-at, Walks}
 use Rattle.volume.proofs.Walking.{then-15, passed-audit, passed-15, passed-some, walk-end, walk-on}
 
 -- ---- from the answer to the entries
-drop-bytes : (k : ℕ) (bs : List ℕ) → AreBytes bs → AreBytes (drop k bs)
-drop-bytes k bs w i = rw (getD-drop k bs i 0) (w (k + i))
-
 -- a route that passes 2 and 15 is above the one before, or above 0
 above : (before route : ℕ) → routeFits route ≡ true → routeRises before route ≡ true → before < route
 unfolding routeFits routeRises

@@ -10,11 +10,12 @@ use lib.ListN.{length, drop, length-drop, drop-of-length-le}
 use lib.Seq.{drop-drop}
 use Rattle.tables.specs.Questions.{firstNo}
 use Rattle.tables.specs.Reply.{Reply, accepted, refused, reply}
+use Rattle.tables.proofs.FirstNo.{first-counts}
 use Rattle.tables.proofs.Reply.{reply-refused, reply-accepted}
 use Rattle.entry.specs.Record.{bytes}
 use Rattle.entry.specs.Held.{records, routeOf}
 use Rattle.entry.specs.Questions.{auditQuestions}
-use Rattle.entry.proofs.Passes.{first-counts}
+use Rattle.entry.proofs.Records.{used-fits}
 use Rattle.reader.specs.declared.Heading.{Heading}
 use Rattle.reader.specs.declared.Said.{Said}
 use Rattle.reader.specs.Reading.{readValues}
@@ -23,7 +24,7 @@ use Rattle.audit.specs.declared.Audited.the-variants.{Passed, Refused}
 use Rattle.audit.specs.Audit.{auditRefusal, auditReply, audited, stateSaid}
 use Rattle.audit.proofs.Passing.{accepted-is, refused-is}
 use Rattle.volume.specs.Walk.{routeRises, walkQuestions, walkRefusal, atEntry, walkBehind, walkReply}
-use Rattle.volume.proofs.Walking.{then-15, passed-some, used-fits, walk-end, walk-on}
+use Rattle.volume.proofs.Walking.{then-15, passed-some, walk-end, walk-on}
 
 -- what the code finds at an entry
 abbrev pub walkedAt : ℕ → List ℕ → Reply

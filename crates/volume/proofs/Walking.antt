@@ -4,56 +4,20 @@
 use mathlib.Core.Path.{_≡_, refl, sym, ap, _∙_}
 use mathlib.Core.Bool.{Bool, true, false, cond}
 use mathlib.Core.List.{List, [], _∷_, append-assoc}
-use Prim.Native.Nat.{ℕ, zero, suc, _+_, _≤_, _<_}
+use Prim.Native.Nat.{ℕ, zero, suc, _≤_, _<_}
 use native.Mathlib.Nat.{not-suc-le-zero}
 use native.Mathlib.Omega.{arith}
 use lib.ListN.{length, drop, length-drop}
-use Rattle.order.proofs.Lists.{never}
 use Rattle.tables.specs.Questions.{asks, firstNo}
 use Rattle.tables.specs.Reply.{Reply, accepted}
+use Rattle.tables.proofs.FirstNo.{asked-before}
 use Rattle.entry.specs.declared.Record.{Record}
-use Rattle.entry.specs.declared.Record.the-variants.{Start, Condition, Answer, End, None, Broken}
-use Rattle.entry.specs.Record.{bytes, size}
-use Rattle.entry.specs.Held.{next, untilEnd, firstRecords, records, routeOf}
-use Rattle.entry.specs.Questions.{hasEnd, entryQuestions, answersHold, auditQuestions}
-use Rattle.entry.proofs.Records.{size-fits}
-use Rattle.entry.proofs.Passes.{passes, then-asked, asked-before}
+use Rattle.entry.specs.Record.{bytes}
+use Rattle.entry.specs.Held.{records, routeOf}
+use Rattle.entry.specs.Questions.{entryQuestions, answersHold, auditQuestions}
+use Rattle.entry.proofs.Records.{some-bytes}
+use Rattle.entry.proofs.Passes.{passes, then-asked}
 use Rattle.volume.specs.Walk.{routeRises, walkQuestions, walkRefusal, atEntry, walkAtMost, walkBehind}
-
--- ---- the length used
-until-length : (r : Record) (rs : List Record) → length (bytes (untilEnd r rs)) ≤ size r + length (bytes rs)
-unfolding bytes
-until-length (Start route U G) rs = omega arith
-until-length (Condition m) rs = omega arith
-until-length (Answer j m) rs = omega arith
-until-length (End route) rs = omega arith
-until-length (None state) rs = omega arith
-until-length Broken rs = omega arith
-
-first-length : (k : ℕ) (bs : List ℕ) → length (bytes (firstRecords k bs)) ≤ length bs
-unfolding firstRecords bytes
-first-length zero bs = omega arith
-first-length (suc k) bs =
-    let rs : List Record = firstRecords k (drop (size (next bs)) bs) in
-    let u : length (bytes (untilEnd (next bs) rs)) ≤ size (next bs) + length (bytes rs) = until-length (next bs) rs in
-    let l : length (bytes rs) ≤ length (drop (size (next bs)) bs) = first-length k (drop (size (next bs)) bs) in
-    omega (arith, size-fits bs, length-drop (size (next bs)) bs)
-
--- it is within the bytes
-pub used-fits : (bs : List ℕ) → length (bytes (records bs)) ≤ length bs
-unfolding records
-used-fits bs = first-length (length bs) bs
-
--- an end has bytes
-some-bytes : (rs : List Record) → hasEnd rs ≡ true → 0 < length (bytes rs)
-unfolding hasEnd bytes
-some-bytes [] h = never h refl
-some-bytes (Start route U G ∷ rs) h = omega arith
-some-bytes (Condition m ∷ rs) h = omega arith
-some-bytes (Answer j m ∷ rs) h = omega arith
-some-bytes (End route ∷ rs) h = omega arith
-some-bytes (None state ∷ rs) h = omega arith
-some-bytes (Broken ∷ rs) h = some-bytes rs h
 
 -- ---- the questions
 -- behind the audit's, 15 is put where these are all answered yes

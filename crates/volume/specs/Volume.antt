@@ -2,8 +2,7 @@
 -- Assumes nothing.
 use mathlib.Core.List.{List, [], _++_}
 use Prim.Native.Nat.{ℕ, suc, _<_}
-use Rattle.entry.specs.Entry.{entry}
-use Rattle.audit.specs.Audit.{Archivable}
+use Rattle.entry.specs.Entry.{entry, Archivable}
 
 -- the bytes are so many entries end to end, each as the writer makes it, with rising routes above `before`, the last of them `last`
 pub data Entries : ℕ → ℕ → ℕ → List ℕ → Type 0 where

@@ -1,9 +1,9 @@
 -- The writer's questions, one after another, and the ways out: refused by 1, 2, 4 or 8, or by 14, or done.
 -- Assumes nothing.
 use mathlib.Core.Path.{_≡_, refl, sym, _∙_}
-use mathlib.Core.Bool.{Bool, true, false, cond}
+use mathlib.Core.Bool.{true, false}
 use mathlib.Core.List.{List, [], _∷_, _++_}
-use Prim.Native.Nat.{ℕ, suc, _+_, _^_, _≤_, _<_}
+use Prim.Native.Nat.{ℕ, _+_, _^_, _≤_, _<_}
 use native.Mathlib.Omega.{arith}
 use lib.Dec.{leb}
 use lib.ListN.{length, take, drop}
@@ -12,11 +12,11 @@ use borrow.Author.Tests.{le-leb, lt-leb, leb-true}
 use Rattle.tables.specs.Questions.{asks, firstNo, lettersFit, hasRoom, holdsBits}
 use Rattle.tables.specs.Reply.{reply, after}
 use Rattle.tables.proofs.Bits.{both-left, both-right, are-bits}
+use Rattle.tables.proofs.FirstNo.{yes-to, first-counts}
 use Rattle.tables.proofs.Questions.{letters-small, unknowns-small}
 use Rattle.tables.proofs.Reply.{reply-refused, reply-accepted, after-refused, after-done}
 use Rattle.entry.specs.Entry.{entry}
 use Rattle.entry.specs.Questions.{routeFits}
-use Rattle.entry.proofs.Passes.{first-counts}
 use Rattle.writer.specs.declared.Written.{Written}
 use Rattle.writer.specs.declared.Written.the-variants.{Done, Refused}
 use Rattle.writer.specs.Writing.{archived, outputFits, writeQuestions, writeRefusal, written}
@@ -47,10 +47,6 @@ module _ (route U G : ℕ) (t : List ℕ) where
         unfolding tableRefusal tableQuestions firstNo hasRoom
         not-refused e = rw (l, f, ← ek, le-leb k (length t) h, e)
 
-  yes : (b : Bool) (x q : ℕ) → cond b x (suc q) ≡ 0 → (b ≡ true) × (x ≡ 0)
-  yes true x q e = (refl, e)
-  yes false x q e = absurd (omega arith)
-
   -- what it means that none of them is answered no
   pub record Fine : Type 0 where
     pub letters : lettersFit U G ≡ true
@@ -61,10 +57,10 @@ module _ (route U G : ℕ) (t : List ℕ) where
   pub fine : tableRefusal route U G t ≡ 0 → Fine
   unfolding tableRefusal tableQuestions firstNo hasRoom
   fine e =
-      let a = yes (lettersFit U G) _ 0 e in
-      let b = yes (routeFits route) _ 1 (a .1) in
-      let c = yes (leb (2 ^ (U + G)) (length t)) _ 3 (b .1) in
-      let d = yes (holdsBits (2 ^ (U + G)) t) _ 7 (c .1) in
+      let a = yes-to (lettersFit U G) _ 0 e in
+      let b = yes-to (routeFits route) _ 1 (a .1) in
+      let c = yes-to (leb (2 ^ (U + G)) (length t)) _ 3 (b .1) in
+      let d = yes-to (holdsBits (2 ^ (U + G)) t) _ 7 (c .1) in
       record { letters = a .0; route-fits = b .0; room = leb-true _ _ (c .0); bits = d .0 }
 
   module _ {q : ℕ} (e : q ≡ tableRefusal route U G t) (z : q ≡ 0) where

@@ -1,4 +1,4 @@
-pub mod Puts
+pub mod Monomials
 pub mod Parts
 pub mod Asked
 pub mod Theorems

@@ -13,6 +13,8 @@ use lib.ListN.{length, getD, take, drop, length-append, length-drop}
 use lib.Seq.{length-take-le, getD-take, getD-drop, take-at}
 use Rattle.ring.specs.declared.State.{State}
 use Rattle.ring.specs.Table.{present, held}
+use Rattle.tables.specs.Put.{Put}
+use Rattle.tables.proofs.Put.{put-length, put-both, put-same, put-none}
 use Rattle.order.specs.Order.{monomials, order}
 use Rattle.order.proofs.Order.{monomials-same, length-order}
 use Rattle.solution.specs.Elimination.{solved, none, defaultOrder, solve}
@@ -26,8 +28,7 @@ use Rattle.entry.specs.Entry.{conditionRecords, answerRecords, verdictRecords, 
 use Rattle.entry.proofs.Back.{bytes-append}
 use Rattle.entry.proofs.Bound.{length-bytes, entry-most}
 use Rattle.entry.proofs.Verdicts.{VerdictFits, solve-fits}
-use Rattle.writer.specs.Steps.{Put, monomialRecord, tableRecords, Ready}
-use Rattle.writer.proofs.Puts.{put-then, put-nothing, put-as, put-length}
+use Rattle.writer.specs.Steps.{monomialRecord, tableRecords, Ready}
 
 -- ---- the records of a table are those of the condition, or of an unknown's answer
 condition-records : (ms : List ℕ) → map (monomialRecord 0) ms ≡ map record-variants.Condition ms
@@ -84,11 +85,11 @@ pub record Answering (u n : ℕ) (a old : List ℕ) (from j at : ℕ) (new : Lis
   pub turn : j ≤ u
   pub long : length new ≡ length old
   pub room : from + length (bytes (answerRecords u n a)) ≤ length old
-  pub put : Put from old (bytes (answerRecords j n a)) at new
+  pub put : Put old from (bytes (answerRecords j n a)) at new
 
 pub answering-start : (u n : ℕ) (a old : List ℕ) (from : ℕ) → from + length (bytes (answerRecords u n a)) ≤ length old → Answering u n a old from 0 from old
 unfolding answerRecords bytes
-answering-start u n a old from r = record { turn = omega arith; long = refl; room = r; put = put-nothing }
+answering-start u n a old from r = record { turn = omega arith; long = refl; room = r; put = put-none old from (omega arith) }
 
 module _ {u n : ℕ} {a old : List ℕ} {from j at : ℕ} {new : List ℕ} (w : Answering u n a old from j at new) where
   module _ (l : j < u) {k : ℕ} (ek : k ≡ 2 ^ n) where
@@ -96,19 +97,19 @@ module _ {u n : ℕ} {a old : List ℕ} {from j at : ℕ} {new : List ℕ} (w : 
     unfolding part
     answer-fits =
         let e = ap length (answers-next j n k a ek) ∙ length-append (bytes (answerRecords j n a)) (bytes (tableRecords (j + 1) n (present (part j k a)))) in
-        omega (arith, w .put .next, w .room, w .long, answers-grow (j + 1) u n a (omega arith))
+        omega (arith, w .put .place, w .room, w .long, answers-grow (j + 1) u n a (omega arith))
 
-    pub answering-more : {at′ : ℕ} {new′ : List ℕ} → Put at new (bytes (tableRecords (j + 1) n (present (take (j * k + k - j * k) (drop (j * k) a))))) at′ new′ → Answering u n a old from (j + 1) at′ new′
+    pub answering-more : {at′ : ℕ} {new′ : List ℕ} → Put new at (bytes (tableRecords (j + 1) n (present (take (j * k + k - j * k) (drop (j * k) a))))) at′ new′ → Answering u n a old from (j + 1) at′ new′
     unfolding part
     answering-more q =
         record {
           turn = omega arith;
           long = put-length q ∙ w .long;
           room = w .room;
-          put = rw (answers-next j n k a ek) (put-then (w .put) q);
+          put = rw (answers-next j n k a ek) (put-both (w .put) q);
         }
 
-  pub answering-end : u ≤ j → Put from old (bytes (answerRecords u n a)) at new
+  pub answering-end : u ≤ j → Put old from (bytes (answerRecords u n a)) at new
   answering-end l = let e : j ≡ u = omega (arith, w .turn) in rw (← e) (w .put)
 
 -- the part of an unknown lies within the answers
@@ -143,7 +144,7 @@ module _ (U G : ℕ) (t : List ℕ) (v : Verdict) (a : List ℕ) (e : verdict v 
   unfolding verdictRecords
   solved-room from size s r = rw (is-solved s) at r
 
-  pub solved-put : {from r : ℕ} {old new : List ℕ} → v ≡ Solved → Put from old (bytes (answerRecords U (U + G) a)) r new → Put from old (bytes (verdictRecords U (U + G) (solve U G (defaultOrder U) t))) r new
+  pub solved-put : {from r : ℕ} {old new : List ℕ} → v ≡ Solved → Put old from (bytes (answerRecords U (U + G) a)) r new → Put old from (bytes (verdictRecords U (U + G) (solve U G (defaultOrder U) t))) r new
   unfolding verdictRecords
   solved-put s p = rw (is-solved s) p
 
@@ -151,7 +152,7 @@ module _ (U G : ℕ) (t : List ℕ) (v : Verdict) (a : List ℕ) (e : verdict v 
   unfolding verdictRecords bytes
   none-room from size s r = rw (is-none s) at r
 
-  pub none-put : {state : State} {from r : ℕ} {old new : List ℕ} → v ≡ None state → Put from old (5 ∷ state .0 ∷ []) r new → Put from old (bytes (verdictRecords U (U + G) (solve U G (defaultOrder U) t))) r new
+  pub none-put : {state : State} {from r : ℕ} {old new : List ℕ} → v ≡ None state → Put old from (5 ∷ state .0 ∷ []) r new → Put old from (bytes (verdictRecords U (U + G) (solve U G (defaultOrder U) t))) r new
   unfolding verdictRecords bytes
   none-put s p = rw (is-none s) p
 
@@ -176,9 +177,9 @@ module _ (route U G : ℕ) (t : List ℕ) where
       let e = ap length entry-parts in
       omega (arith, e, length-append (bytes (tableRecords 0 (U + G) (present t))) (bytes (verdictRecords U (U + G) (solve U G (defaultOrder U) t)) ++ (4 ∷ route ∷ [])), length-append (bytes (verdictRecords U (U + G) (solve U G (defaultOrder U) t))) (4 ∷ route ∷ []))
 
-  pub entry-put : {l₀ l₁ l₂ l₃ l₄ : List ℕ} {a b c r : ℕ} → Put 0 l₀ (1 ∷ route ∷ U ∷ G ∷ []) a l₁ → Put a l₁ (bytes (tableRecords 0 (U + G) (present t))) b l₂
-      → Put b l₂ (bytes (verdictRecords U (U + G) (solve U G (defaultOrder U) t))) c l₃ → Put c l₃ (4 ∷ route ∷ []) r l₄ → Put 0 l₀ (entry route U G t) r l₄
-  entry-put p q s z = put-as (sym entry-parts) (put-then p (put-then q (put-then s z)))
+  pub entry-put : {l₀ l₁ l₂ l₃ l₄ : List ℕ} {a b c r : ℕ} → Put l₀ 0 (1 ∷ route ∷ U ∷ G ∷ []) a l₁ → Put l₁ a (bytes (tableRecords 0 (U + G) (present t))) b l₂
+      → Put l₂ b (bytes (verdictRecords U (U + G) (solve U G (defaultOrder U) t))) c l₃ → Put l₃ c (4 ∷ route ∷ []) r l₄ → Put l₀ 0 (entry route U G t) r l₄
+  entry-put p q s z = put-same (put-both p (put-both q (put-both s z))) (sym entry-parts)
 
 -- 'No entry exceeds 27,654 bytes'
 pub ready-bound : (route U G : ℕ) (t : List ℕ) → Ready U G t → length (entry route U G t) ≤ 27654

@@ -7,11 +7,11 @@ use lib.ListN.{length, take}
 use Rattle.ring.specs.Table.{present}
 use Rattle.tables.specs.Questions.{firstNo, asks}
 use Rattle.tables.specs.Reply.{after}
+use Rattle.tables.proofs.FirstNo.{asked-before}
 use Rattle.solution.specs.Elimination.{defaultOrder}
 use Rattle.solution.specs.General.{RightVerdict}
 use Rattle.entry.specs.Held.{records, says}
 use Rattle.entry.specs.Questions.{auditQuestions}
-use Rattle.entry.proofs.Passes.{asked-before}
 use Rattle.entry.proofs.Theorems.{ReadsBack, reads-back, entry-audited, entry-right}
 use Rattle.writer.specs.Writing.{archived, outputFits, writeQuestions, writeRefusal}
 use Rattle.writer.specs.Steps.{Ready, tableQuestions, tableRefusal}

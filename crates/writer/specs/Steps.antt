@@ -5,7 +5,6 @@ use mathlib.Core.Bool.{cond}
 use mathlib.Core.List.{List, [], _∷_, map}
 use Prim.Native.Nat.{ℕ, zero, suc, _+_, _^_, _≤_}
 use lib.ListN.{length}
-use lib.Seq.{sets}
 use Rattle.ring.specs.Polynomial.{Polynomial}
 use Rattle.ring.specs.Table.{IsTable, present}
 use Rattle.tables.specs.Questions.{Asked, asks, firstNo, lettersFit, hasRoom, holdsBits}
@@ -17,11 +16,6 @@ use Rattle.entry.specs.Record.{recordBytes}
 use Rattle.entry.specs.Questions.{routeFits}
 use Rattle.writer.specs.declared.Written.{Written}
 use Rattle.writer.specs.Writing.{written, outputFits}
-
--- the bytes vs stand in `new` from `at` on, where `old` was, and r is the place behind them
-pub record Put (at : ℕ) (old vs : List ℕ) (r : ℕ) (new : List ℕ) : Type 0 where
-  pub next : r ≡ at + length vs
-  pub stored : new ≡ sets old at vs
 
 -- the record of a monomial of table i: 0 the condition, j + 1 the answer for unknown j
 abbrev pub monomialRecord : ℕ → ℕ → Record

@@ -5,13 +5,14 @@ ghost use mathlib.Core.List.{[], _∷_};
 ghost use Prim.Native.Nat.{_+_, _*_, _^_, _≤_, _<_};
 ghost use lib.ListN.{length};
 ghost use Rattle.ring.specs.Table.{present};
+ghost use Rattle.tables.specs.Put.{Put};
 ghost use Rattle.tables.specs.Reply.{reply, after};
 ghost use Rattle.order.specs.Order.{order};
 ghost use Rattle.solution.specs.Elimination.{defaultOrder, solve};
 ghost use Rattle.entry.specs.Record.{bytes};
 ghost use Rattle.entry.specs.Entry.{answerRecords, verdictRecords, entry};
 ghost use Rattle.writer.specs.Writing.{archived, writeRefusal, written};
-ghost use Rattle.writer.specs.Steps.{tableRefusal, tableRecords, monomialBytes, Put, Ready, HandsOut};
+ghost use Rattle.writer.specs.Steps.{tableRefusal, tableRecords, monomialBytes, Ready, HandsOut};
 use solver::Verdict;
 
 // What writing answers: the entry's length, or the number of the first no.
@@ -22,7 +23,7 @@ pub enum Written {
 
 fn put2(out: &mut [u8], at: usize, a: u8, b: u8) -> usize
     requires { ⌜ at + 2 ≤ length (now out) ⌝ }
-    ensures { λ r. ⌜ Put at (now (out .entry)) (a ∷ b ∷ []) r (now (out .exit)) ⌝ }
+    ensures { λ r. ⌜ Put (now (out .entry)) at (a ∷ b ∷ []) r (now (out .exit)) ⌝ }
 {
     out[at] = a;
     out[at + 1] = b;
@@ -31,7 +32,7 @@ fn put2(out: &mut [u8], at: usize, a: u8, b: u8) -> usize
 
 fn put3(out: &mut [u8], at: usize, a: u8, b: u8, c: u8) -> usize
     requires { ⌜ at + 3 ≤ length (now out) ⌝ }
-    ensures { λ r. ⌜ Put at (now (out .entry)) (a ∷ b ∷ c ∷ []) r (now (out .exit)) ⌝ }
+    ensures { λ r. ⌜ Put (now (out .entry)) at (a ∷ b ∷ c ∷ []) r (now (out .exit)) ⌝ }
 {
     out[at] = a;
     out[at + 1] = b;
@@ -41,7 +42,7 @@ fn put3(out: &mut [u8], at: usize, a: u8, b: u8, c: u8) -> usize
 
 fn put4(out: &mut [u8], at: usize, a: u8, b: u8, c: u8, d: u8) -> usize
     requires { ⌜ at + 4 ≤ length (now out) ⌝ }
-    ensures { λ r. ⌜ Put at (now (out .entry)) (a ∷ b ∷ c ∷ d ∷ []) r (now (out .exit)) ⌝ }
+    ensures { λ r. ⌜ Put (now (out .entry)) at (a ∷ b ∷ c ∷ d ∷ []) r (now (out .exit)) ⌝ }
 {
     out[at] = a;
     out[at + 1] = b;
@@ -53,7 +54,7 @@ fn put4(out: &mut [u8], at: usize, a: u8, b: u8, c: u8, d: u8) -> usize
 // The record of monomial m, if it is present, for table i: 0 the condition, j + 1 the answer for unknown j.
 fn put_monomial(i: usize, t: &[u8], m: usize, out: &mut [u8], at: usize) -> usize
     requires { ⌜ (i ≤ 6) × (m < length (now t)) × (m < 1024) × (at + length (monomialBytes i (now t) m) ≤ length (now out)) ⌝ }
-    ensures { λ r. ⌜ Put at (now (out .entry)) (monomialBytes i (now (t .entry)) m) r (now (out .exit)) ⌝ }
+    ensures { λ r. ⌜ Put (now (out .entry)) at (monomialBytes i (now (t .entry)) m) r (now (out .exit)) ⌝ }
 {
     if t[m] != 1 {
         return at;
@@ -75,7 +76,7 @@ fn wide(x: u16) -> usize
 // The monomials of a table, in written order: `masks` has those for n letters.
 fn put_table(i: usize, n: usize, t: &[u8], masks: &[u16], out: &mut [u8], from: usize) -> usize
     requires { ⌜ (i ≤ 6) × (n ≤ 10) × (length (now t) ≡ 2 ^ n) × (now masks ≡ order n) × (from + length (bytes (tableRecords i n (present (now t)))) ≤ length (now out)) ⌝ }
-    ensures { λ r. ⌜ Put from (now (out .entry)) (bytes (tableRecords i n (present (now (t .entry))))) r (now (out .exit)) ⌝ }
+    ensures { λ r. ⌜ Put (now (out .entry)) from (bytes (tableRecords i n (present (now (t .entry))))) r (now (out .exit)) ⌝ }
 {
     let mut at = from;
     for p in 0..masks.len() {
@@ -94,7 +95,7 @@ fn put_answers(
     from: usize,
 ) -> usize
     requires { ⌜ (u ≤ 6) × (n ≤ 10) × (length (now answers) ≡ u * 2 ^ n) × (now masks ≡ order n) × (from + length (bytes (answerRecords u n (now answers))) ≤ length (now out)) ⌝ }
-    ensures { λ r. ⌜ Put from (now (out .entry)) (bytes (answerRecords u n (now (answers .entry)))) r (now (out .exit)) ⌝ }
+    ensures { λ r. ⌜ Put (now (out .entry)) from (bytes (answerRecords u n (now (answers .entry)))) r (now (out .exit)) ⌝ }
 {
     let k = tables::pow2(n);
     let mut at = from;
@@ -117,7 +118,7 @@ fn put_verdict(
     from: usize,
 ) -> usize
     requires { ⌜ Ready u g (now condition) × (length (now answers) ≡ u * 2 ^ (u + g)) × (now masks ≡ order (u + g)) × (from + length (bytes (verdictRecords u (u + g) (solve u g (defaultOrder u) (now condition)))) ≤ length (now out)) ⌝ }
-    ensures { λ r. ⌜ Put from (now (out .entry)) (bytes (verdictRecords u (u + g) (solve u g (defaultOrder u) (now (condition .entry))))) r (now (out .exit)) ⌝ }
+    ensures { λ r. ⌜ Put (now (out .entry)) from (bytes (verdictRecords u (u + g) (solve u g (defaultOrder u) (now (condition .entry))))) r (now (out .exit)) ⌝ }
 {
     match solver::solve(u, g, condition, answers) {
         Verdict::Solved => put_answers(u, u + g, answers, masks, out, from),
@@ -134,7 +135,7 @@ fn put_solved(
     from: usize,
 ) -> usize
     requires { ⌜ Ready u g (now condition) × (now masks ≡ order (u + g)) × (from + length (bytes (verdictRecords u (u + g) (solve u g (defaultOrder u) (now condition)))) ≤ length (now out)) ⌝ }
-    ensures { λ r. ⌜ Put from (now (out .entry)) (bytes (verdictRecords u (u + g) (solve u g (defaultOrder u) (now (condition .entry))))) r (now (out .exit)) ⌝ }
+    ensures { λ r. ⌜ Put (now (out .entry)) from (bytes (verdictRecords u (u + g) (solve u g (defaultOrder u) (now (condition .entry))))) r (now (out .exit)) ⌝ }
 {
     let size = u * tables::pow2(u + g);
     let mut answers = [0u8; 6144];
@@ -144,7 +145,7 @@ fn put_solved(
 // The entry, at the start of `out`.
 fn compose(route: u8, u: usize, g: usize, condition: &[u8], masks: &[u16], out: &mut [u8]) -> usize
     requires { ⌜ Ready u g (now condition) × (now masks ≡ order (u + g)) × (length (entry route u g (now condition)) ≤ length (now out)) ⌝ }
-    ensures { λ r. ⌜ Put 0 (now (out .entry)) (entry route u g (now (condition .entry))) r (now (out .exit)) ⌝ }
+    ensures { λ r. ⌜ Put (now (out .entry)) 0 (entry route u g (now (condition .entry))) r (now (out .exit)) ⌝ }
 {
     let started = put4(out, 0, 1, route, u as u8, g as u8);
     let told = put_table(0, u + g, condition, masks, out, started);
@@ -155,7 +156,7 @@ fn compose(route: u8, u: usize, g: usize, condition: &[u8], masks: &[u16], out: 
 // The same, with the written order worked out.
 fn compose_ordered(route: u8, u: usize, g: usize, condition: &[u8], out: &mut [u8]) -> usize
     requires { ⌜ Ready u g (now condition) × (length (entry route u g (now condition)) ≤ length (now out)) ⌝ }
-    ensures { λ r. ⌜ Put 0 (now (out .entry)) (entry route u g (now (condition .entry))) r (now (out .exit)) ⌝ }
+    ensures { λ r. ⌜ Put (now (out .entry)) 0 (entry route u g (now (condition .entry))) r (now (out .exit)) ⌝ }
 {
     let k = tables::pow2(u + g);
     let mut masks = [0u16; 1024];

@@ -1,10 +1,7 @@
 -- What is left of the bytes is all that stands from there on. Assumes nothing.
-use native.Mathlib.Omega.{arith}
-use Prim.Native.Nat.{_-_}
-use mathlib.Core.Path.{_∙_, ap}
-use lib.ListN.{length, drop, length-drop}
-use lib.Seq.{take-all}
+use mathlib.Core.Path.{ap, _∙_}
 use borrow.Author.Needs.{needs}
+use Rattle.tables.proofs.Slices.{rest-of}
 use Rattle.entry.specs.Held.{next}
 use Rattle.reader.proofs.record_at.Statement.{statement}
 use Rattle.reader.proofs.record_at.Tie as tie
@@ -12,7 +9,7 @@ use Rattle.reader.proofs.record_at.Tie as tie
 returns : tie.Need-returns
 returns c =
     let a = c .before .before .before .args in
-    c .decode .ensures ∙ ap next (take-all (length (a .s .now) - a .at) (drop (a .at) (a .s .now)) (omega (arith, length-drop (a .at) (a .s .now))))
+    c .decode .ensures ∙ ap next (rest-of (a .at) (a .s .now))
 
 pub record-at-spec : {M : Type 1} → statement M
 record-at-spec =

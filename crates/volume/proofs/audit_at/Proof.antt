@@ -1,11 +1,9 @@
 -- What is left of the volume is all that stands from the place on; the audit's answer there, then 15. Assumes nothing.
 use mathlib.Core.Path.{_≡_, ap, _∙_}
-use Prim.Native.Nat.{_-_}
-use native.Mathlib.Omega.{arith}
-use lib.ListN.{length, drop, length-drop}
-use lib.Seq.{take-all}
+use lib.ListN.{drop}
 use borrow.Author.Needs.{needs}
 use Rattle.tables.proofs.Questions.{failed, passed}
+use Rattle.tables.proofs.Slices.{rest-of}
 use Rattle.audit.specs.Audit.{auditReply, audited}
 use Rattle.volume.proofs.Turns.{refused-first, refused-15, passed-all}
 use Rattle.volume.proofs.audit_at.Statement.{statement}
@@ -15,7 +13,7 @@ use Rattle.volume.proofs.audit_at.Tie as tie
 answer : (c : tie.After-audit) → audited (c .audit .result) ≡ auditReply (drop (c .before .before .before .args .at) (c .before .before .before .args .volume .now))
 answer c =
     let a = c .before .before .before .args in
-    c .audit .ensures ∙ ap auditReply (take-all (length (a .volume .now) - a .at) (drop (a .at) (a .volume .now)) (omega (arith, length-drop (a .at) (a .volume .now))))
+    c .audit .ensures ∙ ap auditReply (rest-of (a .at) (a .volume .now))
 
 returns : tie.Need-returns
 returns c =

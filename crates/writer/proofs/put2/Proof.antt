@@ -2,7 +2,7 @@
 use native.Mathlib.Omega.{arith}
 use lib.ListN.{length-set}
 use borrow.Author.Needs.{needs}
-use Rattle.writer.proofs.Puts.{stored-2}
+use Rattle.tables.proofs.Put.{put-two}
 use Rattle.writer.proofs.put2.Statement.{statement}
 use Rattle.writer.proofs.put2.Tie as tie
 
@@ -15,4 +15,4 @@ put2-spec =
     (λ c. simp length-set (omega arith))
     (λ c. search needs)
     (λ c. simp length-set)
-    (λ c. stored-2 _ _ _ _))
+    (λ c. put-two _ _ _ _ (omega arith)))

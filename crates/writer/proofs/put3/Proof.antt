@@ -2,7 +2,7 @@
 use native.Mathlib.Omega.{arith}
 use lib.ListN.{length-set}
 use borrow.Author.Needs.{needs}
-use Rattle.writer.proofs.Puts.{stored-3}
+use Rattle.tables.proofs.Put.{put-three}
 use Rattle.writer.proofs.put3.Statement.{statement}
 use Rattle.writer.proofs.put3.Tie as tie
 
@@ -17,4 +17,4 @@ put3-spec =
     (λ c. simp length-set (omega arith))
     (λ c. search needs)
     (λ c. simp length-set)
-    (λ c. stored-3 _ _ _ _ _))
+    (λ c. put-three _ _ _ _ _ (omega arith)))

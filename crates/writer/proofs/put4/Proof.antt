@@ -2,7 +2,7 @@
 use native.Mathlib.Omega.{arith}
 use lib.ListN.{length-set}
 use borrow.Author.Needs.{needs}
-use Rattle.writer.proofs.Puts.{stored-4}
+use Rattle.tables.proofs.Put.{put-four}
 use Rattle.writer.proofs.put4.Statement.{statement}
 use Rattle.writer.proofs.put4.Tie as tie
 
@@ -19,4 +19,4 @@ put4-spec =
     (λ c. simp length-set (omega arith))
     (λ c. search needs)
     (λ c. simp length-set)
-    (λ c. stored-4 _ _ _ _ _ _))
+    (λ c. put-four _ _ _ _ _ _ (omega arith)))

@@ -1,6 +1,6 @@
 -- Nothing, a kind 2 or a kind 3. Assumes nothing.
 use borrow.Author.Needs.{needs}
-use Rattle.writer.proofs.Puts.{monomial-none, monomial-condition, monomial-answer, condition-fits, answer-fits}
+use Rattle.writer.proofs.Monomials.{monomial-none, monomial-condition, monomial-answer, condition-fits, answer-fits}
 use Rattle.writer.proofs.put_monomial.Statement.{statement}
 use Rattle.writer.proofs.put_monomial.Tie as tie
 

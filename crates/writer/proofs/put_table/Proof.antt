@@ -2,7 +2,7 @@
 use Prim.Native.Nat.{_-_}
 use lib.ListN.{length}
 use borrow.Author.Needs.{needs}
-use Rattle.writer.proofs.Puts.{Putting, putting-start, mask-in-table, mask-small, record-fits, putting-more, putting-end}
+use Rattle.writer.proofs.Monomials.{Putting, putting-start, mask-in-table, mask-small, record-fits, putting-more, putting-end}
 use Rattle.writer.proofs.put_table.Statement.{statement}
 use Rattle.writer.proofs.put_table.Tie as tie
 

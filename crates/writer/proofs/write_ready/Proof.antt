@@ -5,8 +5,8 @@ use native.Mathlib.Omega.{arith}
 use lib.ListN.{length}
 use lib.Seq.{length-take-le}
 use borrow.Author.Needs.{needs}
+use Rattle.tables.proofs.Put.{put-front, put-length}
 use Rattle.entry.specs.Entry.{entry}
-use Rattle.writer.proofs.Puts.{put-front, put-length}
 use Rattle.writer.proofs.Parts.{ready-bound}
 use Rattle.writer.proofs.Asked.{hands-out-as}
 use Rattle.writer.proofs.write_ready.Statement.{statement}
@@ -19,10 +19,10 @@ bound s = omega (arith, ready-bound (s .args .route) _ _ _ (s .pre .0), s .pre .
 slice-reshare-prefix-hand-out : tie.Need-slice-reshare-prefix-hand-out
 slice-reshare-prefix-hand-out c =
     let made = c .before .before in
-    omega (arith, bound (c .before .before .before .before .before .before .before), made .compose-ordered .ensures .next, put-length (made .compose-ordered .ensures))
+    omega (arith, made .compose-ordered .ensures .inside, put-length (made .compose-ordered .ensures))
 
 returns : tie.Need-returns
-returns c = hands-out-as (put-front (c .before .before .before .before .before .before .before .compose-ordered .ensures) (bound (c .before .before .before .before .before .before .before .before .before .before .before .before))) (c .before .before .hand-out .ensures)
+returns c = hands-out-as (put-front (c .before .before .before .before .before .before .before .compose-ordered .ensures)) (c .before .before .hand-out .ensures)
 
 pub write-ready-spec : {M : Type 1} → statement M
 write-ready-spec =

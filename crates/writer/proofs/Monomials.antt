@@ -1,80 +1,39 @@
--- Bytes put one after another: a store, two puts in a row, and the records of a table in written order.
+-- What is put for a monomial, and for the monomials of a table in written order.
 -- Assumes nothing.
 use mathlib.Core.Path.{_≡_, refl, sym, ap, _∙_}
 use mathlib.Core.Bool.{Bool, true, false, cond}
 use mathlib.Core.List.{List, [], _∷_, _++_, append-nil, append-assoc, map}
 use Prim.Native.Nat.{ℕ, zero, suc, _+_, _-_, _/_, _%_, _^_, _≤_, _<_}
-use native.Mathlib.Nat.{add-zero}
 use native.Mathlib.Numerals.{add-one}
 use native.Mathlib.Omega.{arith}
 use lib.Pow.{pow-mono}
-use lib.ListN.{length, getD, set, take, drop, length-append, take-append-drop}
-use lib.Seq.{sets, length-sets, take-suc, take-all, take-append-seam, sets-eq}
+use lib.ListN.{length, getD, take, drop, length-append, take-append-drop}
+use lib.Seq.{take-suc, take-all}
 use borrow.Author.Tests.{eq-eqb, ne-eqb}
 use Rattle.ring.specs.Table.{present}
+use Rattle.tables.specs.Put.{Put}
+use Rattle.tables.proofs.Put.{put-length, put-both, put-same, put-none}
 use Rattle.order.specs.Order.{keep, order, monomials}
 use Rattle.order.proofs.Order.{length-order, order-below}
 use Rattle.entry.specs.Record.{recordBytes, bytes}
-use Rattle.writer.specs.Steps.{Put, monomialRecord, monomialBytes, tableRecords}
-
-sets-append : (l vs ws : List ℕ) (i : ℕ) → sets l i (vs ++ ws) ≡ sets (sets l i vs) (i + length vs) ws
-sets-append l [] ws i = rw add-zero
-sets-append l (v ∷ vs) ws i =
-    let e : i + suc (length vs) ≡ suc i + length vs = omega arith in
-    sets-append (set l i v) vs ws (suc i) ∙ ap (λ (k : ℕ). sets (sets (set l i v) (suc i) vs) k ws) (sym e)
-
--- one put after another
-pub put-then : {at r s : ℕ} {old vs mid ws new : List ℕ} → Put at old vs r mid → Put r mid ws s new → Put at old (vs ++ ws) s new
-put-then {at} {r} {s} {old} {vs} {mid} {ws} {new} p q =
-    record {
-      next = omega (arith, p .next, q .next, length-append vs ws);
-      stored = q .stored ∙ rw (p .stored, p .next) (sym (sets-append old vs ws at));
-    }
-
-pub put-nothing : {at : ℕ} {old : List ℕ} → Put at old [] at old
-put-nothing {at} {old} = record { next = sym (add-zero at); stored = refl }
-
-pub put-as : {at r : ℕ} {old vs ws new : List ℕ} → vs ≡ ws → Put at old vs r new → Put at old ws r new
-put-as e p = rw (← e) p
-
-pub put-length : {at r : ℕ} {old vs new : List ℕ} → Put at old vs r new → length new ≡ length old
-put-length {at} {r} {old} {vs} p = ap length (p .stored) ∙ length-sets old at vs
-
--- what stands in front, when all was put from the start
-pub put-front : {old vs new : List ℕ} {r : ℕ} → Put 0 old vs r new → length vs ≤ length old → take r new ≡ vs
-put-front {old} {vs} {new} {r} p h =
-    let e : r ≡ length vs = omega (arith, p .next) in
-    rw (e, p .stored, sets-eq vs old 0 (omega arith)) (take-append-seam vs _)
-
--- ---- stores one after another
-pub stored-2 : (l : List ℕ) (at a b : ℕ) → Put at l (a ∷ b ∷ []) (at + 2) (set (set l at a) (at + 1) b)
-stored-2 l at a b = record { next = refl; stored = rw add-one }
-
-pub stored-3 : (l : List ℕ) (at a b c : ℕ) → Put at l (a ∷ b ∷ c ∷ []) (at + 3) (set (set (set l at a) (at + 1) b) (at + 2) c)
-stored-3 l at a b c = let e : at + 2 ≡ suc (suc at) = omega arith in record { next = refl; stored = rw (add-one, e) }
-
-pub stored-4 : (l : List ℕ) (at a b c d : ℕ) → Put at l (a ∷ b ∷ c ∷ d ∷ []) (at + 4) (set (set (set (set l at a) (at + 1) b) (at + 2) c) (at + 3) d)
-stored-4 l at a b c d =
-    let e : at + 2 ≡ suc (suc at) = omega arith in
-    let f : at + 3 ≡ suc (suc (suc at)) = omega arith in
-    record { next = refl; stored = rw (add-one, e, f) }
+use Rattle.writer.specs.Steps.{monomialRecord, monomialBytes, tableRecords}
 
 -- ---- one monomial
 module _ (i : ℕ) (t : List ℕ) (m : ℕ) where
-  pub monomial-none : {at : ℕ} {l : List ℕ} → (getD t m 0 ≡ 1 → ⊥) → Put at l (monomialBytes i t m) at l
+  pub monomial-none : {at : ℕ} {l : List ℕ} → (getD t m 0 ≡ 1 → ⊥) → at + length (monomialBytes i t m) ≤ length l → Put l at (monomialBytes i t m) at l
   unfolding monomialBytes present
-  monomial-none n = rw (ne-eqb (getD t m 0) 1 n) put-nothing
+  monomial-none {at} {l} n h = rw (ne-eqb (getD t m 0) 1 n) (put-none l at (omega arith))
 
   module _ (e : getD t m 0 ≡ 1) where
-    pub monomial-condition : {at r : ℕ} {l k : List ℕ} → i ≡ 0 → Put at l (2 ∷ m % 256 ∷ m / 256 ∷ []) r k → Put at l (monomialBytes i t m) r k
+    pub monomial-condition : {at r : ℕ} {l k : List ℕ} → i ≡ 0 → Put l at (2 ∷ m % 256 ∷ m / 256 ∷ []) r k → Put l at (monomialBytes i t m) r k
     unfolding monomialBytes present
     monomial-condition z p = rw (eq-eqb (getD t m 0) 1 e, z) p
 
-    pub monomial-answer : {at r : ℕ} {l k : List ℕ} → (i ≡ 0 → ⊥) → Put at l (3 ∷ (i - 1) ∷ m % 256 ∷ m / 256 ∷ []) r k → Put at l (monomialBytes i t m) r k
+    pub monomial-answer : {at r : ℕ} {l k : List ℕ} → (i ≡ 0 → ⊥) → Put l at (3 ∷ (i - 1) ∷ m % 256 ∷ m / 256 ∷ []) r k → Put l at (monomialBytes i t m) r k
     unfolding monomialBytes present
     monomial-answer {at} {r} {l} {k} n p = rw (eq-eqb (getD t m 0) 1 e) (go i n p)
       where
-        go : (j : ℕ) → (j ≡ 0 → ⊥) → Put at l (3 ∷ (j - 1) ∷ m % 256 ∷ m / 256 ∷ []) r k → Put at l (recordBytes (monomialRecord j m)) r k
+        go : (j : ℕ) → (j ≡ 0 → ⊥) → Put l at (3 ∷ (j - 1) ∷ m % 256 ∷ m / 256 ∷ []) r k → Put l at (recordBytes (monomialRecord j m)) r k
         go zero n p = absurd (n refl)
         go (suc j) n p = let d : suc j - 1 ≡ j = omega arith in rw d at p
 
@@ -132,11 +91,11 @@ pub record Putting (i n : ℕ) (t masks old : List ℕ) (from p at : ℕ) (new :
   pub sized : length t ≡ 2 ^ n
   pub long : length new ≡ length old
   pub room : from + length (bytes (tableRecords i n (present t))) ≤ length old
-  pub put : Put from old (each (monomialBytes i t) (take p masks)) at new
+  pub put : Put old from (each (monomialBytes i t) (take p masks)) at new
 
 pub putting-start : (i n : ℕ) (t masks old : List ℕ) (from : ℕ) → masks ≡ order n → length t ≡ 2 ^ n → from + length (bytes (tableRecords i n (present t))) ≤ length old → Putting i n t masks old from 0 from old
 unfolding each
-putting-start i n t masks old from e s r = record { turn = omega arith; ordered = e; sized = s; long = refl; room = r; put = put-nothing }
+putting-start i n t masks old from e s r = record { turn = omega arith; ordered = e; sized = s; long = refl; room = r; put = put-none old from (omega arith) }
 
 module _ {i n : ℕ} {t masks old : List ℕ} {from p at : ℕ} {new : List ℕ} (w : Putting i n t masks old from p at new) where
   module _ (l : p < length masks) {m : ℕ} (em : m ≡ getD masks p 0) where
@@ -157,9 +116,9 @@ module _ {i n : ℕ} {t masks old : List ℕ} {from p at : ℕ} {new : List ℕ}
         ap length (each-next (monomialBytes i t) masks p l) ∙ length-append (each (monomialBytes i t) (take p masks)) (monomialBytes i t (getD masks p 0)) ∙ rw em in
         let f : length (each (monomialBytes i t) (take (p + 1) masks)) ≤ length (each (monomialBytes i t) masks) = each-most (monomialBytes i t) masks (p + 1) in
         let g : length (each (monomialBytes i t) masks) ≡ length (bytes (tableRecords i n (present t))) = ap (λ (x : List ℕ). length (each (monomialBytes i t) x)) (w .ordered) ∙ ap length (table-each i n t) in
-        omega (arith, w .put .next, w .room, w .long)
+        omega (arith, w .put .place, w .room, w .long)
 
-    pub putting-more : {at′ : ℕ} {new′ : List ℕ} → Put at new (monomialBytes i t m) at′ new′ → Putting i n t masks old from (p + 1) at′ new′
+    pub putting-more : {at′ : ℕ} {new′ : List ℕ} → Put new at (monomialBytes i t m) at′ new′ → Putting i n t masks old from (p + 1) at′ new′
     putting-more {at′} {new′} q =
         record {
           turn = omega arith;
@@ -167,9 +126,9 @@ module _ {i n : ℕ} {t masks old : List ℕ} {from p at : ℕ} {new : List ℕ}
           sized = w .sized;
           long = put-length q ∙ w .long;
           room = w .room;
-          put = rw (each-next (monomialBytes i t) masks p l) (put-then (w .put) (rw em at q));
+          put = rw (each-next (monomialBytes i t) masks p l) (put-both (w .put) (rw em at q));
         }
 
-  pub putting-end : length masks ≤ p → Put from old (bytes (tableRecords i n (present t))) at new
+  pub putting-end : length masks ≤ p → Put old from (bytes (tableRecords i n (present t))) at new
   putting-end l =
-      put-as (ap (each (monomialBytes i t)) (take-all p masks l ∙ w .ordered) ∙ table-each i n t) (w .put)
+      put-same (w .put) (ap (each (monomialBytes i t)) (take-all p masks l ∙ w .ordered) ∙ table-each i n t)
