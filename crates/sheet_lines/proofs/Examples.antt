@@ -1,12 +1,10 @@
--- The definitions at a few values, by computation: the sample line of document 01, numbers without leading zeros, lower-case digits, and
--- where an input's lines end.
+-- The definitions at a few values, by computation: the sample line of document 01, and where an input's lines end.
 -- Assumes nothing.
 use mathlib.Core.Path.{_≡_, refl}
 use mathlib.Core.List.{List, [], _∷_}
 use Prim.Native.Nat.{ℕ}
 use Rattle.sheet_lines.specs.declared.Line.the-variants.{Readable, Unreadable}
 use Rattle.sheet_lines.specs.Fields.{isDigit, digitsAhead, numberBehind, hasLetters, isReadable, fields, readLine}
-use Rattle.sheet_lines.specs.Print.{digitByte, decimalIn, decimal, hexadecimal, spaced, refusedLine}
 use Rattle.sheet_lines.specs.Sheet.{inFront, linesOf}
 
 -- `7 2 0 u+v`: route 7, two unknowns, no givens, the text behind the third space
@@ -23,28 +21,6 @@ empty-text = refl
 no-third-space : readLine (55 ∷ 32 ∷ 50 ∷ 32 ∷ 48 ∷ []) ≡ Unreadable
 unfolding isDigit digitsAhead numberBehind hasLetters isReadable fields readLine
 no-third-space = refl
-
-zero-printed : decimal 0 ≡ 48 ∷ []
-unfolding decimal decimalIn digitByte
-zero-printed = refl
-
-count-printed : decimal 105 ≡ 49 ∷ 48 ∷ 53 ∷ []
-unfolding decimal decimalIn digitByte
-count-printed = refl
-
--- the byte 171 is `ab`
-lower-case : hexadecimal (171 ∷ []) ≡ 97 ∷ 98 ∷ []
-unfolding hexadecimal digitByte
-lower-case = refl
-
--- `refused 15`, and `refused 13 5`
-refusal-printed : refusedLine 15 [] ≡ 114 ∷ 101 ∷ 102 ∷ 117 ∷ 115 ∷ 101 ∷ 100 ∷ 32 ∷ 49 ∷ 53 ∷ 10 ∷ []
-unfolding refusedLine spaced decimal decimalIn digitByte
-refusal-printed = refl
-
-walk-refusal-printed : refusedLine 13 (5 ∷ []) ≡ 114 ∷ 101 ∷ 102 ∷ 117 ∷ 115 ∷ 101 ∷ 100 ∷ 32 ∷ 49 ∷ 51 ∷ 32 ∷ 53 ∷ 10 ∷ []
-unfolding refusedLine spaced decimal decimalIn digitByte
-walk-refusal-printed = refl
 
 -- no input has no line; a line feed alone ends an empty one; the last line may lack its line feed
 no-line : linesOf [] ≡ []

@@ -11,18 +11,20 @@ use native.Mathlib.Omega.{arith}
 use lib.ListN.{length, getD, take, drop, set, length-append, length-set}
 use lib.Seq.{take-suc, take-all, take-suc-set, take-append-le, length-take-le}
 use borrow.Author.Tests.{eq-eqb, ne-eqb}
+use Rattle.tables.specs.Put.{Put}
+use Rattle.tables.proofs.Put.{put-none, put-both, put-same}
+use Rattle.tables.proofs.Slices.{rest-of}
 use Rattle.order.proofs.Lists.{bool-cases}
+use Rattle.printing.specs.Print.{unreadableLine}
 use Rattle.sheet_lines.specs.declared.Line.{Line}
 use Rattle.sheet_lines.specs.declared.Line.the-variants.{Readable, Unreadable}
 use Rattle.sheet_lines.specs.declared.Printed.{Printed}
 use Rattle.sheet_lines.specs.declared.Fed.{Fed}
 use Rattle.sheet_lines.specs.Fields.{digitsAhead, isReadable, fields, readLine}
-use Rattle.sheet_lines.specs.Print.{unreadableLine}
 use Rattle.sheet_lines.specs.Sheet.{printedFor, lastFor, printed, lastBehind}
 use Rattle.sheet_lines.specs.Pieces.{Carried, keptLength, carry, prints, carryAll, printsAll, printsLast}
-use Rattle.sheet_lines.specs.Work.{Put, lineRoom, Answers, PrintsLine, carried, Took, Feeds}
-use Rattle.sheet_lines.proofs.Fields.{rest-of, readable-fits}
-use Rattle.sheet_lines.proofs.Outputs.{put-none, put-both, put-same}
+use Rattle.sheet_lines.specs.Work.{lineRoom, Answers, PrintsLine, carried, Took, Feeds}
+use Rattle.sheet_lines.proofs.Fields.{readable-fits}
 use Rattle.sheet_lines.proofs.Pieces.{carry-append, prints-append}
 
 -- ---- a line

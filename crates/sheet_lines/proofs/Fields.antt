@@ -9,17 +9,14 @@ use native.Mathlib.Numerals.{add-one}
 use native.Mathlib.Omega.{arith}
 use lib.Dec.{eqb, leb}
 use lib.ListN.{length, getD, take, drop, length-drop, drop-of-length-le, List·getD-eq-default}
-use lib.Seq.{drop-cons, take-all, getD-drop}
+use lib.Seq.{drop-cons, getD-drop}
 use borrow.Author.Tests.{le-leb, lt-leb, eq-eqb, ne-eqb, leb-true, eqb-true}
 use Rattle.tables.proofs.Bits.{both-left, both-right}
 use Rattle.tables.proofs.Questions.{failed, passed}
+use Rattle.tables.proofs.Slices.{rest-of}
 use Rattle.grammar.specs.Symbols.{space}
 use Rattle.sheet_lines.specs.declared.Line.the-variants.{Readable, Unreadable}
 use Rattle.sheet_lines.specs.Fields.{isDigit, digitsAhead, numberBehind, hasLetters, isReadable, fields, readLine}
-
--- a part that is lent to the end is all that stands from there on
-pub rest-of : (k : ℕ) (s : List ℕ) → take (length s - k) (drop k s) ≡ drop k s
-rest-of k s = take-all (length s - k) (drop k s) (omega (arith, length-drop k s))
 
 -- ---- digits
 pub digit-low : (byte : ℕ) → byte < 48 → false ≡ isDigit byte

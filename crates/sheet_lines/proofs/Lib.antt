@@ -1,11 +1,6 @@
 pub mod Fields
-pub mod Outputs
-pub mod Records
-pub mod Refused
-pub mod Numbers
 pub mod Pieces
 pub mod Refusals
 pub mod Feeding
 pub mod Entries
-pub mod Walk
 pub mod Examples

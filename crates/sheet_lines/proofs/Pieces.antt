@@ -14,9 +14,9 @@ use lib.ListN.{length, take, length-append, length-take}
 use lib.Seq.{take-all}
 use borrow.Author.Tests.{lt-leb, ne-eqb}
 use Rattle.order.proofs.Lists.{bool-cases}
+use Rattle.printing.specs.Print.{lineFeed}
 use Rattle.sheet_lines.specs.declared.Line.the-variants.{Unreadable}
 use Rattle.sheet_lines.specs.Fields.{isReadable, readLine}
-use Rattle.sheet_lines.specs.Print.{lineFeed}
 use Rattle.sheet_lines.specs.Sheet.{printedFor, lastFor, printed, lastBehind, inFront, linesOf, printedLines, sheet}
 use Rattle.sheet_lines.specs.Pieces.{Carried, keptLength, carry, prints, carryAll, printsAll, printsLast, nothingCarried, joined, printsPieces}
 

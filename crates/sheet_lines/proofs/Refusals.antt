@@ -14,18 +14,21 @@ use Rattle.ring.specs.Table.{IsTable, table}
 use Rattle.ring.proofs.Table.{is-table}
 use Rattle.tables.specs.declared.Outcome.{Outcome}
 use Rattle.tables.specs.declared.Outcome.the-variants.{Done, Refused}
+use Rattle.tables.specs.Put.{Put}
 use Rattle.tables.specs.Questions.{firstNo, lettersFit, hasRoom}
 use Rattle.tables.specs.Reply.{accepted, refused, reply, after, outcome}
+use Rattle.tables.proofs.FirstNo.{yes-to}
 use Rattle.tables.proofs.Questions.{failed, letters-small}
 use Rattle.grammar.specs.Symbols.{allSigns, allDeclared}
 use Rattle.grammar.specs.Reader.{grammarReads}
 use Rattle.grammar.specs.Text.{textTable}
 use Rattle.notation.specs.Text.{hasTextLength, textQuestions, textRefusal}
 use Rattle.notation.proofs.Refusal.{fine, table-length}
+use Rattle.entry.specs.Entry.{archivedRecords}
 use Rattle.entry.specs.Questions.{routeFits}
-use Rattle.sheet_lines.specs.Print.{recordLines, refusedLine}
-use Rattle.sheet_lines.specs.Sheet.{lineQuestions, lineRefusal, archivedRecords, answerLines, routeBehind}
-use Rattle.sheet_lines.specs.Work.{Put, Answers}
+use Rattle.printing.specs.Print.{recordLines, refusedLine}
+use Rattle.sheet_lines.specs.Sheet.{lineQuestions, lineRefusal, answerLines, routeBehind}
+use Rattle.sheet_lines.specs.Work.{Answers}
 
 -- ---- what a reply tells
 accepted-zero : (x : ℕ) → accepted [] ≡ reply x [] → x ≡ 0
@@ -99,10 +102,6 @@ module _ (last route U G : ℕ) (text : List ℕ) where
       let l = yes-to (lettersFit U G) _ 0 z in
       let r = yes-to (routeFits route) _ 1 (l .1) in
       record { letters = l .0; fits = r .0 }
-    where
-      yes-to : (p : Bool) (x q : ℕ) → cond p x (suc q) ≡ 0 → (p ≡ true) × (x ≡ 0)
-      yes-to true x q e = (refl, e)
-      yes-to false x q e = absurd (omega arith)
 
   -- ---- the answer
   module _ (out : List ℕ) (at : ℕ) {number : ℕ} (e : number ≡ lineRefusal last route U G text) {next : ℕ} {new : List ℕ} where

@@ -6,7 +6,7 @@ use mathlib.Core.List.{List, [], _∷_, _++_}
 use Prim.Native.Nat.{ℕ}
 use lib.Dec.{eqb}
 use lib.ListN.{length, take}
-use Rattle.sheet_lines.specs.Print.{lineFeed}
+use Rattle.printing.specs.Print.{lineFeed}
 use Rattle.sheet_lines.specs.Sheet.{printed, lastBehind}
 
 -- what is carried: the last route printed, 0 before any, and the line that has begun

@@ -10,14 +10,13 @@ use Rattle.grammar.specs.Symbols.{allSigns, allDeclared}
 use Rattle.grammar.specs.Reader.{grammarReads}
 use Rattle.grammar.specs.Text.{textTable}
 use Rattle.notation.specs.Text.{hasTextLength}
-use Rattle.solution.specs.Elimination.{defaultOrder, solve}
 use Rattle.entry.specs.declared.Record.{Record}
-use Rattle.entry.specs.Entry.{entryRecords}
+use Rattle.entry.specs.Entry.{archivedRecords}
 use Rattle.entry.specs.Questions.{routeFits}
+use Rattle.printing.specs.Print.{lineFeed, recordLines, unreadableLine, refusedLine}
 use Rattle.sheet_lines.specs.declared.Line.{Line}
 use Rattle.sheet_lines.specs.declared.Line.the-variants.{Readable, Unreadable}
 use Rattle.sheet_lines.specs.Fields.{readLine}
-use Rattle.sheet_lines.specs.Print.{lineFeed, recordLines, unreadableLine, refusedLine}
 
 -- 'in the order 1, 2, 3, 5, 6, 7, 15 (against the last route printed)', which is 0 before any
 unfoldable pub lineQuestions : ℕ → ℕ → ℕ → ℕ → List ℕ → List Asked
@@ -33,10 +32,6 @@ lineQuestions last route U G text =
 
 unfoldable pub lineRefusal : ℕ → ℕ → ℕ → ℕ → List ℕ → ℕ
 lineRefusal last route U G text = firstNo (lineQuestions last route U G text)
-
--- the records of the entry of a route and the condition with the table t
-unfoldable pub archivedRecords : ℕ → ℕ → ℕ → List ℕ → List Record
-archivedRecords route U G t = entryRecords route U G t (solve U G (defaultOrder U) t)
 
 -- what is printed for a first no, 0 if there is none, of an entry with these records
 unfoldable pub answerLines : ℕ → List Record → List ℕ

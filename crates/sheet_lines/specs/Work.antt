@@ -1,44 +1,20 @@
--- Inner work: what the functions that put bytes into an output answer, and what becomes of a piece of the input.
+-- Inner work: what becomes of a line, of a byte and of a piece of the input.
 -- Assumes nothing.
 use mathlib.Core.Path.{_≡_}
-use mathlib.Core.Bool.{Bool, true, _&&_, cond}
-use mathlib.Core.List.{List, [], _∷_}
+use mathlib.Core.List.{List}
 use Prim.Native.Nat.{ℕ, _+_, _≤_, _<_}
-use lib.Dec.{eqb, ltb}
 use lib.ListN.{length, take}
-use lib.Seq.{sets}
+use Rattle.tables.specs.Put.{Put}
 use Rattle.grammar.specs.Text.{textTable}
-use Rattle.entry.specs.declared.Record.{Record}
-use Rattle.entry.specs.Record.{bytes, size}
-use Rattle.entry.specs.Held.{records}
+use Rattle.entry.specs.Entry.{archivedRecords}
 use Rattle.sheet_lines.specs.declared.Printed.{Printed}
 use Rattle.sheet_lines.specs.declared.Fed.{Fed}
-use Rattle.sheet_lines.specs.Sheet.{lineRefusal, archivedRecords, answerLines, routeBehind, printed, lastBehind}
+use Rattle.sheet_lines.specs.Sheet.{lineRefusal, answerLines, routeBehind, printed, lastBehind}
 use Rattle.sheet_lines.specs.Pieces.{Carried, keptLength, carryAll, printsAll}
-
--- the bytes vs are put into the output at a place, and `next` is the place behind them
-pub record Put (old : List ℕ) (at : ℕ) (vs : List ℕ) (next : ℕ) (new : List ℕ) : Type 0 where
-  pub place : next ≡ at + length vs
-  pub inside : next ≤ length old
-  pub bytes : new ≡ sets old at vs
 
 -- no line prints more: three bytes for each of an entry's 27,654
 abbrev pub lineRoom : ℕ
 lineRoom = 82962
-
--- the length of a record, by its kind
-unfoldable pub kindLength : ℕ → ℕ
-kindLength kind = cond (eqb kind 2) 3 (cond (ltb kind 4) 4 2)
-
--- no record is broken
-unfoldable pub allWhole : List Record → Bool
-allWhole [] = true
-allWhole (r ∷ rs) = ltb 0 (size r) && allWhole rs
-
--- the bytes are those of whole records
-pub record AreRecords (s : List ℕ) : Type 0 where
-  pub same : bytes (records s) ≡ s
-  pub whole : allWhole (records s) ≡ true
 
 -- what a readable line prints
 pub record Answers (last route U G : ℕ) (text out : List ℕ) (at : ℕ) (r : Printed) (out′ : List ℕ) : Type 0 where

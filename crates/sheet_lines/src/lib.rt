@@ -1,24 +1,23 @@
-// What the programs `sheet` and `walk` print, as functions on slices; the programs only read and write.
-// Nothing here is a public call of the library: the functions are for the two programs, which meet what they require.
+// What the program `sheet` prints, as functions on slices; the program only reads and writes.
+// Nothing here is a public call of the library: the functions are for that program, which meets what they require.
 ghost use mathlib.Core.Path.{_≡_};
 ghost use mathlib.Core.Bool.{true};
-ghost use mathlib.Core.List.{[], _∷_, _++_};
-ghost use Prim.Native.Nat.{_+_, _-_, _*_, _≤_, _<_};
+ghost use mathlib.Core.List.{[], _∷_};
+ghost use Prim.Native.Nat.{_+_, _-_, _≤_, _<_};
 ghost use lib.ListN.{length};
 ghost use Rattle.ring.specs.Table.{IsTable};
+ghost use Rattle.tables.specs.Put.{Put};
 ghost use Rattle.tables.specs.Questions.{lettersFit};
-ghost use Rattle.tables.specs.Reply.{accepted, after};
+ghost use Rattle.tables.specs.Reply.{after};
 ghost use Rattle.grammar.specs.Text.{textTable};
+ghost use Rattle.entry.specs.Entry.{archivedRecords};
 ghost use Rattle.entry.specs.Questions.{routeFits};
+ghost use Rattle.printing.specs.Print.{recordLines};
 ghost use Rattle.sheet_lines.specs.Fields.{isDigit, digitsAhead, numberBehind, hasLetters, isReadable, readLine};
-ghost use Rattle.sheet_lines.specs.Print.{lineFeed, decimal, digitByte, hexadecimal, recordLines, unreadableLine, refusedWord, refusedLine, replyLine};
-ghost use Rattle.sheet_lines.specs.Walk.{walkPrinted};
-ghost use Rattle.entry.specs.Held.{records};
+ghost use Rattle.sheet_lines.specs.Sheet.{lineRefusal};
 ghost use Rattle.sheet_lines.specs.Pieces.{keptLength, printsLast};
-ghost use Rattle.sheet_lines.specs.Sheet.{lineRefusal, archivedRecords};
-ghost use Rattle.sheet_lines.specs.Work.{Put, lineRoom, kindLength, AreRecords, Answers, PrintsLine, carried, Took, Feeds};
+ghost use Rattle.sheet_lines.specs.Work.{lineRoom, Answers, PrintsLine, carried, Took, Feeds};
 use tables::Outcome;
-use volume::Walked;
 use writer::Written;
 
 const LONGEST_LINE: usize = 300; // 'lines over 300 bytes without the line feed' are unreadable
@@ -26,8 +25,6 @@ const LONGEST_LINE: usize = 300; // 'lines over 300 bytes without the line feed'
 const KEPT_LENGTH: usize = 301; // as many bytes of a line are kept, enough to see that it is too long
 
 const LINE_ROOM: usize = 82962; // no line prints more: three bytes for each of an entry's 27,654
-
-const LONGEST_VOLUME: usize = 65536; // 'the volume .. of at most 65,536 bytes'
 
 // A line of a sheet, taken apart: the route, U, G and the place where the text begins.
 pub enum Line {
@@ -148,124 +145,6 @@ fn read_line(line: &[u8]) -> Line
     Line::Readable(route, unknowns, givens, k + 5)
 }
 
-fn put(out: &mut [u8], at: usize, bytes: &[u8]) -> usize
-    requires { ⌜ at + length (now bytes) ≤ length (now out) ⌝ }
-    ensures { λ r. ⌜ Put (now (out .entry)) at (now (bytes .entry)) r (now (out .exit)) ⌝ }
-{
-    let mut i = 0;
-    while i < bytes.len() {
-        out[at + i] = bytes[i];
-        i += 1;
-    }
-    at + i
-}
-
-// A number has at most twenty digits.
-fn put_decimal(out: &mut [u8], at: usize, n: u64) -> usize
-    requires { ⌜ at + 20 ≤ length (now out) ⌝ }
-    ensures { λ r. ⌜ Put (now (out .entry)) at (decimal n) r (now (out .exit)) ⌝ }
-    ensures { λ r. ⌜ r ≤ at + 20 ⌝ }
-{
-    let mut text = [0u8; 20];
-    let k = io::decimal(n, &mut text);
-    put(out, at, &text[..k])
-}
-
-fn digit_byte(d: u8) -> u8
-    requires { ⌜ d < 16 ⌝ }
-    ensures { λ r. ⌜ r ≡ digitByte d ⌝ }
-{
-    if d < 10 { 48 + d } else { 87 + d }
-}
-
-fn put_hexadecimal(out: &mut [u8], at: usize, bytes: &[u8]) -> usize
-    requires { ⌜ at + 2 * length (now bytes) ≤ length (now out) ⌝ }
-    ensures { λ r. ⌜ Put (now (out .entry)) at (hexadecimal (now (bytes .entry))) r (now (out .exit)) ⌝ }
-{
-    let mut i = 0;
-    while i < bytes.len() {
-        let byte = bytes[i];
-        let place = at + 2 * i;
-        out[place] = digit_byte(byte / 16);
-        out[place + 1] = digit_byte(byte % 16);
-        i += 1;
-    }
-    at + 2 * i
-}
-
-fn put_line(out: &mut [u8], at: usize, bytes: &[u8]) -> usize
-    requires { ⌜ at + 2 * length (now bytes) < length (now out) ⌝ }
-    ensures { λ r. ⌜ Put (now (out .entry)) at (hexadecimal (now (bytes .entry)) ++ (lineFeed ∷ [])) r (now (out .exit)) ⌝ }
-{
-    let end = put_hexadecimal(out, at, bytes);
-    out[end] = b'\n';
-    end + 1
-}
-
-fn record_length(kind: u8) -> usize
-    ensures { λ r. ⌜ r ≡ kindLength kind ⌝ }
-{
-    if kind == 2 {
-        return 3;
-    }
-    if kind < 4 {
-        return 4;
-    }
-    2
-}
-
-// Each record of an entry on a line.
-fn put_records(out: &mut [u8], at: usize, entry: &[u8]) -> usize
-    requires { ⌜ AreRecords (now entry) × (at + 3 * length (now entry) ≤ length (now out)) ⌝ }
-    ensures { λ r. ⌜ Put (now (out .entry)) at (recordLines (records (now (entry .entry)))) r (now (out .exit)) ⌝ }
-{
-    let mut from = 0;
-    let mut next = at;
-    while from < entry.len() {
-        let end = from + record_length(entry[from]);
-        next = put_line(out, next, &entry[from..end]);
-        from = end;
-    }
-    next
-}
-
-// Of a line, and of a volume that cannot be read.
-pub fn put_unreadable(out: &mut [u8], at: usize) -> usize
-    requires { ⌜ at + 11 ≤ length (now out) ⌝ }
-    ensures { λ r. ⌜ Put (now (out .entry)) at unreadableLine r (now (out .exit)) ⌝ }
-{
-    put(out, at, b"unreadable\n")
-}
-
-// A space and a number.
-fn put_number(out: &mut [u8], at: usize, n: u64) -> usize
-    requires { ⌜ at + 21 ≤ length (now out) ⌝ }
-    ensures { λ r. ⌜ Put (now (out .entry)) at (32 ∷ decimal n) r (now (out .exit)) ⌝ }
-    ensures { λ r. ⌜ r ≤ at + 21 ⌝ }
-{
-    out[at] = b' ';
-    put_decimal(out, at + 1, n)
-}
-
-// `refused` and the number, the line not ended.
-fn put_refusal(out: &mut [u8], at: usize, number: u8) -> usize
-    requires { ⌜ at + 28 ≤ length (now out) ⌝ }
-    ensures { λ r. ⌜ Put (now (out .entry)) at (refusedWord ++ (32 ∷ decimal number)) r (now (out .exit)) ⌝ }
-    ensures { λ r. ⌜ r ≤ at + 28 ⌝ }
-{
-    let word = put(out, at, b"refused");
-    put_number(out, word, number as u64)
-}
-
-fn put_refused(out: &mut [u8], at: usize, number: u8) -> usize
-    requires { ⌜ at + 29 ≤ length (now out) ⌝ }
-    ensures { λ r. ⌜ Put (now (out .entry)) at (refusedLine number []) r (now (out .exit)) ⌝ }
-{
-    let end = put_refusal(out, at, number);
-    out[end] = b'\n';
-    end + 1
-}
-
 // The first no of 1, 2, 3, 5, 6, 7 and 15, or 0, where the text's table then stands at the front of `condition`. Question 4 is passed:
 // a table has at most 1,024 bytes.
 fn line_refusal(
@@ -324,7 +203,7 @@ fn put_entry(
 {
     let mut written = entry_room();
     match writer::write_entry(route, unknowns, givens, condition, &mut written) {
-        Written::Done(length) => put_records(out, at, &written[..length]),
+        Written::Done(length) => printing::put_records(out, at, &written[..length]),
         Written::Refused(_) => at,
     }
 }
@@ -345,7 +224,7 @@ fn answer_line(
     let mut condition = table_room();
     let number = line_refusal(last, route, unknowns, givens, text, &mut condition);
     if number != 0 {
-        let next = put_refused(out, at, number);
+        let next = printing::put_refused(out, at, number);
         return Printed {
             count: 0,
             last,
@@ -377,7 +256,7 @@ pub fn sheet_line(out: &mut [u8], at: usize, last: usize, line: &[u8]) -> Printe
             &line[from..],
         ),
         Line::Unreadable => {
-            let next = put_unreadable(out, at);
+            let next = printing::put_unreadable(out, at);
             Printed {
                 count: 0,
                 last,
@@ -466,38 +345,4 @@ pub fn finish(kept: &[u8], count: usize, last: usize, out: &mut [u8], at: usize)
     }
     let p = sheet_line(out, at, last, &kept[..count]);
     p.next
-}
-
-fn put_count(out: &mut [u8], at: usize, count: usize) -> usize
-    requires { ⌜ at + 21 ≤ length (now out) ⌝ }
-    ensures { λ r. ⌜ Put (now (out .entry)) at (replyLine (accepted (count ∷ []))) r (now (out .exit)) ⌝ }
-{
-    let end = put_decimal(out, at, count as u64);
-    out[end] = b'\n';
-    end + 1
-}
-
-// A refusal, and the count passed before it.
-fn put_refused_behind(out: &mut [u8], at: usize, number: u8, passed: usize) -> usize
-    requires { ⌜ at + 50 ≤ length (now out) ⌝ }
-    ensures { λ r. ⌜ Put (now (out .entry)) at (refusedLine number (passed ∷ [])) r (now (out .exit)) ⌝ }
-{
-    let middle = put_refusal(out, at, number);
-    let end = put_number(out, middle, passed as u64);
-    out[end] = b'\n';
-    end + 1
-}
-
-// What `walk` prints for the bytes of its file.
-pub fn walk_line(volume: &[u8], out: &mut [u8]) -> usize
-    requires { ⌜ 64 ≤ length (now out) ⌝ }
-    ensures { λ r. ⌜ Put (now (out .entry)) 0 (walkPrinted (now (volume .entry))) r (now (out .exit)) ⌝ }
-{
-    if LONGEST_VOLUME < volume.len() {
-        return put_unreadable(out, 0);
-    }
-    match volume::walk_volume(volume, 0) {
-        Walked::Count(count) => put_count(out, 0, count),
-        Walked::Refused(number, passed) => put_refused_behind(out, 0, number, passed),
-    }
 }

@@ -1,11 +1,17 @@
 // Reads the file `volume` of the working folder and prints the walk over it, from place 0.
-// What is printed is worked out by `sheet_lines`; this program only reads and writes. A file that cannot be opened or read is `unreadable`.
+// What is printed is worked out by `walk_line`, on slices; the rest only reads and writes. A file that cannot be opened or read is `unreadable`.
 // The stored volume has twelve entries, one with a monomial too many in an answer, and more behind it; it and the stored output were made by
 // the independent implementation in `reference/`.
 use libc::STDOUT_FILENO;
+use volume::Walked;
 ghost use mathlib.Core.Path.{_≡_};
+ghost use Prim.Native.Nat.{_≤_};
 ghost use lib.ListN.{length};
+ghost use Rattle.tables.specs.Put.{Put};
 ghost use Rattle.walk.specs.Loaded.{loadedWithin};
+ghost use Rattle.walk.specs.Walk.{walkPrinted};
+
+const LONGEST_VOLUME: usize = 65536; // 'the volume .. of at most 65,536 bytes'
 
 // How many bytes were read, or that a read failed.
 enum Loaded {
@@ -39,15 +45,29 @@ fn load(file: i32, room: &mut [u8]) -> Loaded
     Loaded::Bytes(n)
 }
 
+// What is printed for the bytes of the file.
+fn walk_line(volume: &[u8], out: &mut [u8]) -> usize
+    requires { ⌜ 64 ≤ length (now out) ⌝ }
+    ensures { λ r. ⌜ Put (now (out .entry)) 0 (walkPrinted (now (volume .entry))) r (now (out .exit)) ⌝ }
+{
+    if LONGEST_VOLUME < volume.len() {
+        return printing::put_unreadable(out, 0);
+    }
+    match volume::walk_volume(volume, 0) {
+        Walked::Count(count) => printing::put_count(out, 0, count),
+        Walked::Refused(number, passed) => printing::put_refused_behind(out, 0, number, passed),
+    }
+}
+
 fn print_unreadable() {
     let mut out = io::buffer();
-    let n = sheet_lines::put_unreadable(&mut out, 0);
+    let n = printing::put_unreadable(&mut out, 0);
     io::write_all(STDOUT_FILENO, &out[..n]);
 }
 
 fn print_walk(volume: &[u8]) {
     let mut out = io::buffer();
-    let n = sheet_lines::walk_line(volume, &mut out);
+    let n = walk_line(volume, &mut out);
     io::write_all(STDOUT_FILENO, &out[..n]);
 }
 

@@ -6,7 +6,7 @@ use native.Mathlib.Omega.{arith}
 use borrow.Author.Needs.{needs}
 use lib.ListN.{length, drop, length-drop}
 use lib.Seq.{length-take-le}
-use Rattle.sheet_lines.proofs.Outputs.{put-length}
+use Rattle.tables.proofs.Put.{put-length}
 use Rattle.sheet_lines.proofs.Feeding.{feeds-some}
 use Rattle.sheet.proofs.print_piece.Statement.{statement}
 use Rattle.sheet.proofs.print_piece.Tie as tie

@@ -5,8 +5,8 @@ use Prim.Native.Nat.{_-_}
 use native.Mathlib.Omega.{arith}
 use lib.ListN.{length}
 use borrow.Author.Needs.{needs}
+use Rattle.tables.proofs.Put.{put-length}
 use Rattle.sheet_lines.specs.Work.{Took}
-use Rattle.sheet_lines.proofs.Outputs.{put-length}
 use Rattle.sheet_lines.proofs.Feeding.{took-none, took-more}
 use Rattle.sheet_lines.proofs.feed.Statement.{statement}
 use Rattle.sheet_lines.proofs.feed.Tie as tie

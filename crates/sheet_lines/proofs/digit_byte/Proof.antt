@@ -1,8 +1,0 @@
--- Assumes nothing.
-use borrow.Author.Needs.{needs}
-use Rattle.sheet_lines.proofs.Numbers.{digit-small, digit-large}
-use Rattle.sheet_lines.proofs.digit_byte.Statement.{statement}
-use Rattle.sheet_lines.proofs.digit_byte.Tie as tie
-
-pub digit-byte-spec : {M : Type 1} → statement M
-digit-byte-spec = tie.close (tie.spec (λ c. search needs) (λ c. search needs) (λ c. search digit-small) (λ c. search digit-large))
