@@ -42,8 +42,8 @@ pub entry-passes : (route U G : ℕ) (t behind : List ℕ) → Archivable route 
     → auditReply (entry route U G t ++ behind) ≡ accepted (route ∷ U ∷ G ∷ length (entry route U G t) ∷ stateOf (solve U G (defaultOrder U) t))
 unfolding auditReply auditRefusal readValues reply
 entry-passes route U G t behind a =
-    let r : ReadsBack route U G t (records (entry route U G t ++ behind)) = reads-back route U G t behind (a .letters) (a .of-route) (a .of-table) in
-    rw (entry-audited route U G t behind (a .letters) (a .of-route) (a .of-table), r .of-route, r .of-unknowns, r .of-givens, r .used, r .verdict)
+    let r : ReadsBack route U G t (records (entry route U G t ++ behind)) = reads-back route U G t behind a in
+    rw (entry-audited route U G t behind a, r .of-route, r .of-unknowns, r .of-givens, r .used, r .verdict)
 
 -- both ways in one: the audit passes some bytes, and gives these values, exactly if they begin with such an entry
 pub audit-exact : (bs values : List ℕ) → AreBytes bs → (auditReply bs ≡ accepted values) ↔ BeginsWithEntry bs values

@@ -91,5 +91,5 @@ pub demand-3 : (U G route : ℕ) (text behind : List ℕ) → Accepted U G text 
     → Demand3 U G (textTable U G text) (entry route U G (textTable U G text) ++ behind)
 demand-3 U G route text behind accepted fits =
     let t : List ℕ = textTable U G text in
-    let back : ReadsBack route U G t (records (entry route U G t ++ behind)) = reads-back route U G t behind (accepted .letters) fits (text-is-table U G text) in
+    let back : ReadsBack route U G t (records (entry route U G t ++ behind)) = reads-back route U G t behind (record { letters = accepted .letters; of-route = fits; of-table = text-is-table U G text }) in
     right-demand U G t (entry route U G t ++ behind) (entry-right route U G t behind) (back .condition) (back .verdict)

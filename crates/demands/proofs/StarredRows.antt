@@ -2,7 +2,6 @@
 -- then follows from the row of `solution` and from reading back.
 -- Assumes nothing.
 use mathlib.Core.Path.{_≡_, refl, sym, ap, _∙_}
-use mathlib.Core.Bool.{true}
 use mathlib.Core.List.{List, [], _∷_, _++_, append-nil}
 use Prim.Native.Nat.{ℕ, _+_}
 use lib.ListN.{length}
@@ -36,7 +35,9 @@ archived : (text : List ℕ) (r : Row) → Reads text r → RowHolds r → TextH
 unfolding routeFits
 archived text r reads holds =
     let accepted = done-exactly (r .U) (r .G) text (length (r .condition)) .0 (reads .read) .0 in
-    let back = reads-back 1 (r .U) (r .G) (textTable (r .U) (r .G) text) [] (accepted .letters) refl (text-is-table (r .U) (r .G) text) in
+    let back =
+    reads-back 1 (r .U) (r .G) (textTable (r .U) (r .G) text) []
+    (record { letters = accepted .letters; of-route = refl; of-table = text-is-table (r .U) (r .G) text }) in
     record {
       read = reads .read;
       table = reads .table;

@@ -5,14 +5,13 @@ use mathlib.Core.Path.{_≡_, refl, sym, ap, ap₂, _∙_}
 use mathlib.Core.Bool.{Bool, true, false, cond}
 use mathlib.Core.List.{List, [], _∷_, _++_}
 use Prim.Native.Nat.{ℕ, _+_, _≤_}
-use native.Mathlib.Omega.{arith}
 use lib.Dec.{eqb}
 use lib.ListN.{length, take}
 use borrow.Author.Tests.{eqb-true, eq-eqb}
-use Rattle.ring.specs.Table.{IsTable, present, answerTable}
+use Rattle.ring.specs.Table.{present, answerTable}
 use Rattle.ring.proofs.Table.{held-answerTable}
-use Rattle.tables.specs.Questions.{asks, firstNo, lettersFit}
-use Rattle.tables.proofs.FirstNo.{asked-before}
+use Rattle.tables.specs.Questions.{firstNo, lettersFit}
+use Rattle.tables.proofs.FirstNo.{yes-to, asked-before}
 use Rattle.tables.proofs.Questions.{letters-small, unknowns-small}
 use Rattle.order.proofs.Lists.{and-left, and-right, both, never}
 use Rattle.solution.specs.Elimination.{Verdict, solved, none, defaultOrder, solve, solvable, booleAnswers, smallestBlocked}
@@ -21,9 +20,9 @@ use Rattle.solution.proofs.Orders.{default-order}
 use Rattle.solution.proofs.Verdict.{AreBooles, right-solved, right-none}
 use Rattle.entry.specs.declared.Record.{Record}
 use Rattle.entry.specs.Record.{AreBytes, bytes}
-use Rattle.entry.specs.Entry.{entryRecords, archivedRecords, entry}
+use Rattle.entry.specs.Entry.{entryRecords, archivedRecords, entry, Archivable}
 use Rattle.entry.specs.Held.{records, routeOf, unknownsOf, givensOf, answersIn, says, heldCondition, heldVerdict}
-use Rattle.entry.specs.Questions.{routeFits, entryQuestions, sameBytes, sameVerdict, solvedAfresh, answersHold, auditQuestions}
+use Rattle.entry.specs.Questions.{entryQuestions, sameBytes, sameVerdict, solvedAfresh, answersHold, auditQuestions}
 use Rattle.entry.proofs.Back.{entry-records}
 use Rattle.entry.proofs.Verdicts.{solve-fits}
 use Rattle.entry.proofs.Passed.{entry-has-end, entry-kinds, entry-numbers}
@@ -61,30 +60,30 @@ pub record ReadsBack (route U G : ℕ) (t : List ℕ) (rs : List Record) : Type 
   pub verdict : heldVerdict rs ≡ solve U G (defaultOrder U) t
   pub used : length (bytes rs) ≡ length (entry route U G t)
 
-written : (route U G : ℕ) (t : List ℕ) → lettersFit U G ≡ true → routeFits route ≡ true → IsTable (U + G) t → ReadsBack route U G t (archivedRecords route U G t)
+written : (route U G : ℕ) (t : List ℕ) → Archivable route U G t → ReadsBack route U G t (archivedRecords route U G t)
 unfolding entryRecords entry
-written route U G t letters fits is =
+written route U G t a =
     let v : Verdict (List ℕ) = solve U G (defaultOrder U) t in
     record {
       questions = all-yes (entryRecords route U G t v) (record {
         whole = entry-has-end route U G t v;
         kinds = entry-kinds route U G t v;
-        letters = letters;
-        route = fits;
-        numbers = entry-numbers U G (letters-small U G letters) route t v (solve-fits U G t);
+        letters = a .letters;
+        route = a .of-route;
+        numbers = entry-numbers U G (letters-small U G (a .letters)) route t v (solve-fits U G t);
       });
       of-route = refl;
       of-unknowns = refl;
       of-givens = refl;
-      condition = condition-back route U G t v is;
+      condition = condition-back route U G t v (a .of-table);
       verdict = verdict-back route U G t v (solve-fits U G t);
       used = refl;
     }
 
 -- demand 2: a written entry, with any bytes behind it, reads back: the route, U, G, the condition, solved or 'none' and the state,
 -- the answers, and the length used
-pub reads-back : (route U G : ℕ) (t behind : List ℕ) → lettersFit U G ≡ true → routeFits route ≡ true → IsTable (U + G) t → ReadsBack route U G t (records (entry route U G t ++ behind))
-reads-back route U G t behind letters fits is = rw (entry-records route U G t behind) (written route U G t letters fits is)
+pub reads-back : (route U G : ℕ) (t behind : List ℕ) → Archivable route U G t → ReadsBack route U G t (records (entry route U G t ++ behind))
+reads-back route U G t behind a = rw (entry-records route U G t behind) (written route U G t a)
 
 -- bytes that pass questions 10, 11, 1, 2 and 12 are, as far as they are used, the bytes of the entry of what they hold
 pub accepted-canonical : (bs : List ℕ) → AreBytes bs → firstNo (entryQuestions (records bs)) ≡ 0
@@ -117,28 +116,23 @@ same-verdict : (v : Verdict (List ℕ)) → sameVerdict v v ≡ true
 same-verdict (solved a) = same-bytes a
 same-verdict (none state) = eq-eqb (state .0) (state .0) refl
 
-last-yes : (b : Bool) → firstNo (asks 13 b ∷ []) ≡ 0 → b ≡ true
-unfolding firstNo
-last-yes true q = refl
-last-yes false q = absurd (omega arith)
-
 -- demand 2: 'Bytes that pass the audit are exactly those that the writer makes'. If none of 10, 11, 1, 2, 12, 13 is answered no, the bytes, as
 -- far as they are used, are the entry of the route, U, G and condition that reading them gives ..
 pub audited-entry : (bs : List ℕ) → AreBytes bs → firstNo (auditQuestions (records bs)) ≡ 0
     → take (length (bytes (records bs))) bs ≡ entry (routeOf (records bs)) (unknownsOf (records bs)) (givensOf (records bs)) (heldCondition (records bs))
-unfolding auditQuestions answersHold solvedAfresh entry
+unfolding auditQuestions answersHold solvedAfresh entry firstNo
 audited-entry bs are e =
     let p : firstNo (entryQuestions (records bs)) ≡ 0 = asked-before (entryQuestions (records bs)) _ e in
-    let h : answersHold (records bs) ≡ true = last-yes (answersHold (records bs)) (sym (then-asked (records bs) _ p) ∙ e) in
+    let h : answersHold (records bs) ≡ true = yes-to (answersHold (records bs)) 0 12 (sym (then-asked (records bs) _ p) ∙ e) .0 in
     accepted-canonical bs are p
     ∙ ap (λ (v : Verdict (List ℕ)). bytes (entryRecords (routeOf (records bs)) (unknownsOf (records bs)) (givensOf (records bs)) (heldCondition (records bs)) v))
     (verdict-same (heldVerdict (records bs)) (solvedAfresh (records bs)) h)
 
 -- .. and every entry that the writer makes passes, whatever stands behind it
-pub entry-audited : (route U G : ℕ) (t behind : List ℕ) → lettersFit U G ≡ true → routeFits route ≡ true → IsTable (U + G) t → firstNo (auditQuestions (records (entry route U G t ++ behind))) ≡ 0
+pub entry-audited : (route U G : ℕ) (t behind : List ℕ) → Archivable route U G t → firstNo (auditQuestions (records (entry route U G t ++ behind))) ≡ 0
 unfolding auditQuestions answersHold solvedAfresh firstNo
-entry-audited route U G t behind letters fits is =
-    let r : ReadsBack route U G t (records (entry route U G t ++ behind)) = reads-back route U G t behind letters fits is in
+entry-audited route U G t behind a =
+    let r : ReadsBack route U G t (records (entry route U G t ++ behind)) = reads-back route U G t behind a in
     then-asked (records (entry route U G t ++ behind)) _ (r .questions)
     ∙ rw (r .verdict, r .of-unknowns, r .of-givens, r .condition, same-verdict (solve U G (defaultOrder U) t))
 

@@ -138,7 +138,13 @@ said-solved a rs e = go (unless-cases a rs)
     go (inl f) = f
     go (inr f) = let g : said-variants.None (f .0) ≡ said-variants.Solved = sym (ap said (f .1)) ∙ e in let z : _≡_ {A = ℕ} 0 1 = (cc) in absurd (omega arith)
 
--- ---- question 4, and behind it
+-- ---- question 4
+pub then-4 : (bs : List ℕ) → firstNo (entryQuestions (records bs)) ≡ 0 → {u g : ℕ} → unknownsOf (records bs) ≡ u → givensOf (records bs) ≡ g → (room answerRoom : ℕ)
+    → readRefusal bs room answerRoom ≡ cond (leb (2 ^ (u + g)) room && leb (u * 2 ^ (u + g)) answerRoom) 0 4
+unfolding readRefusal readQuestions haveRoom hasRoom firstNo
+then-4 bs p {u} {g} eu eg room answerRoom = then-asked (records bs) _ p ∙ rw (eu, eg, one-mul (2 ^ (u + g)), and-true (leb (u * 2 ^ (u + g)) answerRoom))
+
+-- ---- and behind it
 module _ (bs : List ℕ) (p : firstNo (entryQuestions (records bs)) ≡ 0) {h : Heading} (eh : h ≡ headingOf (records bs)) where
   held : Passes (records bs)
   held = passes (records bs) p
@@ -180,10 +186,8 @@ module _ (bs : List ℕ) (p : firstNo (entryQuestions (records bs)) ≡ 0) {h : 
     room = leb k (length c) && leb (h .unknowns * k) (length a)
 
     refusal : readRefusal bs (length c) (length a) ≡ cond room 0 4
-    unfolding readRefusal readQuestions haveRoom hasRoom firstNo room
-    refusal =
-        then-asked (records bs) _ p
-        ∙ rw (← of-u, ← of-g, ← ek, one-mul k, and-true (leb (h .unknowns * k) (length a)))
+    unfolding room
+    refusal = then-4 bs p (sym of-u) (sym of-g) (length c) (length a) ∙ rw (← ek)
 
     short : room ≡ false → Reads bs c a (Refused 4) c a
     short e =

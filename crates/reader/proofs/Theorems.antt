@@ -1,32 +1,26 @@
 -- What `read_entry` gives of an entry that was written, by its contract; and that a 'none' entry leaves the answer buffer untouched.
 -- Assumes nothing.
-use mathlib.Core.Path.{_≡_, ap, _∙_}
-use mathlib.Core.Bool.{_&&_, cond, and-true}
+use mathlib.Core.Path.{_≡_, ap}
+use mathlib.Core.Bool.{_&&_, cond}
 use mathlib.Core.List.{List, _∷_}
 use Prim.Native.Nat.{ℕ, _+_, _*_, _^_}
-use native.Mathlib.Nat.{one-mul}
 use lib.Dec.{leb}
 use lib.ListN.{length}
 use Rattle.ring.specs.declared.State.{State}
-use Rattle.tables.specs.Questions.{firstNo, hasRoom, haveRoom}
 use Rattle.tables.specs.Reply.{after}
 use Rattle.solution.specs.Elimination.{none, defaultOrder, solve}
 use Rattle.entry.specs.declared.Record.{Record}
 use Rattle.entry.specs.Entry.{entry}
 use Rattle.entry.specs.Held.{records, heldVerdict}
-use Rattle.entry.specs.Questions.{readQuestions}
-use Rattle.entry.proofs.Passes.{then-asked}
 use Rattle.entry.proofs.Theorems.{ReadsBack}
+use Rattle.reader.proofs.Buffers.{then-4}
 use Rattle.reader.specs.Reading.{stateOf, answersOf, readRefusal, readValues, heldAnswers}
 
 -- bytes in which a written entry is found, as `reads-back` finds it whatever stands behind it
 module _ {route U G : ℕ} {t : List ℕ} (bs : List ℕ) (r : ReadsBack route U G t (records bs)) where
   -- only the buffers can be refused
   pub only-room : (room answerRoom : ℕ) → readRefusal bs room answerRoom ≡ cond (leb (2 ^ (U + G)) room && leb (U * 2 ^ (U + G)) answerRoom) 0 4
-  unfolding readRefusal readQuestions firstNo haveRoom hasRoom
-  only-room room answerRoom =
-      then-asked (records bs) _ (r .questions)
-      ∙ rw (r .of-unknowns, r .of-givens, one-mul (2 ^ (U + G)), and-true (leb (U * 2 ^ (U + G)) answerRoom))
+  only-room = then-4 bs (r .questions) (r .of-unknowns) (r .of-givens)
 
   -- 'the route, U, G, whether the entry is solved or 'none' and in which state, and the length used'
   pub values-back : readValues (records bs) ≡ (route ∷ U ∷ G ∷ length (entry route U G t) ∷ stateOf (solve U G (defaultOrder U) t))

@@ -113,8 +113,8 @@ answered last passed bs answer (refused-at number h e n) = walk-on last passed b
 entry-walked : (before passed route U G : ℕ) (t behind : List ℕ) → Archivable route U G t → before < route
     → walkBehind before passed (entry route U G t ++ behind) ≡ walkBehind route (suc passed) behind
 entry-walked before passed route U G t behind a h =
-    let r : ReadsBack route U G t (records (entry route U G t ++ behind)) = reads-back route U G t behind (a .letters) (a .of-route) (a .of-table) in
-    let q : firstNo (auditQuestions (records (entry route U G t ++ behind))) ≡ 0 = entry-audited route U G t behind (a .letters) (a .of-route) (a .of-table) in
+    let r : ReadsBack route U G t (records (entry route U G t ++ behind)) = reads-back route U G t behind a in
+    let q : firstNo (auditQuestions (records (entry route U G t ++ behind))) ≡ 0 = entry-audited route U G t behind a in
     let l : 0 < length (entry route U G t ++ behind) = omega (arith, entry-some route U G t, length-append (entry route U G t) behind) in
     walk-on before passed (entry route U G t ++ behind) l
     ∙ rw (then-15 before (records (entry route U G t ++ behind)) q, r .of-route, rises before route h, r .used, drop-at (entry route U G t) behind (length (entry route U G t)) refl)

@@ -2,7 +2,7 @@
 -- passes takes some of them.
 -- Assumes nothing.
 use mathlib.Core.Path.{_≡_, refl, sym, ap, _∙_}
-use mathlib.Core.Bool.{Bool, true, false, cond}
+use mathlib.Core.Bool.{true, cond}
 use mathlib.Core.List.{List, [], _∷_, append-assoc}
 use Prim.Native.Nat.{ℕ, zero, suc, _≤_, _<_}
 use native.Mathlib.Nat.{not-suc-le-zero}
@@ -10,7 +10,7 @@ use native.Mathlib.Omega.{arith}
 use lib.ListN.{length, drop, length-drop}
 use Rattle.tables.specs.Questions.{asks, firstNo}
 use Rattle.tables.specs.Reply.{Reply, accepted}
-use Rattle.tables.proofs.FirstNo.{asked-before}
+use Rattle.tables.proofs.FirstNo.{yes-to, asked-before}
 use Rattle.entry.specs.declared.Record.{Record}
 use Rattle.entry.specs.Record.{bytes}
 use Rattle.entry.specs.Held.{records, routeOf}
@@ -26,11 +26,7 @@ unfolding walkQuestions auditQuestions firstNo
 then-15 before rs e =
     let p : firstNo (entryQuestions rs) ≡ 0 = asked-before (entryQuestions rs) _ e in
     ap firstNo (append-assoc (entryQuestions rs) (asks 13 (answersHold rs) ∷ []) (asks 15 (routeRises before (routeOf rs)) ∷ []))
-    ∙ then-asked rs _ p ∙ go (answersHold rs) (sym (then-asked rs _ p) ∙ e)
-  where
-    go : (b : Bool) → _≡_ {A = ℕ} (cond b 0 13) 0 → _≡_ {A = ℕ} (cond b (cond (routeRises before (routeOf rs)) 0 15) 13) (cond (routeRises before (routeOf rs)) 0 15)
-    go true f = refl
-    go false f = absurd (omega arith)
+    ∙ then-asked rs _ p ∙ rw (yes-to (answersHold rs) 0 12 (sym (then-asked rs _ p) ∙ e) .0)
 
 module _ (before : ℕ) (rs : List Record) (e : firstNo (walkQuestions before rs) ≡ 0) where
   -- an entry that passes the walk's questions passes the audit's, and 15
@@ -39,11 +35,7 @@ module _ (before : ℕ) (rs : List Record) (e : firstNo (walkQuestions before rs
   passed-audit = asked-before (auditQuestions rs) _ e
 
   pub passed-15 : routeRises before (routeOf rs) ≡ true
-  passed-15 = go (routeRises before (routeOf rs)) (sym (then-15 before rs passed-audit) ∙ e)
-    where
-      go : (b : Bool) → _≡_ {A = ℕ} (cond b 0 15) 0 → b ≡ true
-      go true f = refl
-      go false f = absurd (omega arith)
+  passed-15 = yes-to (routeRises before (routeOf rs)) 0 14 (sym (then-15 before rs passed-audit) ∙ e) .0
 
   -- and takes some bytes
   pub passed-some : 0 < length (bytes rs)

@@ -10,6 +10,7 @@ use Rattle.tables.specs.Reply.{after}
 use Rattle.tables.proofs.FirstNo.{asked-before}
 use Rattle.solution.specs.Elimination.{defaultOrder}
 use Rattle.solution.specs.General.{RightVerdict}
+use Rattle.entry.specs.Entry.{Archivable}
 use Rattle.entry.specs.Held.{records, says}
 use Rattle.entry.specs.Questions.{auditQuestions}
 use Rattle.entry.proofs.Theorems.{ReadsBack, reads-back, entry-audited, entry-right}
@@ -36,15 +37,18 @@ module _ (route U G : ℕ) (condition out : List ℕ) (z : writeRefusal route U 
   ready : Ready U G lent
   ready = fine-ready route U G condition (sym none-refused) refl refl
 
+  archivable : Archivable route U G lent
+  archivable = record { letters = yes .letters; of-route = yes .route-fits; of-table = ready .table }
+
   -- demand 2: the route, U, G, the condition, solved or 'none' and the state, the answers and the length come back
   pub written-reads-back : ReadsBack route U G lent (records output)
   unfolding after archived
-  written-reads-back = reads-back route U G lent _ (yes .letters) (yes .route-fits) (ready .table)
+  written-reads-back = reads-back route U G lent _ archivable
 
   -- it passes the audit
   pub written-audited : firstNo (auditQuestions (records output)) ≡ 0
   unfolding after archived
-  written-audited = entry-audited route U G lent _ (yes .letters) (yes .route-fits) (ready .table)
+  written-audited = entry-audited route U G lent _ archivable
 
   -- demand 3: what its kind 3 and kind 5 records say of the condition is right
   pub written-right : RightVerdict U G (defaultOrder U) (present lent) (says (records output))
