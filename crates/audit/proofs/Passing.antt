@@ -13,10 +13,10 @@ use Rattle.solution.specs.Elimination.{Verdict, solved, none}
 use Rattle.entry.specs.Held.{records, heldVerdict}
 use Rattle.entry.specs.Questions.{entryQuestions, answersHold, auditQuestions}
 use Rattle.entry.proofs.Passes.{passes, then-asked}
-use Rattle.reader.specs.declared.Heading.{Heading}
-use Rattle.reader.specs.declared.Said.{Said}
+use Rattle.records.specs.declared.Heading.{Heading}
+use Rattle.records.specs.declared.Said.{Said}
 use Rattle.reader.specs.Reading.{readValues, stateOf}
-use Rattle.reader.specs.Steps.{lengthUsed, headingOf, said}
+use Rattle.records.specs.Headings.{lengthUsed, headingOf, said}
 use Rattle.audit.specs.declared.Audited.the-variants.{Passed, Refused}
 use Rattle.audit.specs.Audit.{auditRefusal, auditReply, stateSaid, audited}
 

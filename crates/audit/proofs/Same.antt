@@ -16,10 +16,10 @@ use Rattle.solution.specs.Elimination.{Verdict, solved, none, defaultOrder, sol
 use Rattle.entry.specs.declared.Record.{Record}
 use Rattle.entry.specs.Held.{conditionIn, answersIn, heldCondition, heldVerdict}
 use Rattle.entry.specs.Questions.{sameBytes, sameVerdict, solvedAfresh, answersHold}
-use Rattle.reader.specs.declared.Heading.{Heading}
-use Rattle.reader.specs.declared.Said.the-variants.{Solved, None}
-use Rattle.reader.specs.Steps.{headingOf, said}
-use Rattle.reader.proofs.Buffers.{heading-u, heading-g, said-none, said-solved}
+use Rattle.records.specs.declared.Heading.{Heading}
+use Rattle.records.specs.declared.Said.the-variants.{Solved, None}
+use Rattle.records.specs.Headings.{headingOf, said}
+use Rattle.records.proofs.Headings.{heading-u, heading-g, said-none, said-solved}
 use Rattle.solver.specs.declared.Verdict.{Verdict as Afresh}
 use Rattle.solver.specs.declared.Verdict.the-variants as fresh-variants
 use Rattle.solver.specs.Methods.{verdict}

@@ -11,8 +11,8 @@ use Rattle.solution.specs.Elimination.{defaultOrder, solve}
 use Rattle.entry.specs.Entry.{entry, Archivable}
 use Rattle.entry.specs.Held.{records}
 use Rattle.entry.specs.Questions.{auditQuestions}
-use Rattle.reader.specs.declared.Said.{Said}
-use Rattle.reader.specs.declared.Said.the-variants.{Solved, None}
+use Rattle.records.specs.declared.Said.{Said}
+use Rattle.records.specs.declared.Said.the-variants.{Solved, None}
 use Rattle.reader.specs.Reading.{readValues, stateOf}
 use Rattle.audit.specs.declared.Audited.{Audited}
 use Rattle.audit.specs.declared.Audited.the-variants.{Passed, Refused}

@@ -8,11 +8,11 @@ ghost use Rattle.tables.specs.Questions.{firstNo};
 ghost use Rattle.solution.specs.Elimination.{solved, none};
 ghost use Rattle.entry.specs.Held.{records};
 ghost use Rattle.entry.specs.Questions.{entryQuestions, sameBytes, sameVerdict, answersHold};
-ghost use Rattle.reader.specs.Steps.{headingOf};
+ghost use Rattle.records.specs.Headings.{headingOf};
 ghost use Rattle.solver.specs.Methods.{verdict};
 ghost use Rattle.audit.specs.Audit.{auditReply, audited};
-use reader::Heading;
-use reader::Said;
+use records::Heading;
+use records::Said;
 use ring::State;
 use solver::Verdict;
 
@@ -73,7 +73,7 @@ fn answers_hold(
     let g = heading.givens;
     reader::fill_condition(bytes, u, g, condition);
     let afresh = solver::solve(u, g, condition, fresh);
-    match reader::said_by(bytes) {
+    match records::said_by(bytes) {
         Said::Solved => {
             reader::fill_answers(bytes, u, g, held);
             same_answers(held, afresh, fresh)
@@ -106,13 +106,13 @@ fn holds_afresh(bytes: &[u8], heading: Heading) -> bool
 pub fn audit(bytes: &[u8]) -> Audited
     ensures { λ r. ⌜ audited r ≡ auditReply (now (bytes .entry)) ⌝ }
 {
-    let refusal = reader::entry_refusal(bytes);
+    let refusal = records::entry_refusal(bytes);
     if refusal != 0 {
         return Audited::Refused(refusal);
     }
-    let heading = reader::heading_of(bytes);
+    let heading = records::heading_of(bytes);
     if !holds_afresh(bytes, heading) {
         return Audited::Refused(tables::SOLVED);
     }
-    Audited::Passed(heading, reader::said_by(bytes))
+    Audited::Passed(heading, records::said_by(bytes))
 }

@@ -2,8 +2,8 @@
 // The stored input and output were made by the independent implementation in `reference/`.
 use libc::STDIN_FILENO;
 use libc::STDOUT_FILENO;
-use reader::Heading;
 use reader::Read;
+use records::Heading;
 use writer::Written;
 
 fn show_written(r: Written, out: &[u8]) {

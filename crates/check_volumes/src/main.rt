@@ -3,8 +3,8 @@
 use audit::Audited;
 use libc::STDIN_FILENO;
 use libc::STDOUT_FILENO;
-use reader::Heading;
-use reader::Said;
+use records::Heading;
+use records::Said;
 use volume::Walked;
 
 fn show_heading(h: Heading) {

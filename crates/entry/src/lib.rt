@@ -1,7 +1,7 @@
 // The archive entry: its records, and the laws of writing and reading one. `specs/` follows document 01: the records and their
 // bytes, the entry of a condition, what some bytes hold, and the questions that are put to them; `proofs/Theorems.antt` has the
-// headlines. The code stands in `reader` and `writer`; here are the type of a record, so that nothing is converted, and question 2, which
-// both put.
+// headlines. The code stands in `records`, `reader` and `writer`; here are the type of a record, so that nothing is converted, and
+// question 2, which reading and writing both put.
 ghost use mathlib.Core.Path.{_≡_};
 ghost use Rattle.entry.specs.Questions.{routeFits};
 

@@ -2,9 +2,9 @@
 // A slice passes as a pointer and then a length. Each function has the contract of its call, with the answer as a code (`specs/Codes.antt`).
 use audit::Audited;
 use operations::Valued;
-use reader::Heading;
 use reader::Read;
-use reader::Said;
+use records::Heading;
+use records::Said;
 use ring::Choice;
 use ring::State;
 use solver::Solving;

@@ -3,7 +3,6 @@
 use mathlib.Core.Path.{_≡_, refl, sym, ap, _∙_}
 use mathlib.Core.Bool.{Bool, true, false, cond, _&&_, and-true}
 use mathlib.Core.List.{List, [], _∷_, _++_}
-use mathlib.Core.Logic.{_⊎_, inl, inr}
 use Prim.Native.Nat.{ℕ, _+_, _*_, _^_, _≤_, _<_}
 use native.Mathlib.Nat.{one-mul, mul-le-mul}
 use native.Mathlib.Omega.{arith}
@@ -18,102 +17,20 @@ use Rattle.tables.specs.Questions.{firstNo, lettersFit, hasRoom, haveRoom}
 use Rattle.tables.specs.Reply.{accepted, after}
 use Rattle.tables.proofs.FirstNo.{first-counts}
 use Rattle.tables.proofs.Questions.{letters-small, unknowns-small}
-use Rattle.order.proofs.Lists.{bool-cases}
 use Rattle.tables.proofs.Reply.{reply-refused, reply-accepted, after-refused, after-done}
 use Rattle.solution.specs.Elimination.{Verdict, solved, none}
-use Rattle.entry.specs.declared.Record.{Record}
-use Rattle.entry.specs.Record.{bytes}
-use Rattle.entry.specs.Held.{next, records, first, routeOf, unknownsOf, givensOf, conditionIn, answersIn, unlessNone, heldCondition, heldVerdict}
-use Rattle.entry.specs.Record.{routeIn, unknownsIn, givensIn}
-use Rattle.entry.specs.Questions.{routeFits, hasEnd, kindsFollow, kindsFit, numbersFit, entryQuestions, readQuestions}
-use Rattle.entry.specs.Places.{fitsBehind}
-use Rattle.entry.proofs.Records.{first-next, some-bytes}
+use Rattle.entry.specs.Held.{records, unknownsOf, givensOf, conditionIn, answersIn, heldCondition, heldVerdict}
+use Rattle.entry.specs.Questions.{numbersFit, entryQuestions, readQuestions}
 use Rattle.entry.proofs.Places.{numbers-by-places}
-use Rattle.entry.proofs.Canonical.{unless-cases}
 use Rattle.entry.proofs.Passes.{Passes, passes, then-asked}
-use Rattle.reader.specs.declared.Heading.{Heading}
+use Rattle.records.specs.declared.Heading.{Heading}
+use Rattle.records.specs.Headings.{lengthUsed, headingOf, said}
+use Rattle.records.proofs.Headings.{heading-u, heading-g, said-none, said-solved}
 use Rattle.reader.specs.declared.Read.the-variants.{Solved, None, Refused}
-use Rattle.reader.specs.declared.Said.{Said}
-use Rattle.reader.specs.declared.Said.the-variants as said-variants
+use Rattle.records.specs.declared.Said.{Said}
+use Rattle.records.specs.declared.Said.the-variants as said-variants
 use Rattle.reader.specs.Reading.{readRefusal, readValues, stateOf, answersOf, heldAnswers}
-use Rattle.reader.specs.Steps.{lengthUsed, headingOf, said, Fitting, Reads}
-
--- ---- the first no of 10, 11, 1, 2 and 12
-module _ (rs : List Record) {n : ℕ} (e : n ≡ lengthUsed rs) where
-  whole-no : n ≡ 0 → hasEnd rs ≡ false
-  unfolding lengthUsed
-  whole-no z = go (bool-cases (hasEnd rs))
-    where
-      go : (hasEnd rs ≡ true) ⊎ (hasEnd rs ≡ false) → hasEnd rs ≡ false
-      go (inl h) = let l : length (bytes rs) ≡ 0 = sym (e ∙ rw h) ∙ z in absurd (omega (arith, some-bytes rs h))
-      go (inr h) = h
-
-  whole-yes : (n ≡ 0 → ⊥) → hasEnd rs ≡ true
-  unfolding lengthUsed
-  whole-yes z = go (bool-cases (hasEnd rs))
-    where
-      go : (hasEnd rs ≡ true) ⊎ (hasEnd rs ≡ false) → hasEnd rs ≡ true
-      go (inl h) = h
-      go (inr h) = absurd (z (e ∙ rw h))
-
-module _ (bs : List ℕ) {n : ℕ} (en : n ≡ lengthUsed (records bs)) where
-  pub refused-records : n ≡ 0 → 10 ≡ firstNo (entryQuestions (records bs))
-  unfolding firstNo entryQuestions
-  refused-records z = rw (whole-no (records bs) en z)
-
-  module _ (some : n ≡ 0 → ⊥) {r : Record} (er : r ≡ next bs) {route : ℕ} (eroute : route ≡ routeIn r) where
-    of-route : routeOf (records bs) ≡ route
-    of-route = ap routeIn (first-next bs ∙ sym er) ∙ sym eroute
-
-    pub refused-kinds : kindsFollow 0 route (records bs) ≡ false → 11 ≡ firstNo (entryQuestions (records bs))
-    unfolding firstNo entryQuestions kindsFit
-    refused-kinds f = rw (whole-yes (records bs) en some, of-route, f)
-
-    module _ (k : kindsFollow 0 route (records bs) ≡ true) {u g : ℕ} (eu : u ≡ unknownsIn r) (eg : g ≡ givensIn r) where
-      of-unknowns : unknownsOf (records bs) ≡ u
-      of-unknowns = ap unknownsIn (first-next bs ∙ sym er) ∙ sym eu
-
-      of-givens : givensOf (records bs) ≡ g
-      of-givens = ap givensIn (first-next bs ∙ sym er) ∙ sym eg
-
-      pub refused-letters : lettersFit u g ≡ false → 1 ≡ firstNo (entryQuestions (records bs))
-      unfolding firstNo entryQuestions kindsFit
-      refused-letters f = rw (whole-yes (records bs) en some, of-route, k, of-unknowns, of-givens, f)
-
-      module _ (l : lettersFit u g ≡ true) where
-        pub refused-route : routeFits route ≡ false → 2 ≡ firstNo (entryQuestions (records bs))
-        unfolding firstNo entryQuestions kindsFit
-        refused-route f = rw (whole-yes (records bs) en some, of-route, k, of-unknowns, of-givens, l, f)
-
-        module _ (t : routeFits route ≡ true) where
-          numbers-are : {b : Bool} → fitsBehind u g 0 (records bs) ≡ b → numbersFit (records bs) ≡ b
-          unfolding numbersFit
-          numbers-are f = rw (of-unknowns, of-givens, ← numbers-by-places u g (letters-small u g l) (records bs)) f
-
-          pub refused-numbers : fitsBehind u g 0 (records bs) ≡ false → 12 ≡ firstNo (entryQuestions (records bs))
-          unfolding firstNo entryQuestions kindsFit
-          refused-numbers f = rw (whole-yes (records bs) en some, of-route, k, of-unknowns, of-givens, l, t, numbers-are f)
-
-          pub not-refused : fitsBehind u g 0 (records bs) ≡ true → 0 ≡ firstNo (entryQuestions (records bs))
-          unfolding firstNo entryQuestions kindsFit
-          not-refused f = rw (whole-yes (records bs) en some, of-route, k, of-unknowns, of-givens, l, t, numbers-are f)
-
--- ---- the heading
-pub heading-is : (bs : List ℕ) {r : Record} {route u g n : ℕ} → r ≡ next bs → route ≡ routeIn r → u ≡ unknownsIn r → g ≡ givensIn r → n ≡ lengthUsed (records bs)
-    → record { route = route; unknowns = u; givens = g; used = n } ≡ headingOf (records bs)
-unfolding headingOf
-heading-is bs {r} er eroute eu eg en =
-    let f : r ≡ first (records bs) = er ∙ sym (first-next bs) in
-    rw (eroute ∙ ap routeIn f, eu ∙ ap unknownsIn f, eg ∙ ap givensIn f, en)
-
-module _ (rs : List Record) {h : Heading} (eh : h ≡ headingOf rs) where
-  pub heading-u : h .unknowns ≡ unknownsOf rs
-  unfolding headingOf
-  heading-u = ap (λ (x : Heading). x .unknowns) eh
-
-  pub heading-g : h .givens ≡ givensOf rs
-  unfolding headingOf
-  heading-g = ap (λ (x : Heading). x .givens) eh
+use Rattle.reader.specs.Steps.{Fitting, Reads}
 
 -- ---- refused before question 4
 pub read-refused : (bs c a : List ℕ) {q : ℕ} → q ≡ firstNo (entryQuestions (records bs)) → (q ≡ 0 → ⊥) → Reads bs c a (Refused q) c a
@@ -125,18 +42,6 @@ read-refused bs c a {q} e n =
       condition = after-refused q _ f (heldCondition (records bs)) c n;
       answers = after-refused q _ f (heldAnswers (records bs)) a n;
     }
-
--- ---- the verdict
-pub said-none : {A : Type 0} (v : Verdict A) (state : State) → said v ≡ said-variants.None state → v ≡ none state
-said-none (solved a) state e = let z : _≡_ {A = ℕ} 0 1 = (cc) in absurd (omega arith)
-said-none (none s) state e = let f : s ≡ state = (cc) in ap none f
-
-pub said-solved : {A : Type 0} (a : A) (rs : List Record) → said (unlessNone a rs) ≡ said-variants.Solved → unlessNone a rs ≡ solved a
-said-solved a rs e = go (unless-cases a rs)
-  where
-    go : (unlessNone a rs ≡ solved a) ⊎ ((state : State) × (unlessNone a rs ≡ none state)) → unlessNone a rs ≡ solved a
-    go (inl f) = f
-    go (inr f) = let g : said-variants.None (f .0) ≡ said-variants.Solved = sym (ap said (f .1)) ∙ e in let z : _≡_ {A = ℕ} 0 1 = (cc) in absurd (omega arith)
 
 -- ---- question 4
 pub then-4 : (bs : List ℕ) → firstNo (entryQuestions (records bs)) ≡ 0 → {u g : ℕ} → unknownsOf (records bs) ≡ u → givensOf (records bs) ≡ g → (room answerRoom : ℕ)

@@ -64,12 +64,6 @@ put-small base u g r {i} {k} hu h b ei ek =
     let q : (i - base) * k ≤ 6 * k = mul-le-mul-right k (omega arith) in
     omega arith
 
-pub mask-small : (u g : ℕ) (r : Record) {b : Bool} {m : ℕ} → u + g ≤ 10 → inBounds u g r ≡ true → b ≡ isMonomial r → b ≡ true → m ≡ maskIn r → m < 1024
-mask-small u g r {b} {m} h e eb f em =
-    let p : 2 ^ (u + g) ≤ 1024 = pow-mono h in
-    let l : maskIn r < 2 ^ (u + g) = mask-in-bounds u g r e (sym eb ∙ f) in
-    omega arith
-
 -- ---- what the loop of `fill` keeps
 pub record Filling (bs : List ℕ) (base u g : ℕ) (t₀ t : List ℕ) (at : ℕ) : Type 0 where
   pub inside : at ≤ length bs

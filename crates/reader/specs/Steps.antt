@@ -8,30 +8,12 @@ use lib.Dec.{leb}
 use lib.ListN.{length, set}
 use Rattle.ring.specs.Table.{tabulate}
 use Rattle.tables.specs.Reply.{reply, after}
-use Rattle.solution.specs.Elimination.{Verdict, solved, none}
 use Rattle.entry.specs.declared.Record.{Record}
-use Rattle.entry.specs.Record.{bytes, isMonomial, maskIn, tableIn}
-use Rattle.entry.specs.Held.{records, routeOf, unknownsOf, givensOf, heldCondition}
-use Rattle.entry.specs.Questions.{hasEnd}
+use Rattle.entry.specs.Record.{isMonomial, maskIn, tableIn}
+use Rattle.entry.specs.Held.{records, heldCondition}
 use Rattle.entry.specs.Places.{fitsBehind}
-use Rattle.reader.specs.declared.Heading.{Heading}
 use Rattle.reader.specs.declared.Read.{Read}
-use Rattle.reader.specs.declared.Said.{Said}
-use Rattle.reader.specs.declared.Said.the-variants.{Solved, None}
 use Rattle.reader.specs.Reading.{reading, readRefusal, readValues, heldAnswers}
-
--- the length to the end of the first kind 4, 0 if there is none
-unfoldable pub lengthUsed : List Record → ℕ
-lengthUsed rs = cond (hasEnd rs) (length (bytes rs)) 0
-
--- what the start says, and the length used
-unfoldable pub headingOf : List Record → Heading
-headingOf rs = record { route = routeOf rs; unknowns = unknownsOf rs; givens = givensOf rs; used = lengthUsed rs }
-
--- whether a verdict is 'none', and in which state
-abbrev pub said : {A : Type 0} → Verdict A → Said
-said (solved a) = Solved
-said (none state) = None state
 
 -- k bytes 0
 abbrev pub zeros : ℕ → List ℕ

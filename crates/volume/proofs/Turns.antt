@@ -16,8 +16,8 @@ use Rattle.entry.specs.Record.{bytes}
 use Rattle.entry.specs.Held.{records, routeOf}
 use Rattle.entry.specs.Questions.{auditQuestions}
 use Rattle.entry.proofs.Records.{used-fits}
-use Rattle.reader.specs.declared.Heading.{Heading}
-use Rattle.reader.specs.declared.Said.{Said}
+use Rattle.records.specs.declared.Heading.{Heading}
+use Rattle.records.specs.declared.Said.{Said}
 use Rattle.reader.specs.Reading.{readValues}
 use Rattle.audit.specs.declared.Audited.{Audited}
 use Rattle.audit.specs.declared.Audited.the-variants.{Passed, Refused}

@@ -4,7 +4,7 @@ use native.Mathlib.Omega.{arith}
 use lib.ListN.{length}
 use borrow.Author.Needs.{needs}
 use Rattle.reader.proofs.Filling.{Filling, fill-start, fill-none, fill-broken, fill-bounds, fill-end, fill-next}
-use Rattle.reader.proofs.Loops.{on-fits}
+use Rattle.records.proofs.Loops.{on-fits}
 use Rattle.reader.proofs.fill.Statement.{statement}
 use Rattle.reader.proofs.fill.Tie as tie
 

@@ -3,7 +3,8 @@ use Prim.Native.Nat.{_-_, _*_, _≤_, _<_}
 use native.Mathlib.Omega.{arith}
 use borrow.Author.Needs.{needs}
 use Rattle.tables.proofs.Questions.{failed, passed}
-use Rattle.reader.proofs.Filling.{put-other, put-before, put-here, put-small, mask-small}
+use Rattle.records.proofs.OneRecord.{mask-small}
+use Rattle.reader.proofs.Filling.{put-other, put-before, put-here, put-small}
 use Rattle.reader.proofs.put_monomial.Statement.{statement}
 use Rattle.reader.proofs.put_monomial.Tie as tie
 
