@@ -2,15 +2,14 @@
 -- The bytes are `entry route U G t`, which `write_entry` writes and `read_entry` and `audit` read; t is the table that `read_text` reads the text into.
 -- What the entry's records say is right (`entry-right`), and a written entry reads back (`reads-back`); both are put into the demand's own words here.
 -- Assumes nothing.
-use mathlib.Core.Path.{_≡_, refl, sym, ap, _∙_}
+use mathlib.Core.Path.{_≡_, refl, sym, _∙_}
 use mathlib.Core.Bool.{Bool, true, false, _||_, cond}
 use mathlib.Core.Logic.{_↔_}
 use mathlib.Core.List.{List, [], _∷_, _++_}
 use Prim.Native.Nat.{ℕ, _+_}
 use native.Mathlib.Omega.{arith}
 use Rattle.ring.specs.declared.State.{State}
-use Rattle.ring.specs.Table.{IsTable, present, table}
-use Rattle.ring.proofs.Table.{is-table}
+use Rattle.ring.specs.Table.{present}
 use Rattle.solution.specs.Letters.{Letter, HoldsGivens}
 use Rattle.solution.specs.Substitution.{Substitution, ownLetters, MakesZero}
 use Rattle.solution.specs.Elimination.{solved, none, defaultOrder, solve}
@@ -18,6 +17,7 @@ use Rattle.solution.specs.General.{RightVerdict}
 use Rattle.solution.proofs.Letters.{own-holds}
 use Rattle.grammar.specs.Text.{textTable}
 use Rattle.notation.specs.Text.{Accepted}
+use Rattle.notation.proofs.Refusal.{text-is-table}
 use Rattle.entry.specs.declared.Record.{Record}
 use Rattle.entry.specs.Record.{isNone, stateIn}
 use Rattle.entry.specs.Held.{records, answersIn, unlessNone, says, heldCondition, heldVerdict}
@@ -80,11 +80,6 @@ module _ (U G : ℕ) (t e : List ℕ) (r : RightVerdict U G (defaultOrder U) (pr
         condition-read = condition;
         verdict-read = verdict;
       }
-
--- the table that a text is read into is one
-pub text-is-table : (U G : ℕ) (text : List ℕ) → IsTable (U + G) (textTable U G text)
-unfolding textTable table
-text-is-table U G text = is-table (U + G) _
 
 -- demand 3, whole, whatever stands behind the entry
 pub demand-3 : (U G route : ℕ) (text behind : List ℕ) → Accepted U G text → routeFits route ≡ true

@@ -17,13 +17,13 @@ use Rattle.grammar.specs.Meaning.{normalForm}
 use Rattle.grammar.specs.Reader.{reads, readWith, andThen, grammarReads, treeOf}
 use Rattle.grammar.specs.Text.{textTable}
 use Rattle.notation.specs.Text.{hasTextLength, textQuestions, textRefusal}
+use Rattle.notation.proofs.Refusal.{text-is-table}
 use Rattle.notation.proofs.Theorems.{done-exactly}
 use Rattle.entry.specs.Questions.{routeFits}
 use Rattle.entry.specs.Entry.{entry}
 use Rattle.entry.specs.Held.{records, heldVerdict}
 use Rattle.entry.proofs.Theorems.{reads-back}
 use Rattle.demands.specs.StarredRows.{starredTexts, TextHolds, AllHold, end, _also_}
-use Rattle.demands.proofs.Demand3.{text-is-table}
 
 -- the text is read, and into the row's table
 pub record Reads (text : List ℕ) (r : Row) : Type 0 where

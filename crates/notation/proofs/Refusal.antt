@@ -1,22 +1,21 @@
 -- The questions of a text as the code asks them, one test after another, and what it means that none of them is answered no.
 -- Assumes nothing.
-use mathlib.Core.Path.{_≡_, refl, sym, _∙_}
-use mathlib.Core.Bool.{Bool, true, false, cond}
+use mathlib.Core.Path.{_≡_, sym, _∙_}
+use mathlib.Core.Bool.{true, false}
 use mathlib.Core.List.{List}
-use Prim.Native.Nat.{ℕ, suc, _+_, _^_, _≤_, _<_}
-use native.Mathlib.Omega.{arith}
+use Prim.Native.Nat.{ℕ, _+_, _^_, _≤_, _<_}
 use lib.Dec.{leb}
 use lib.ListN.{length, take}
 use lib.Seq.{length-take-le}
 use borrow.Author.Tests.{le-leb, lt-leb, leb-true}
 use Rattle.tables.specs.Questions.{firstNo, lettersFit, hasRoom}
 use Rattle.tables.proofs.Bits.{both-right}
+use Rattle.tables.proofs.FirstNo.{yes-to}
 use Rattle.tables.proofs.Questions.{letters-small, unknowns-small}
 use Rattle.grammar.specs.Symbols.{allSigns, allDeclared}
-use Rattle.ring.specs.Table.{table}
-use Rattle.ring.proofs.Table.{length-tabulate}
-use Rattle.grammar.specs.Meaning.{normalForm}
-use Rattle.grammar.specs.Reader.{grammarReads, treeOf}
+use Rattle.ring.specs.Table.{IsTable, table}
+use Rattle.ring.proofs.Table.{is-table}
+use Rattle.grammar.specs.Reader.{grammarReads}
 use Rattle.grammar.specs.Text.{textTable}
 use Rattle.notation.specs.Text.{hasTextLength, textQuestions, textRefusal, Accepted}
 use Rattle.notation.specs.Work.{Ready}
@@ -64,10 +63,6 @@ module _ (U G : ℕ) (text : List ℕ) (room : ℕ) where
     pub accepted : Accepted U G text
     pub room-fits : 2 ^ (U + G) ≤ room
 
-  yes-to : (p : Bool) (x q : ℕ) → cond p x (suc q) ≡ 0 → (p ≡ true) × (x ≡ 0)
-  yes-to true x q e = (refl, e)
-  yes-to false x q e = absurd (omega arith)
-
   pub fine : textRefusal U G text room ≡ 0 → Fine
   unfolding textRefusal textQuestions firstNo hasRoom
   fine z =
@@ -88,9 +83,13 @@ module _ (U G : ℕ) (text : List ℕ) (room : ℕ) where
   pub fine-room : Fine → (k : ℕ) → k ≡ 2 ^ (U + G) → k ≤ room
   fine-room f k e = rw e (f .room-fits)
 
-pub table-length : (U G : ℕ) (text : List ℕ) (k : ℕ) → k ≡ 2 ^ (U + G) → k ≡ length (textTable U G text)
+-- the table that a text is read into is one
+pub text-is-table : (U G : ℕ) (text : List ℕ) → IsTable (U + G) (textTable U G text)
 unfolding textTable table
-table-length U G text k e = e ∙ sym (length-tabulate (2 ^ (U + G)) (normalForm U G (treeOf text)))
+text-is-table U G text = is-table (U + G) _
+
+pub table-length : (U G : ℕ) (text : List ℕ) (k : ℕ) → k ≡ 2 ^ (U + G) → k ≡ length (textTable U G text)
+table-length U G text k e = e ∙ sym (text-is-table U G text .size)
 
 pub ready : (U G : ℕ) (text condition : List ℕ) (k : ℕ) → Fine U G text (length condition) → k ≡ 2 ^ (U + G) → Ready U G text (take k condition)
 ready U G text condition k f e =

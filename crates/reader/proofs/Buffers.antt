@@ -4,10 +4,9 @@ use mathlib.Core.Path.{_≡_, refl, sym, ap, _∙_}
 use mathlib.Core.Bool.{Bool, true, false, cond, _&&_, and-true}
 use mathlib.Core.List.{List, [], _∷_, _++_}
 use Prim.Native.Nat.{ℕ, _+_, _*_, _^_, _≤_, _<_}
-use native.Mathlib.Nat.{one-mul, mul-le-mul}
+use native.Mathlib.Nat.{one-mul}
 use native.Mathlib.Omega.{arith}
 use lib.Dec.{leb}
-use lib.Pow.{pow-mono}
 use lib.ListN.{length, drop}
 use borrow.Author.Tests.{le-leb, lt-leb}
 use Rattle.ring.specs.declared.State.{State}
@@ -16,6 +15,7 @@ use Rattle.ring.proofs.Table.{length-table, length-answerTable}
 use Rattle.tables.specs.Questions.{firstNo, lettersFit, hasRoom, haveRoom}
 use Rattle.tables.specs.Reply.{accepted, after}
 use Rattle.tables.proofs.FirstNo.{first-counts}
+use Rattle.tables.proofs.Parts.{answers-fit}
 use Rattle.tables.proofs.Questions.{letters-small, unknowns-small}
 use Rattle.tables.proofs.Reply.{reply-refused, reply-accepted, after-refused, after-done}
 use Rattle.solution.specs.Elimination.{Verdict, solved, none}
@@ -80,11 +80,7 @@ module _ (bs : List ℕ) (p : firstNo (entryQuestions (records bs)) ≡ 0) {h : 
       }
 
   pub size-small : {k : ℕ} → k ≡ 2 ^ (h .unknowns + h .givens) → h .unknowns * k ≤ 6144
-  size-small {k} ek =
-      let q : 2 ^ (h .unknowns + h .givens) ≤ 1024 = pow-mono heading-small in
-      let s : k ≤ 1024 = rw ek q in
-      let r : h .unknowns * k ≤ 6 * 1024 = mul-le-mul heading-unknowns s in
-      omega arith
+  size-small ek = answers-fit heading-unknowns ek heading-small
 
   module _ (c a : List ℕ) {k : ℕ} (ek : k ≡ 2 ^ (h .unknowns + h .givens)) where
     room : Bool

@@ -5,11 +5,10 @@ use mathlib.Core.Bool.{Bool, true, false, cond, _&&_, _||_}
 use mathlib.Core.List.{List, [], _∷_}
 use mathlib.Core.Logic.{_⊎_, inl, inr}
 use Prim.Native.Nat.{ℕ, suc, _+_, _-_, _*_, _/_, _%_, _^_, _≤_, _<_}
-use native.Mathlib.Nat.{zero-add, mul-le-mul-right, div-add-mod', div-eq-of-lt, mod-eq-of-lt}
+use native.Mathlib.Nat.{zero-add, div-add-mod', div-eq-of-lt, mod-eq-of-lt}
 use native.Mathlib.Omega.{arith}
 use lib.Dec.{leb, eqb}
 use lib.Arith.{digits-div, digits-mod}
-use lib.Pow.{pow-mono}
 use lib.ListN.{length, getD, drop, set, length-set}
 use lib.Seq.{ext-getD, getD-set-same, getD-set-other}
 use borrow.Author.Tests.{le-leb, lt-leb, leb-true, leb-false, eq-eqb, ne-eqb, eqb-true, eqb-false}
@@ -17,6 +16,7 @@ use Rattle.ring.specs.Letters.{digit}
 use Rattle.ring.specs.Table.{tabulate, table, answerTable}
 use Rattle.ring.proofs.Bool.{bool-iff}
 use Rattle.ring.proofs.Table.{length-tabulate, getD-tabulate, tabulate-cong}
+use Rattle.tables.proofs.Parts.{answers-fit}
 use Rattle.order.proofs.Lists.{and-left, and-right, both, bool-cases}
 use Rattle.entry.specs.declared.Record.{Record}
 use Rattle.entry.specs.Record.{size, kind, isEnd, isMonomial, maskIn, tableIn}
@@ -59,10 +59,8 @@ module _ (base k : ℕ) (r : Record) (t : List ℕ) where
 -- the byte's index is small
 pub put-small : (base u g : ℕ) (r : Record) {i k : ℕ} → u ≤ 6 → u + g ≤ 10 → inBounds u g r ≡ true → i ≡ tableIn r → k ≡ 2 ^ (u + g) → (i - base) * k ≤ 6144
 put-small base u g r {i} {k} hu h b ei ek =
-    let p : 2 ^ (u + g) ≤ 1024 = pow-mono h in
     let l : i ≤ u = rw ei (table-in-bounds u g r b) in
-    let q : (i - base) * k ≤ 6 * k = mul-le-mul-right k (omega arith) in
-    omega arith
+    answers-fit (omega arith) ek h
 
 -- ---- what the loop of `fill` keeps
 pub record Filling (bs : List ℕ) (base u g : ℕ) (t₀ t : List ℕ) (at : ℕ) : Type 0 where

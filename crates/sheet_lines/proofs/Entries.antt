@@ -1,22 +1,19 @@
 -- The entry that is printed: the writer is asked nothing that it can answer no, and what it writes is the bytes of whole records.
 -- Assumes nothing.
 use mathlib.Core.Path.{_≡_, sym, ap, _∙_}
-use mathlib.Core.Bool.{true}
 use mathlib.Core.List.{List, [], _∷_, _++_}
 use Prim.Native.Nat.{ℕ, _+_, _^_, _≤_}
 use native.Mathlib.Omega.{arith}
 use lib.ListN.{length, take, drop, length-append}
 use lib.Seq.{take-all, take-at}
 use borrow.Author.Tests.{le-leb}
-use Rattle.ring.specs.Table.{IsTable}
-use Rattle.tables.specs.Questions.{firstNo, lettersFit, hasRoom, holdsBits}
+use Rattle.tables.specs.Questions.{firstNo, hasRoom, holdsBits}
 use Rattle.tables.specs.Reply.{reply, after}
 use Rattle.tables.specs.Put.{Put}
 use Rattle.tables.proofs.Bits.{bits-are}
 use Rattle.tables.proofs.Put.{put-same}
-use Rattle.entry.specs.Entry.{archivedRecords, entry}
+use Rattle.entry.specs.Entry.{archivedRecords, entry, Archivable}
 use Rattle.entry.specs.Held.{records, AreRecords}
-use Rattle.entry.specs.Questions.{routeFits}
 use Rattle.entry.proofs.Back.{held-records, are-records}
 use Rattle.entry.proofs.Theorems.{entry-bound}
 use Rattle.writer.specs.declared.Written.{Written}
@@ -24,14 +21,14 @@ use Rattle.writer.specs.declared.Written.the-variants.{Done, Refused}
 use Rattle.writer.specs.Writing.{archived, outputFits, writeQuestions, writeRefusal, written}
 use Rattle.printing.specs.Print.{recordLines}
 
-module _ (route U G : ℕ) (t : List ℕ) (l : lettersFit U G ≡ true) (f : routeFits route ≡ true) (is : IsTable (U + G) t) where
+module _ (route U G : ℕ) (t : List ℕ) (a : Archivable route U G t) where
   all-of-it : take (2 ^ (U + G)) t ≡ t
-  all-of-it = take-all (2 ^ (U + G)) t (omega (arith, is .size))
+  all-of-it = take-all (2 ^ (U + G)) t (omega (arith, a .of-table .size))
 
   pub none-refused : (room : ℕ) → 27654 ≤ room → writeRefusal route U G t room ≡ 0
   unfolding writeRefusal writeQuestions firstNo hasRoom holdsBits outputFits archived
   none-refused room h =
-      rw (l, f, le-leb (2 ^ (U + G)) (length t) (omega (arith, is .size)), all-of-it, bits-are t (is .bits), le-leb (length (entry route U G t)) room (omega (arith, entry-bound route U G t l)))
+      rw (a .letters, a .of-route, le-leb (2 ^ (U + G)) (length t) (omega (arith, a .of-table .size)), all-of-it, bits-are t (a .of-table .bits), le-leb (length (entry route U G t)) room (omega (arith, entry-bound route U G t (a .letters))))
 
   module _ (room : ℕ) (h : 27654 ≤ room) (r : Written) (e : written r ≡ reply (writeRefusal route U G t room) (length (archived route U G t) ∷ [])) where
     as-written : written r ≡ reply 0 (length (entry route U G t) ∷ [])
@@ -64,7 +61,7 @@ module _ (route U G : ℕ) (t : List ℕ) (l : lettersFit U G ≡ true) (f : rou
       written-records = rw es (are-records route U G t)
 
       pub written-short : length s ≤ 27654
-      written-short = rw es (entry-bound route U G t l)
+      written-short = rw es (entry-bound route U G t (a .letters))
 
       pub printed-records : {old new : List ℕ} {at next : ℕ} → Put old at (recordLines (records s)) next new → Put old at (recordLines (archivedRecords route U G t)) next new
       printed-records p = put-same p (ap recordLines (ap records es ∙ held-records route U G t))

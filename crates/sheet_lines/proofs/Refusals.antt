@@ -10,8 +10,7 @@ use lib.Pow.{pow-mono}
 use lib.ListN.{length, take, drop, length-append}
 use lib.Seq.{take-at}
 use borrow.Author.Tests.{le-leb, lt-ltb, le-ltb}
-use Rattle.ring.specs.Table.{IsTable, table}
-use Rattle.ring.proofs.Table.{is-table}
+use Rattle.ring.specs.Table.{IsTable}
 use Rattle.tables.specs.declared.Outcome.{Outcome}
 use Rattle.tables.specs.declared.Outcome.the-variants.{Done, Refused}
 use Rattle.tables.specs.Put.{Put}
@@ -23,7 +22,7 @@ use Rattle.grammar.specs.Symbols.{allSigns, allDeclared}
 use Rattle.grammar.specs.Reader.{grammarReads}
 use Rattle.grammar.specs.Text.{textTable}
 use Rattle.notation.specs.Text.{hasTextLength, textQuestions, textRefusal}
-use Rattle.notation.proofs.Refusal.{fine, table-length}
+use Rattle.notation.proofs.Refusal.{fine, table-length, text-is-table}
 use Rattle.entry.specs.Entry.{archivedRecords}
 use Rattle.entry.specs.Questions.{routeFits}
 use Rattle.printing.specs.Print.{recordLines, refusedLine}
@@ -129,5 +128,4 @@ module _ (U G : ℕ) (text lent condition : List ℕ) (e : condition ≡ after 0
   front-room = omega (arith, ap length e, length-append (textTable U G text) (drop (length (textTable U G text)) lent), table-length U G text k ek)
 
   pub front-is-table : IsTable (U + G) (take k condition)
-  unfolding textTable table
-  front-is-table = rw front-table (is-table (U + G) _)
+  front-is-table = rw front-table (text-is-table U G text)

@@ -1,17 +1,13 @@
 // What the program `sheet` prints, as functions on slices; the program only reads and writes.
 // Nothing here is a public call of the library: the functions are for that program, which meets what they require.
 ghost use mathlib.Core.Path.{_≡_};
-ghost use mathlib.Core.Bool.{true};
 ghost use mathlib.Core.List.{[], _∷_};
 ghost use Prim.Native.Nat.{_+_, _-_, _≤_, _<_};
 ghost use lib.ListN.{length};
-ghost use Rattle.ring.specs.Table.{IsTable};
 ghost use Rattle.tables.specs.Put.{Put};
-ghost use Rattle.tables.specs.Questions.{lettersFit};
 ghost use Rattle.tables.specs.Reply.{after};
 ghost use Rattle.grammar.specs.Text.{textTable};
-ghost use Rattle.entry.specs.Entry.{archivedRecords};
-ghost use Rattle.entry.specs.Questions.{routeFits};
+ghost use Rattle.entry.specs.Entry.{archivedRecords, Archivable};
 ghost use Rattle.printing.specs.Print.{recordLines};
 ghost use Rattle.sheet_lines.specs.Fields.{isDigit, digitsAhead, numberBehind, hasLetters, isReadable, readLine};
 ghost use Rattle.sheet_lines.specs.Sheet.{lineRefusal};
@@ -198,7 +194,7 @@ fn put_entry(
     givens: usize,
     condition: &[u8],
 ) -> usize
-    requires { ⌜ (lettersFit unknowns givens ≡ true) × (routeFits route ≡ true) × IsTable (unknowns + givens) (now condition) × (at + lineRoom ≤ length (now out)) ⌝ }
+    requires { ⌜ Archivable route unknowns givens (now condition) × (at + lineRoom ≤ length (now out)) ⌝ }
     ensures { λ r. ⌜ Put (now (out .entry)) at (recordLines (archivedRecords route unknowns givens (now (condition .entry)))) r (now (out .exit)) ⌝ }
 {
     let mut written = entry_room();

@@ -5,10 +5,10 @@ use mathlib.Core.Path.{_≡_, refl, sym, ap, ap₂, _∙_}
 use mathlib.Core.Bool.{Bool}
 use mathlib.Core.List.{List, _++_, append-assoc}
 use Prim.Native.Nat.{ℕ, _+_, _-_, _*_, _/_, _%_, _^_, _≤_, _<_}
-use native.Mathlib.Nat.{add-mul, one-mul, mul-le-mul-right}
+use native.Mathlib.Nat.{add-mul, one-mul, mul-le-mul, mul-le-mul-right}
 use native.Mathlib.Omega.{arith}
 use lib.Dec.{eqb}
-use lib.Pow.{high, low}
+use lib.Pow.{high, low, pow-mono}
 use lib.ListN.{length, getD, take, drop, length-drop}
 use lib.Seq.{getD-take, getD-drop, drop-drop, take-at, drop-at, length-take-le}
 use borrow.Rule.Slice.PartMut.{putMid}
@@ -28,7 +28,7 @@ part-byte : (n j : ℕ) (t : List ℕ) (i : ℕ) → i < 2 ^ n → partByte n t 
 unfolding partByte
 part-byte n j t i h = ap₂ (λ (x y : ℕ). digit (value n (held n t x) y)) (high j n h) (low j n h)
 
-held-part : (n j : ℕ) (t : List ℕ) (m : ℕ) → m < 2 ^ n → present (take (2 ^ n) (drop (j * 2 ^ n) t)) m ≡ held n t j m
+pub held-part : (n j : ℕ) (t : List ℕ) (m : ℕ) → m < 2 ^ n → present (take (2 ^ n) (drop (j * 2 ^ n) t)) m ≡ held n t j m
 unfolding held present
 held-part n j t m h = ap (λ (x : ℕ). eqb x 1) (getD-take (2 ^ n) (drop (j * 2 ^ n) t) m 0 h ∙ getD-drop (j * 2 ^ n) t m 0)
 
@@ -74,6 +74,13 @@ parts-done n count j k t₀ t ek ej size e =
     let whole : j * k ≡ length t₀ = ap₂ (λ (x y : ℕ). x * y) ej ek ∙ sym size in
     e ∙ ap (λ (x : ℕ). filled x (partByte n t₀) t₀) whole ∙ filled-all (partByte n t₀) t₀
     ∙ ap (λ (x : ℕ). listed x (partByte n t₀)) size ∙ sym (tabulate-listed (count * 2 ^ n) _)
+
+-- six tables, as many as there are unknowns, take no more bytes than this
+pub answers-fit : {count n k : ℕ} → count ≤ 6 → k ≡ 2 ^ n → n ≤ 10 → count * k ≤ 6144
+answers-fit {count} {n} {k} hc ek hn =
+    let b : 2 ^ n ≤ 1024 = pow-mono hn in
+    let c : k ≤ 1024 = rw ek b in
+    mul-le-mul hc c
 
 -- table j lies within
 pub part-room : (n count j k : ℕ) (t : List ℕ) → k ≡ 2 ^ n → j < count → length t ≡ count * 2 ^ n → j * k + k ≤ length t

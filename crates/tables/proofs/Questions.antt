@@ -3,7 +3,7 @@
 use mathlib.Core.Path.{_≡_, refl, sym, ap, ap₂, _∙_}
 use mathlib.Core.Bool.{Bool, true, false, _&&_, cond, not, and-true}
 use mathlib.Core.List.{List, [], _∷_, _++_}
-use Prim.Native.Nat.{ℕ, zero, suc, _+_, _*_, _^_, _≤_, _<_}
+use Prim.Native.Nat.{ℕ, zero, _+_, _*_, _^_, _≤_, _<_}
 use native.Mathlib.Nat.{one-mul, zero-mul, mul-le-mul}
 use native.Mathlib.Omega.{arith}
 use lib.Dec.{leb}
@@ -14,6 +14,7 @@ use Rattle.ring.specs.Table.{AreBits, IsTable}
 use Rattle.tables.specs.Questions.{Asked, asks, firstNo, lettersFit, hasRoom, areBits, holdsBits, Lent, reads, writes, haveRoom, holdBits, tableQuestions}
 use Rattle.tables.proofs.Steps.{pow-small}
 use Rattle.tables.proofs.Bits.{both-left, both-right, are-bits}
+use Rattle.tables.proofs.FirstNo.{yes-to, first-counts}
 
 -- a question's answer as the code has it, in a bool that a branch then tests
 pub failed : {r x : Bool} → r ≡ x → not r ≡ true → x ≡ false
@@ -106,10 +107,6 @@ module _ (u g : ℕ) (a b : List ℕ) (count room results : ℕ) where
     pub first-bits : AreBits (take (2 ^ (u + g)) a)
     pub second-bits : AreBits (take (count * 2 ^ (u + g)) b)
 
-  yes-to : (p : Bool) (x q : ℕ) → cond p x (suc q) ≡ 0 → (p ≡ true) × (x ≡ 0)
-  yes-to true x q e = (refl, e)
-  yes-to false x q e = absurd (omega arith)
-
   pub fine : tableRefusal ≡ 0 → Fine
   unfolding testsAt holdsBits
   fine z =
@@ -159,23 +156,14 @@ second-table u g a b room results f k e =
 module _ (u g : ℕ) (lent : List Lent) (more : List Asked) where
   pub table-yes : firstNo (tableQuestions u g lent) ≡ 0 → firstNo (tableQuestions u g lent ++ more) ≡ firstNo more
   unfolding firstNo tableQuestions
-  table-yes = go (lettersFit u g) (haveRoom (u + g) lent) (holdBits (u + g) lent) (firstNo more)
-    where
-      go : (p q r : Bool) (m : ℕ) → _≡_ {A = ℕ} (cond p (cond q (cond r 0 8) 4) 1) 0 → cond p (cond q (cond r m 8) 4) 1 ≡ m
-      go true true true m e = refl
-      go true true false m e = absurd (omega arith)
-      go true false r m e = absurd (omega arith)
-      go false q r m e = absurd (omega arith)
+  table-yes z =
+      let l = yes-to (lettersFit u g) _ 0 z in
+      let r = yes-to (haveRoom (u + g) lent) _ 3 (l .1) in
+      let b = yes-to (holdBits (u + g) lent) _ 7 (r .1) in
+      rw (l .0, r .0, b .0)
 
   pub table-no : (found : ℕ) → found ≡ firstNo (tableQuestions u g lent) → (found ≡ 0 → ⊥) → found ≡ firstNo (tableQuestions u g lent ++ more)
-  unfolding firstNo tableQuestions
-  table-no found e n = go (lettersFit u g) (haveRoom (u + g) lent) (holdBits (u + g) lent) (firstNo more) e
-    where
-      go : (p q r : Bool) (m : ℕ) → found ≡ cond p (cond q (cond r 0 8) 4) 1 → found ≡ cond p (cond q (cond r m 8) 4) 1
-      go true true true m h = absurd (n h)
-      go true true false m h = h
-      go true false r m h = h
-      go false q r m h = h
+  table-no found e n = e ∙ sym (first-counts (tableQuestions u g lent) more (λ z. n (e ∙ z)))
 
 -- a second table of no bytes and a result of no tables ask for nothing
 pub one-table : (u g : ℕ) (a : List ℕ) → tableRefusal u g a [] 0 0 0 ≡ firstNo (tableQuestions u g (reads 1 a ∷ []))

@@ -8,12 +8,12 @@ use native.Mathlib.Nat.{add-zero, add-suc, add-mul, one-mul, mul-le-mul-right}
 use native.Mathlib.Numerals.{add-one}
 use native.Mathlib.Omega.{arith}
 use lib.Pow.{pow-mono}
-use lib.Dec.{eqb}
-use lib.ListN.{length, getD, take, drop, length-append, length-drop}
-use lib.Seq.{length-take-le, getD-take, getD-drop, take-at}
+use lib.ListN.{length, take, drop, length-append, length-drop}
+use lib.Seq.{length-take-le, take-at}
 use Rattle.ring.specs.declared.State.{State}
 use Rattle.ring.specs.Table.{present, held}
 use Rattle.tables.specs.Put.{Put}
+use Rattle.tables.proofs.Parts.{held-part, answers-fit}
 use Rattle.tables.proofs.Put.{put-length, put-both, put-same, put-none}
 use Rattle.order.specs.Order.{monomials, order}
 use Rattle.order.proofs.Order.{monomials-same, length-order}
@@ -47,17 +47,16 @@ table-condition n t = condition-records (monomials n (present t))
 part : ℕ → ℕ → List ℕ → List ℕ
 part j k a = take (j * k + k - j * k) (drop (j * k) a)
 
-held-part : (j n k : ℕ) (a : List ℕ) → k ≡ 2 ^ n → (m : ℕ) → m < 2 ^ n → present (part j k a) m ≡ held n a j m
-unfolding part held present
-held-part j n k a ek m l =
+part-held : (j n k : ℕ) (a : List ℕ) → k ≡ 2 ^ n → (m : ℕ) → m < 2 ^ n → present (part j k a) m ≡ held n a j m
+unfolding part
+part-held j n k a ek m l =
     let d : j * k + k - j * k ≡ k = omega arith in
-    let e : getD (take (j * k + k - j * k) (drop (j * k) a)) m 0 ≡ getD a (j * 2 ^ n + m) 0 = rw (d, ek) (getD-take (2 ^ n) (drop (j * 2 ^ n) a) m 0 l ∙ getD-drop (j * 2 ^ n) a m 0) in
-    ap (λ (x : ℕ). eqb x 1) e
+    rw (d, ek) (held-part n j a m l)
 
 table-answer : (j n k : ℕ) (a : List ℕ) → k ≡ 2 ^ n → tableRecords (j + 1) n (present (part j k a)) ≡ map (record-variants.Answer j) (monomials n (held n a j))
 unfolding tableRecords
 table-answer j n k a ek =
-    ap₂ (λ (i : ℕ) (ms : List ℕ). map (monomialRecord i) ms) (add-one j) (monomials-same n (present (part j k a)) (held n a j) (held-part j n k a ek))
+    ap₂ (λ (i : ℕ) (ms : List ℕ). map (monomialRecord i) ms) (add-one j) (monomials-same n (present (part j k a)) (held n a j) (part-held j n k a ek))
     ∙ answer-records j (monomials n (held n a j))
 
 -- ---- the answers
@@ -116,21 +115,13 @@ module _ {u n : ℕ} {a old : List ℕ} {from j at : ℕ} {new : List ℕ} (w : 
 pub part-inside : (j u n k : ℕ) → j < u → k ≡ 2 ^ n → u ≤ 6 → n ≤ 10 → (j * k + k ≤ u * 2 ^ n) × (u * 2 ^ n ≤ 6144)
 part-inside j u n k h e hu hn =
     let m : (j + 1) * 2 ^ n ≤ u * 2 ^ n = mul-le-mul-right (2 ^ n) (omega arith) in
-    let b : 2 ^ n ≤ 1024 = pow-mono hn in
-    let c : u * 2 ^ n ≤ 6 * 2 ^ n = mul-le-mul-right (2 ^ n) hu in
-    (rw e (omega (arith, add-mul j 1 (2 ^ n), one-mul (2 ^ n))), omega arith)
+    (rw e (omega (arith, add-mul j 1 (2 ^ n), one-mul (2 ^ n))), answers-fit hu refl hn)
 
 pub part-length : (j u n k : ℕ) (a : List ℕ) → j < u → k ≡ 2 ^ n → u ≤ 6 → n ≤ 10 → length a ≡ u * 2 ^ n → length (take (j * k + k - j * k) (drop (j * k) a)) ≡ 2 ^ n
 part-length j u n k a h e hu hn el =
     let d : j * k + k - j * k ≡ k = omega arith in
     let r = part-inside j u n k h e hu hn in
     rw d (length-take-le k (drop (j * k) a) (omega (arith, length-drop (j * k) a, r .0)) ∙ e)
-
-pub answers-small : (u n : ℕ) {k : ℕ} → k ≡ 2 ^ n → u ≤ 6 → n ≤ 10 → (u * k ≤ 6144) × (u * k ≡ u * 2 ^ n)
-answers-small u n e hu hn =
-    let b : 2 ^ n ≤ 1024 = pow-mono hn in
-    let c : u * 2 ^ n ≤ 6 * 2 ^ n = mul-le-mul-right (2 ^ n) hu in
-    (rw e (omega arith), rw e)
 
 -- ---- the verdict
 module _ (U G : ℕ) (t : List ℕ) (v : Verdict) (a : List ℕ) (e : verdict v a ≡ solve U G (defaultOrder U) t) where

@@ -18,7 +18,7 @@ room c = let asked = c .before .before in front-room _ _ _ _ _ (asked .before .b
 put-entry-requires : tie.Need-put-entry-requires
 put-entry-requires c κs =
     let asked = c .before .before .before in
-    (yes asked .letters, yes asked .fits, front-is-table _ _ _ _ _ (asked .before .before .line-refusal .ensures .1 (asked .if1 .left)) (c .before .before .pow2 .ensures), asked .before .before .before .before .before .before .before .pre)
+    (record { letters = yes asked .letters; of-route = yes asked .fits; of-table = front-is-table _ _ _ _ _ (asked .before .before .line-refusal .ensures .1 (asked .if1 .left)) (c .before .before .pow2 .ensures) }, asked .before .before .before .before .before .before .before .pre)
 
 returns : tie.Need-returns
 returns c =

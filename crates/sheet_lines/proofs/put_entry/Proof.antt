@@ -11,16 +11,16 @@ room : tie.Need-array-share-prefix-written
 room c =
     let wrote = c .before .before .before .before .before in
     let p = wrote .before .before .before .before .before .pre in
-    written-room _ _ _ _ (p .0) (p .1) (p .2) _ (omega arith) _ (wrote .write-entry .ensures .0) (c .before .before .length .given .1) _ _ (wrote .write-entry .ensures .1)
+    written-room _ _ _ _ (p .0) _ (omega arith) _ (wrote .write-entry .ensures .0) (c .before .before .length .given .1) _ _ (wrote .write-entry .ensures .1)
 
 put-records-requires : tie.Need-put-records-requires
 put-records-requires c κs =
     let done = c .before .before .before in
     let wrote = done .before .before .before in
     let p = wrote .before .before .before .before .before .pre in
-    let is = entry-written _ _ _ _ (p .0) (p .1) (p .2) _ (omega arith) _ (wrote .write-entry .ensures .0) (done .length .given .1) _ _ (wrote .write-entry .ensures .1) in (
-      written-records _ _ _ _ (p .0) (p .1) (p .2) _ (omega arith) _ (wrote .write-entry .ensures .0) (done .length .given .1) is,
-      omega (arith, written-short _ _ _ _ (p .0) (p .1) (p .2) _ (omega arith) _ (wrote .write-entry .ensures .0) (done .length .given .1) is, p .3),
+    let is = entry-written _ _ _ _ (p .0) _ (omega arith) _ (wrote .write-entry .ensures .0) (done .length .given .1) _ _ (wrote .write-entry .ensures .1) in (
+      written-records _ _ _ _ (p .0) _ (omega arith) _ (wrote .write-entry .ensures .0) (done .length .given .1) is,
+      omega (arith, written-short _ _ _ _ (p .0) _ (omega arith) _ (wrote .write-entry .ensures .0) (done .length .given .1) is, p .1),
     )
 
 returns : tie.Need-returns
@@ -28,15 +28,15 @@ returns c =
     let done = c .before .before .before .before .before .before in
     let wrote = done .before .before .before in
     let p = wrote .before .before .before .before .before .pre in
-    printed-records _ _ _ _ (p .0) (p .1) (p .2) _ (omega arith) _ (wrote .write-entry .ensures .0) (done .length .given .1)
-    (entry-written _ _ _ _ (p .0) (p .1) (p .2) _ (omega arith) _ (wrote .write-entry .ensures .0) (done .length .given .1) _ _ (wrote .write-entry .ensures .1))
+    printed-records _ _ _ _ (p .0) _ (omega arith) _ (wrote .write-entry .ensures .0) (done .length .given .1)
+    (entry-written _ _ _ _ (p .0) _ (omega arith) _ (wrote .write-entry .ensures .0) (done .length .given .1) _ _ (wrote .write-entry .ensures .1))
     (c .before .before .put-records .ensures)
 
 returns-2 : tie.Need-returns-2
 returns-2 c =
     let wrote = c .before .before .before in
     let p = wrote .before .before .before .before .before .pre in
-    absurd (never-refused _ _ _ _ (p .0) (p .1) (p .2) _ (omega arith) _ (wrote .write-entry .ensures .0) (c .enum-told .given .1))
+    absurd (never-refused _ _ _ _ (p .0) _ (omega arith) _ (wrote .write-entry .ensures .0) (c .enum-told .given .1))
 
 pub put-entry-spec : {M : Type 1} → statement M
 put-entry-spec =
