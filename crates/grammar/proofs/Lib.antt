@@ -3,10 +3,6 @@ pub mod Fixed
 pub mod Complete
 pub mod Sound
 pub mod Points
-pub mod Words
 pub mod Declared
 pub mod Theorems
 mod Examples
-mod Symbols
-mod Readers
-mod Whole

@@ -17,16 +17,16 @@ use Rattle.ring.proofs.Points.{digit-low}
 use Rattle.ring.proofs.Table.{tabulate-cong, is-table, table-by-values}
 use Rattle.tables.proofs.Steps.{pow-small}
 use Rattle.grammar.specs.Symbols.{symbols}
-use Rattle.grammar.specs.Meaning.{normalForm}
+use Rattle.grammar.specs.Meaning.{atPoint, normalForm}
 use Rattle.grammar.specs.Text.{IsRead, textTable}
 use Rattle.grammar.proofs.Points.{value-normal}
 use Rattle.grammar.proofs.Theorems.{text-declared}
 use Rattle.grammar.specs.Grammar.{Tree}
 use Rattle.grammar.specs.Reader.{sum, reads, isWhole, treeRead, grammarReads, treeOf}
-use Rattle.grammar.specs.Words.{atPoint, word}
-use Rattle.grammar.specs.Parts.{valuesFrom}
-use Rattle.grammar.specs.declared.Values.{Values}
-use Rattle.grammar.proofs.Words.{word-bit}
+use Rattle.parser.specs.Words.{word}
+use Rattle.parser.specs.Parts.{valuesFrom}
+use Rattle.parser.specs.declared.Values.{Values}
+use Rattle.parser.proofs.Words.{word-bit}
 use Rattle.notation.specs.Work.{AreWords}
 
 -- ---- the words, one after another
