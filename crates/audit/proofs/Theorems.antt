@@ -17,7 +17,7 @@ use Rattle.entry.proofs.Passes.{Passes, passes, asked-before}
 use Rattle.entry.proofs.Theorems.{ReadsBack, reads-back, audited-entry, entry-audited}
 use Rattle.reader.specs.Reading.{readValues, stateOf}
 use Rattle.audit.specs.Audit.{auditRefusal, auditReply, Archivable, BeginsWithEntry}
-use Rattle.audit.proofs.Passing.{accepted-is}
+use Rattle.tables.proofs.Reply.{accepted-is}
 
 passed : (bs values : List ℕ) → auditReply bs ≡ accepted values → auditRefusal bs ≡ 0
 unfolding auditReply

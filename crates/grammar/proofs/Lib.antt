@@ -1,4 +1,3 @@
-pub mod Below
 pub mod Fixed
 pub mod Complete
 pub mod Sound

@@ -1,20 +1,19 @@
 -- The questions of a text as the code asks them, one test after another, and what it means that none of them is answered no.
 -- Assumes nothing.
-use mathlib.Core.Path.{_≡_, refl, sym, _∙_}
-use mathlib.Core.Bool.{Bool, true, false, cond}
+use mathlib.Core.Path.{_≡_, sym, _∙_}
+use mathlib.Core.Bool.{true, false}
 use mathlib.Core.List.{List}
-use Prim.Native.Nat.{ℕ, suc, _+_, _^_, _≤_, _<_}
-use native.Mathlib.Omega.{arith}
+use Prim.Native.Nat.{ℕ, _+_, _^_, _≤_, _<_}
 use lib.Dec.{leb}
 use lib.ListN.{length, take}
 use lib.Seq.{length-take-le}
 use borrow.Author.Tests.{le-leb, lt-leb, leb-true}
 use Rattle.tables.specs.Questions.{firstNo, lettersFit, hasRoom}
-use Rattle.tables.proofs.Bits.{both-right}
-use Rattle.tables.proofs.Questions.{letters-small, unknowns-small}
+use Rattle.tables.proofs.Questions.{yes-to, letters-small, unknowns-small}
 use Rattle.grammar.specs.Symbols.{allSigns, allDeclared}
 use Rattle.ring.specs.Table.{table}
 use Rattle.ring.proofs.Table.{length-tabulate}
+use Rattle.ring.proofs.Bool.{and-right}
 use Rattle.grammar.specs.Meaning.{normalForm}
 use Rattle.grammar.specs.Reader.{grammarReads, treeOf}
 use Rattle.grammar.specs.Text.{textTable}
@@ -23,7 +22,7 @@ use Rattle.notation.specs.Work.{Ready}
 
 pub text-short : (text : List ℕ) → hasTextLength text ≡ true → length text ≤ 200
 unfolding hasTextLength
-text-short text h = leb-true (length text) 200 (both-right (leb 1 (length text)) (leb (length text) 200) h)
+text-short text h = leb-true (length text) 200 (and-right (leb 1 (length text)) (leb (length text) 200) h)
 
 module _ (U G : ℕ) (text : List ℕ) (room : ℕ) where
   pub refused-letters : lettersFit U G ≡ false → 1 ≡ textRefusal U G text room
@@ -63,10 +62,6 @@ module _ (U G : ℕ) (text : List ℕ) (room : ℕ) where
   pub record Fine : Type 0 where
     pub accepted : Accepted U G text
     pub room-fits : 2 ^ (U + G) ≤ room
-
-  yes-to : (p : Bool) (x q : ℕ) → cond p x (suc q) ≡ 0 → (p ≡ true) × (x ≡ 0)
-  yes-to true x q e = (refl, e)
-  yes-to false x q e = absurd (omega arith)
 
   pub fine : textRefusal U G text room ≡ 0 → Fine
   unfolding textRefusal textQuestions firstNo hasRoom

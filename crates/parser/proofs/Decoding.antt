@@ -10,24 +10,26 @@ use borrow.Author.Tests.{eq-eqb, ne-eqb, eqb-true, lt-ltb, le-ltb, not-true, not
 use lib.Dec.{eqb, ltb}
 use lib.ListN.{length, getD, take, drop, set, length-set, drop-of-length-le}
 use lib.Seq.{take-suc, take-suc-set, take-all, drop-cons}
+use Rattle.ring.specs.Polynomial.{everyBelow}
+use Rattle.ring.proofs.Bool.{and-left, and-right, same-bool}
+use Rattle.ring.proofs.Every.{every-all}
 use Rattle.grammar.specs.Symbols.{space, foreign, isUnknown, isGiven, isSingle, symbol, symbols, isSign, every, isDeclared}
-use Rattle.grammar.proofs.Below.{below, below-at, both-true, same-bool}
 
 -- ---- one byte
 
 -- the bytes from lo on, k of them, have the symbols that g gives them
-pub by-test : (g : ℕ → ℕ) (lo k : ℕ) → below k (λ i. eqb (g (lo + i)) (symbol (lo + i))) ≡ true → (c : ℕ) → lo ≤ c → c < lo + k → g c ≡ symbol c
+pub by-test : (g : ℕ → ℕ) (lo k : ℕ) → everyBelow k (λ i. eqb (g (lo + i)) (symbol (lo + i))) ≡ true → (c : ℕ) → lo ≤ c → c < lo + k → g c ≡ symbol c
 by-test g lo k h c a b =
     let e : lo + (c - lo) ≡ c = omega arith in
-    let t = below-at k (λ i. eqb (g (lo + i)) (symbol (lo + i))) h (c - lo) (omega arith) in
+    let t = every-all k (λ i. eqb (g (lo + i)) (symbol (lo + i))) h (c - lo) (omega arith) in
     eqb-true (g c) (symbol c) (simp e at t)
 
 -- they are all foreign but for one
-pub foreign-test : (lo k sign : ℕ) → below k (λ i. eqb (lo + i) sign || eqb foreign (symbol (lo + i))) ≡ true
+pub foreign-test : (lo k sign : ℕ) → everyBelow k (λ i. eqb (lo + i) sign || eqb foreign (symbol (lo + i))) ≡ true
     → (c : ℕ) → lo ≤ c → c < lo + k → (c ≡ sign → ⊥) → foreign ≡ symbol c
 foreign-test lo k sign h c a b n =
     let e : lo + (c - lo) ≡ c = omega arith in
-    let t = below-at k (λ i. eqb (lo + i) sign || eqb foreign (symbol (lo + i))) h (c - lo) (omega arith) in
+    let t = every-all k (λ i. eqb (lo + i) sign || eqb foreign (symbol (lo + i))) h (c - lo) (omega arith) in
     eqb-true foreign (symbol c) (simp (e, ne-eqb c sign n) at t)
 
 or-false : (a b : Bool) → a ≡ false → a || b ≡ true → b ≡ true
@@ -40,18 +42,18 @@ space-sign c e = rw (eq-eqb c space e)
 
 -- a byte that is no space is a sign exactly where it has a symbol of its own
 pub sign-symbol : (r c : ℕ) → r ≡ symbol c → c < 256 → (c ≡ space → ⊥) → not (eqb r foreign) ≡ isSign c
-unfolding symbol isSign isUnknown isGiven isSingle
+unfolding everyBelow symbol isSign isUnknown isGiven isSingle
 sign-symbol r c e h n =
     rw e (same-bool (not (eqb (symbol c) foreign)) (isSign c) (or-false (eqb c space) (Bool·beq (not (eqb (symbol c) foreign)) (isSign c)) (ne-eqb c space n)
-    (below-at 256 (λ c. eqb c space || Bool·beq (not (eqb (symbol c) foreign)) (isSign c)) refl c h)))
+    (every-all 256 (λ c. eqb c space || Bool·beq (not (eqb (symbol c) foreign)) (isSign c)) refl c h)))
 
 -- the symbols below 8 are those of unknowns, those from 8 to 15 of givens
 abbrev kindsRight : ℕ → Bool
 kindsRight c = cond (ltb (symbol c) 8) (isUnknown c) (not (isUnknown c) && Bool·beq (ltb (symbol c) 16) (isGiven c))
 
 kinds-right : (c : ℕ) → c < 256 → kindsRight c ≡ true
-unfolding symbol isUnknown isGiven isSingle
-kinds-right c h = below-at 256 kindsRight refl c h
+unfolding everyBelow symbol isUnknown isGiven isSingle
+kinds-right c h = every-all 256 kindsRight refl c h
 
 module _ (U G r c : ℕ) (e : r ≡ symbol c) (h : c < 256) where
   pub unknown-declared : r < 8 → ltb r U ≡ isDeclared U G c
@@ -62,8 +64,8 @@ module _ (U G r c : ℕ) (e : r ≡ symbol c) (h : c < 256) where
 
   not-unknown : 8 ≤ r → (isUnknown c ≡ false) × (ltb r 16 ≡ isGiven c)
   not-unknown a =
-      let b = both-true (not (isUnknown c)) (Bool·beq (ltb (symbol c) 16) (isGiven c)) (rw (le-ltb (symbol c) 8 (rw e at a)) at (kinds-right c h)) in
-      (not-true (isUnknown c) (b .0), rw e (same-bool _ _ (b .1)))
+      let b : (not (isUnknown c) && Bool·beq (ltb (symbol c) 16) (isGiven c)) ≡ true = rw (le-ltb (symbol c) 8 (rw e at a)) at (kinds-right c h) in
+      (not-true (isUnknown c) (and-left (not (isUnknown c)) _ b), rw e (same-bool _ _ (and-right (not (isUnknown c)) _ b)))
 
   pub given-declared : 8 ≤ r → r < 16 → ltb (r - 8) G ≡ isDeclared U G c
   unfolding symbol isDeclared

@@ -14,10 +14,10 @@ use borrow.Author.Tests.{le-leb, lt-leb}
 use Rattle.ring.specs.declared.State.{State}
 use Rattle.ring.specs.Table.{table, answerTable}
 use Rattle.ring.proofs.Table.{length-table, length-answerTable}
+use Rattle.ring.proofs.Bool.{bool-cases, never}
 use Rattle.tables.specs.Questions.{firstNo, lettersFit, hasRoom, haveRoom}
 use Rattle.tables.specs.Reply.{accepted, after}
 use Rattle.tables.proofs.Questions.{letters-small, unknowns-small}
-use Rattle.order.proofs.Lists.{bool-cases, never}
 use Rattle.tables.proofs.Reply.{reply-refused, reply-accepted, after-refused, after-done}
 use Rattle.solution.specs.Elimination.{Verdict, solved, none}
 use Rattle.entry.specs.declared.Record.{Record}

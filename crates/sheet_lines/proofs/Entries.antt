@@ -12,7 +12,7 @@ use borrow.Author.Tests.{le-leb}
 use Rattle.ring.specs.Table.{AreBits, IsTable}
 use Rattle.tables.specs.Questions.{firstNo, lettersFit, hasRoom, areBits, holdsBits}
 use Rattle.tables.specs.Reply.{reply, after}
-use Rattle.order.proofs.Lists.{and-left, and-right, both, never}
+use Rattle.ring.proofs.Bool.{and-left, and-right, both, never}
 use Rattle.solution.specs.Elimination.{Verdict, defaultOrder, solve}
 use Rattle.entry.specs.declared.Record.{Record}
 use Rattle.entry.specs.declared.Record.the-variants.{Start, Condition, Answer, End, None, Broken}

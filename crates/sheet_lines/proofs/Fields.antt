@@ -11,7 +11,7 @@ use lib.Dec.{eqb, leb}
 use lib.ListN.{length, getD, take, drop, length-drop, drop-of-length-le, List·getD-eq-default}
 use lib.Seq.{drop-cons, take-all, getD-drop}
 use borrow.Author.Tests.{le-leb, lt-leb, eq-eqb, ne-eqb, leb-true, eqb-true}
-use Rattle.tables.proofs.Bits.{both-left, both-right}
+use Rattle.ring.proofs.Bool.{and-left as both-left, and-right as both-right}
 use Rattle.tables.proofs.Questions.{failed, passed}
 use Rattle.grammar.specs.Symbols.{space}
 use Rattle.sheet_lines.specs.declared.Line.the-variants.{Readable, Unreadable}

@@ -12,11 +12,11 @@ use lib.Seq.{take-at}
 use borrow.Author.Tests.{le-leb, lt-leb, leb-true, lt-ltb, le-ltb}
 use Rattle.ring.specs.Table.{IsTable, table}
 use Rattle.ring.proofs.Table.{is-table}
+use Rattle.ring.proofs.Bool.{and-right as both-right}
 use Rattle.tables.specs.declared.Outcome.{Outcome}
 use Rattle.tables.specs.declared.Outcome.the-variants.{Done, Refused}
 use Rattle.tables.specs.Questions.{firstNo, lettersFit, hasRoom}
 use Rattle.tables.specs.Reply.{accepted, refused, reply, after, outcome}
-use Rattle.tables.proofs.Bits.{both-right}
 use Rattle.tables.proofs.Questions.{failed, letters-small}
 use Rattle.grammar.specs.Symbols.{allSigns, allDeclared}
 use Rattle.grammar.specs.Reader.{grammarReads}

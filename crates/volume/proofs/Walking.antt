@@ -8,7 +8,7 @@ use Prim.Native.Nat.{ℕ, zero, suc, _+_, _≤_, _<_}
 use native.Mathlib.Nat.{not-suc-le-zero}
 use native.Mathlib.Omega.{arith}
 use lib.ListN.{length, drop, length-drop}
-use Rattle.order.proofs.Lists.{never}
+use Rattle.ring.proofs.Bool.{never}
 use Rattle.tables.specs.Questions.{asks, firstNo}
 use Rattle.tables.specs.Reply.{Reply, accepted}
 use Rattle.entry.specs.declared.Record.{Record}

@@ -11,7 +11,8 @@ use lib.Seq.{length-take-le}
 use borrow.Author.Tests.{le-leb, lt-leb, leb-true}
 use Rattle.tables.specs.Questions.{asks, firstNo, lettersFit, hasRoom, holdsBits}
 use Rattle.tables.specs.Reply.{reply, after}
-use Rattle.tables.proofs.Bits.{both-left, both-right, are-bits}
+use Rattle.ring.proofs.Bool.{and-left as both-left, and-right as both-right}
+use Rattle.tables.proofs.Bits.{are-bits}
 use Rattle.tables.proofs.Questions.{letters-small, unknowns-small}
 use Rattle.tables.proofs.Reply.{reply-refused, reply-accepted, after-refused, after-done}
 use Rattle.entry.specs.Entry.{entry}
