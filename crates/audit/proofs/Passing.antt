@@ -2,11 +2,11 @@
 -- Assumes nothing.
 use mathlib.Core.Path.{_≡_, refl, sym, ap, _∙_}
 use mathlib.Core.Bool.{true, false, cond}
-use mathlib.Core.List.{List, []}
-use Prim.Native.Nat.{ℕ, zero, suc}
+use mathlib.Core.List.{List}
+use Prim.Native.Nat.{ℕ}
 use native.Mathlib.Omega.{arith}
 use Rattle.tables.specs.Questions.{firstNo}
-use Rattle.tables.specs.Reply.{accepted, refused, reply}
+use Rattle.tables.specs.Reply.{accepted}
 use Rattle.tables.proofs.FirstNo.{first-counts}
 use Rattle.tables.proofs.Reply.{reply-refused, reply-accepted}
 use Rattle.solution.specs.Elimination.{Verdict, solved, none}
@@ -20,18 +20,6 @@ use Rattle.records.specs.Headings.{lengthUsed, headingOf, said}
 use Rattle.audit.specs.declared.Audited.the-variants.{Passed, Refused}
 use Rattle.audit.specs.Audit.{auditRefusal, auditReply, stateSaid, audited}
 
--- ---- what a reply says
-pub accepted-is : (q : ℕ) {xs : List ℕ} (given : List ℕ) → accepted xs ≡ reply q given → (q ≡ 0) × (xs ≡ given)
-unfolding reply
-accepted-is zero given e = (refl, (cc))
-accepted-is (suc q) given e = let z : _≡_ {A = ℕ} 0 1 = (cc) in absurd (omega arith)
-
-pub refused-is : (q : ℕ) {number : ℕ} (given : List ℕ) → refused number [] ≡ reply q given → (q ≡ number) × (q ≡ 0 → ⊥)
-unfolding reply
-refused-is zero given e = let z : _≡_ {A = ℕ} 0 1 = (cc) in absurd (omega arith)
-refused-is (suc q) given e = ((cc), λ z. omega arith)
-
--- ---- the ways out
 pub refused-before : (bs : List ℕ) {q : ℕ} → q ≡ firstNo (entryQuestions (records bs)) → (q ≡ 0 → ⊥) → audited (Refused q) ≡ auditReply bs
 unfolding auditReply auditRefusal auditQuestions
 refused-before bs {q} e n =

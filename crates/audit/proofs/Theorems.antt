@@ -9,6 +9,7 @@ use Rattle.ring.specs.Table.{table}
 use Rattle.ring.proofs.Table.{is-table}
 use Rattle.tables.specs.Reply.{accepted, reply}
 use Rattle.tables.proofs.FirstNo.{asked-before}
+use Rattle.tables.proofs.Reply.{accepted-is}
 use Rattle.solution.specs.Elimination.{defaultOrder, solve}
 use Rattle.entry.specs.Record.{AreBytes, bytes}
 use Rattle.entry.specs.Entry.{entry, Archivable}
@@ -18,7 +19,6 @@ use Rattle.entry.proofs.Passes.{Passes, passes}
 use Rattle.entry.proofs.Theorems.{ReadsBack, reads-back, audited-entry, entry-audited}
 use Rattle.reader.specs.Reading.{readValues, stateOf}
 use Rattle.audit.specs.Audit.{auditRefusal, auditReply, BeginsWithEntry}
-use Rattle.audit.proofs.Passing.{accepted-is}
 
 passed : (bs values : List ℕ) → auditReply bs ≡ accepted values → auditRefusal bs ≡ 0
 unfolding auditReply

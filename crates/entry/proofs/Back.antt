@@ -11,7 +11,7 @@ use lib.ListN.{length, drop}
 use borrow.Author.Tests.{le-leb}
 use Rattle.ring.specs.Table.{present, held}
 use Rattle.order.specs.Order.{monomials}
-use Rattle.order.proofs.Lists.{and-left, and-right, both, never}
+use Rattle.ring.proofs.Bool.{and-left, and-right, both, never}
 use Rattle.solution.specs.Elimination.{Verdict, solved, none}
 use Rattle.entry.specs.declared.Record.{Record}
 use Rattle.entry.specs.declared.Record.the-variants.{Start, Condition, Answer, End, None, Broken}

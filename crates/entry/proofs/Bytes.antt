@@ -10,7 +10,7 @@ use lib.Dec.{leb, eqb}
 use lib.ListN.{length, getD, take, drop, length-append}
 use lib.Seq.{take-add, getD-drop}
 use borrow.Author.Tests.{leb-true, eqb-true}
-use Rattle.order.proofs.Lists.{bool-cases}
+use Rattle.ring.proofs.Bool.{bool-cases}
 use Rattle.entry.specs.declared.Record.{Record}
 use Rattle.entry.specs.declared.Record.the-variants.{Start, Condition, Answer, End, None, Broken}
 use Rattle.entry.specs.Record.{recordBytes, AreBytes, bytes, size}

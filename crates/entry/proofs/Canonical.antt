@@ -13,9 +13,10 @@ use borrow.Author.Tests.{ltb-true, ltb-false, eqb-true, ne-eqb}
 use Rattle.ring.specs.declared.State.{State}
 use Rattle.ring.specs.Polynomial.{Polynomial}
 use Rattle.ring.specs.Table.{present, held, answerTable}
+use Rattle.ring.specs.Lists.{has}
 use Rattle.ring.proofs.Table.{present-table, held-answerTable}
-use Rattle.order.specs.Order.{monomials, has}
-use Rattle.order.proofs.Lists.{and-left, and-right, bool-cases, never}
+use Rattle.ring.proofs.Bool.{and-left, and-right, bool-cases, never}
+use Rattle.order.specs.Order.{monomials}
 use Rattle.order.proofs.Order.{has-monomials}
 use Rattle.solution.specs.Elimination.{Verdict, solved, none}
 use Rattle.entry.specs.declared.Record.{Record}

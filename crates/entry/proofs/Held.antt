@@ -9,14 +9,13 @@ use native.Mathlib.Omega.{arith}
 use lib.Dec.{eqb, ltb}
 use borrow.Author.Tests.{lt-ltb, le-ltb, ltb-true, eqb-true, eqb-false, ne-eqb}
 use Rattle.ring.specs.Table.{IsTable, present, table, held, answerTable}
-use Rattle.ring.proofs.Bool.{bool-iff}
+use Rattle.ring.specs.Lists.{has}
+use Rattle.ring.proofs.Bool.{bool-iff, bool-cases}
 use Rattle.ring.proofs.Value.{value-cong}
-use Rattle.ring.proofs.Table.{is-table, same-table, present-tabulate, table-cong}
-use Rattle.order.specs.Order.{monomials, has}
-use Rattle.order.proofs.Lists.{bool-cases}
+use Rattle.ring.proofs.Table.{is-table, same-table, present-tabulate, table-cong, answerTable-cong}
+use Rattle.order.specs.Order.{monomials}
 use Rattle.order.proofs.Order.{has-monomials}
 use Rattle.solution.specs.Elimination.{Verdict, solved, none}
-use Rattle.solution.proofs.AnswerTable.{answerTable-cong}
 use Rattle.entry.specs.declared.Record.{Record}
 use Rattle.entry.specs.declared.Record.the-variants.{Condition, Answer, End}
 use Rattle.entry.specs.Record.{isNone, isMonomial, maskIn, tableIn, stateIn}

@@ -10,9 +10,11 @@ use lib.Dec.{eqb, ltb}
 use borrow.Author.Tests.{le-leb, lt-ltb, ltb-true, eq-eqb}
 use Rattle.ring.specs.Polynomial.{Polynomial}
 use Rattle.ring.specs.Table.{present, held}
-use Rattle.order.specs.Order.{monomials, has, rises}
-use Rattle.order.proofs.Lists.{and-right, both, or-right}
-use Rattle.order.proofs.Order.{has-first, has-rest, rises-tail, rises-first, has-monomials, monomials-rise}
+use Rattle.ring.specs.Lists.{has}
+use Rattle.order.specs.Order.{monomials, rises}
+use Rattle.ring.proofs.Bool.{and-right, both, or-right}
+use Rattle.ring.proofs.Lists.{has-first, has-rest}
+use Rattle.order.proofs.Order.{rises-tail, rises-first, has-monomials, monomials-rise}
 use Rattle.solution.specs.Elimination.{Verdict, solved, none}
 use Rattle.entry.specs.declared.Record.{Record}
 use Rattle.entry.specs.declared.Record.the-variants.{Condition, Answer, End}

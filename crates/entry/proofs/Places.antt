@@ -10,10 +10,9 @@ use native.Mathlib.Omega.{arith}
 use lib.Dec.{eqb, ltb}
 use lib.Pow.{pow-mono}
 use borrow.Author.Tests.{lt-ltb, ltb-true, ltb-false, eqb-true, eqb-false, ne-eqb}
-use Rattle.ring.proofs.Bool.{bool-iff, and-left-comm}
+use Rattle.ring.proofs.Bool.{bool-iff, and-left-comm, and-left, and-right, both, or-cases, or-right, bool-cases, never}
 use Rattle.order.specs.Order.{before}
 use Rattle.order.specs.Place.{rank}
-use Rattle.order.proofs.Lists.{and-left, and-right, both, or-cases, or-right, bool-cases, never}
 use Rattle.order.proofs.Relation.{before-rank, rank-most}
 use Rattle.entry.specs.declared.Record.{Record}
 use Rattle.entry.specs.declared.Record.the-variants.{Start, Condition, Answer, End, None, Broken}

@@ -10,10 +10,10 @@ use lib.ListN.{length, take}
 use borrow.Author.Tests.{eqb-true, eq-eqb}
 use Rattle.ring.specs.Table.{present, answerTable}
 use Rattle.ring.proofs.Table.{held-answerTable}
+use Rattle.ring.proofs.Bool.{and-left, and-right, both, never}
 use Rattle.tables.specs.Questions.{firstNo, lettersFit}
 use Rattle.tables.proofs.FirstNo.{yes-to, asked-before}
 use Rattle.tables.proofs.Questions.{letters-small, unknowns-small}
-use Rattle.order.proofs.Lists.{and-left, and-right, both, never}
 use Rattle.solution.specs.Elimination.{Verdict, solved, none, defaultOrder, solve, solvable, booleAnswers, smallestBlocked}
 use Rattle.solution.specs.General.{RightVerdict}
 use Rattle.solution.proofs.Orders.{default-order}

@@ -9,8 +9,7 @@ use Prim.Native.Nat.{ℕ, _+_, _^_, _≤_, _<_}
 use native.Mathlib.Omega.{arith}
 use lib.Dec.{eqb, ltb}
 use borrow.Author.Tests.{ltb-true, eqb-true, eq-eqb, ne-eqb}
-use Rattle.ring.proofs.Bool.{bool-iff}
-use Rattle.order.proofs.Lists.{and-left, and-right, both, or-cases, bool-cases, never}
+use Rattle.ring.proofs.Bool.{bool-iff, and-left, and-right, both, or-cases, bool-cases, never}
 use Rattle.entry.specs.declared.Record.{Record}
 use Rattle.entry.specs.declared.Record.the-variants.{Start, Condition, Answer, End, None, Broken}
 use Rattle.entry.specs.Record.{isMonomial, maskIn, tableIn}

@@ -6,10 +6,9 @@ use mathlib.Core.Bool.{Bool, true, false, cond}
 use mathlib.Core.List.{List}
 use Prim.Native.Nat.{ℕ, _+_, _^_, _<_}
 use Rattle.ring.specs.Table.{present, held, answerTable}
-use Rattle.ring.proofs.Table.{held-answerTable}
+use Rattle.ring.proofs.Table.{held-answerTable, answerTable-cong}
 use Rattle.solution.specs.Substitution.{Substitution}
 use Rattle.solution.specs.Elimination.{Verdict, solved, none, defaultOrder, solve, solvable, booleAnswers, smallestBlocked}
-use Rattle.solution.proofs.AnswerTable.{answerTable-cong}
 use Rattle.solution.proofs.Orders.{default-order}
 use Rattle.solution.proofs.Theorems.{none-names-smallest}
 

@@ -7,14 +7,14 @@ use Prim.Native.Nat.{ℕ, _+_, _-_, _≤_, _<_}
 use native.Mathlib.Omega.{arith}
 use borrow.Author.Tests.{eqb-true, leb-true, ltb-true}
 use lib.Dec.{eqb, leb, ltb}
+use Rattle.ring.proofs.Bool.{and-left, and-right}
 use Rattle.grammar.specs.Symbols.{zeroSign, oneSign, notSign, openSign, closeSign, timesSign, plusSign, orSign, space, foreign, isUnknown, isGiven, isSingle, symbol, symbols, every, isDeclared, allDeclared}
 use Rattle.grammar.specs.Grammar.{Tree, Kind, Derives, one-product, plus-product, or-product, one-factor, times-factor, is-zero, is-one, is-unknown, is-given, is-negation, in-brackets}
 use Rattle.grammar.specs.Meaning.{Declared}
-use Rattle.grammar.proofs.Below.{both-true}
 
 unknown-bound : (byte : ℕ) → isUnknown byte ≡ true → byte ≤ 122
 unfolding isUnknown
-unknown-bound byte e = leb-true byte 122 (both-true (leb 117 byte) (leb byte 122) e .1)
+unknown-bound byte e = leb-true byte 122 (and-right (leb 117 byte) (leb byte 122) e)
 
 module _ (U G : ℕ) where
   -- a symbol for an unknown is below U, one for a given below 8 + G
@@ -87,8 +87,7 @@ module _ (U G : ℕ) where
   unfolding allDeclared every symbols
   symbols-fit [] h = tt
   symbols-fit (byte ∷ text) h =
-      let b = both-true (isDeclared U G byte) (allDeclared U G text) h in
-      go (eqb byte space) (symbol-fits byte (b .0)) (symbols-fit text (b .1))
+      go (eqb byte space) (symbol-fits byte (and-left (isDeclared U G byte) _ h)) (symbols-fit text (and-right (isDeclared U G byte) _ h))
     where
       go : (a : Bool) → Fits (symbol byte) → AllFit (symbols text) → AllFit (cond a (symbols text) (symbol byte ∷ symbols text))
       go true f g = g

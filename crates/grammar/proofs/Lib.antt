@@ -1,12 +1,7 @@
-pub mod Below
 pub mod Fixed
 pub mod Complete
 pub mod Sound
 pub mod Points
-pub mod Words
 pub mod Declared
 pub mod Theorems
 mod Examples
-mod Symbols
-mod Readers
-mod Whole

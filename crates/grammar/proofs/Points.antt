@@ -14,8 +14,7 @@ use Rattle.ring.proofs.Value.{value-sum, value-product}
 use Rattle.ring.proofs.Substitute.{value-constant, value-letter}
 use Rattle.ring.specs.Polynomial as polynomial
 use Rattle.grammar.specs.Grammar.{Tree, constant, unknown, given, negation, times, plus, either}
-use Rattle.grammar.specs.Meaning.{valueAt, normalForm, Declared}
-use Rattle.grammar.specs.Words.{atPoint}
+use Rattle.grammar.specs.Meaning.{valueAt, atPoint, normalForm, Declared}
 
 module _ (U G : ℕ) (state : State) (choice : Choice) (h : choice .0 < 2 ^ U) where
   pub at-point : (t : Tree) → Declared U G t → atPoint U t (point U state choice) ≡ valueAt t state choice

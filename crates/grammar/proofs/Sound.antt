@@ -8,11 +8,11 @@ use Prim.Native.Nat.{ℕ, zero, suc, _+_, _-_, _≤_, _<_}
 use native.Mathlib.Omega.{arith}
 use borrow.Author.Tests.{eqb-true, leb-true, ltb-true}
 use lib.Dec.{eqb, leb, ltb}
+use Rattle.ring.proofs.Bool.{and-left, and-right}
 use Rattle.grammar.specs.Symbols.{zeroSign, oneSign, notSign, openSign, closeSign, timesSign, plusSign, orSign}
 use Rattle.grammar.specs.Reader.{Reading, found, Reader, sum, product, factor, sumFrom, productFrom, joinsSum, isUnknownSymbol, isGivenSymbol, joined, closed, step, readWith, calls, reads}
 use Rattle.grammar.specs.Grammar.{Tree, given, negation, times, Sum, Product, Factor, one-product, plus-product, or-product, one-factor, times-factor, is-zero, is-one, is-unknown, is-given, is-negation, in-brackets}
 use Rattle.grammar.proofs.Fixed.{andThen-found, cond-cases, nothing-found}
-use Rattle.grammar.proofs.Below.{both-true}
 
 abbrev Says : Reader → List ℕ → Tree → Type 0
 Says sum l e = Sum l e
@@ -56,9 +56,8 @@ either-true false b h = inr h
 
 a-given : (x : ℕ) → isGivenSymbol x ≡ true → Factor (x ∷ []) (given (x - 8))
 a-given x h =
-    let b = both-true (leb 8 x) (ltb x 16) h in
-    let low : 8 ≤ x = leb-true 8 x (b .0) in
-    let high : x < 16 = ltb-true x 16 (b .1) in
+    let low : 8 ≤ x = leb-true 8 x (and-left (leb 8 x) (ltb x 16) h) in
+    let high : x < 16 = ltb-true x 16 (and-right (leb 8 x) (ltb x 16) h) in
     let e : 8 + (x - 8) ≡ x = omega arith in
     let i : x - 8 < 8 = omega arith in
     subst (λ (c : ℕ). Factor (c ∷ []) (given (x - 8))) e (is-given i)

@@ -2,6 +2,4 @@ pub mod Symbols
 pub mod Grammar
 pub mod Meaning
 pub mod Reader
-pub mod Words
 pub mod Text
-pub mod Parts

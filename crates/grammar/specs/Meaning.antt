@@ -20,6 +20,16 @@ valueAt (times s t) state choice = valueAt s state choice && valueAt t state cho
 valueAt (plus s t) state choice = valueAt s state choice ⊕ valueAt t state choice
 valueAt (either s t) state choice = valueAt s state choice ⊕ valueAt t state choice ⊕ (valueAt s state choice && valueAt t state choice)
 
+-- the value of a tree over U unknowns at a point, where letter j has bit j; at the point of a state and a choice it is the value there (`at-point`)
+unfoldable pub atPoint : ℕ → Tree → ℕ → Bool
+atPoint U (constant b) p = b
+atPoint U (unknown j) p = bit p j
+atPoint U (given i) p = bit p (U + i)
+atPoint U (negation t) p = atPoint U t p ⊕ true
+atPoint U (times s t) p = atPoint U s p && atPoint U t p
+atPoint U (plus s t) p = atPoint U s p ⊕ atPoint U t p
+atPoint U (either s t) p = atPoint U s p ⊕ atPoint U t p ⊕ (atPoint U s p && atPoint U t p)
+
 -- the normal form of a tree over U unknowns and G givens: 'bit j for unknown j, bit U + i for given i'
 unfoldable pub normalForm : ℕ → ℕ → Tree → Polynomial
 normalForm U G (constant b) = polynomial.constant b

@@ -9,12 +9,12 @@ use lib.ListN.{length, take}
 use lib.Seq.{length-take-le}
 use borrow.Author.Tests.{le-leb, lt-leb, leb-true}
 use Rattle.tables.specs.Questions.{firstNo, lettersFit, hasRoom}
-use Rattle.tables.proofs.Bits.{both-right}
 use Rattle.tables.proofs.FirstNo.{yes-to}
 use Rattle.tables.proofs.Questions.{letters-small, unknowns-small}
 use Rattle.grammar.specs.Symbols.{allSigns, allDeclared}
 use Rattle.ring.specs.Table.{IsTable, table}
 use Rattle.ring.proofs.Table.{is-table}
+use Rattle.ring.proofs.Bool.{and-right}
 use Rattle.grammar.specs.Reader.{grammarReads}
 use Rattle.grammar.specs.Text.{textTable}
 use Rattle.notation.specs.Text.{hasTextLength, textQuestions, textRefusal, Accepted}
@@ -22,7 +22,7 @@ use Rattle.notation.specs.Work.{Ready}
 
 pub text-short : (text : List ℕ) → hasTextLength text ≡ true → length text ≤ 200
 unfolding hasTextLength
-text-short text h = leb-true (length text) 200 (both-right (leb 1 (length text)) (leb (length text) 200) h)
+text-short text h = leb-true (length text) 200 (and-right (leb 1 (length text)) (leb (length text) 200) h)
 
 module _ (U G : ℕ) (text : List ℕ) (room : ℕ) where
   pub refused-letters : lettersFit U G ≡ false → 1 ≡ textRefusal U G text room

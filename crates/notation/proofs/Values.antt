@@ -1,7 +1,7 @@
 -- The values of a text, laid out as bytes, and the table that they are taken back to.
 -- Assumes nothing.
 use mathlib.Core.Path.{_≡_, ap, _∙_, sym}
-use mathlib.Core.Bool.{Bool, true}
+use mathlib.Core.Bool.{true}
 use mathlib.Core.List.{List}
 use mathlib.Core.Logic.{⊎-elim}
 use Prim.Native.Nat.{ℕ, _+_, _*_, _/_, _%_, _^_, _≤_, _<_}
@@ -11,22 +11,22 @@ use native.Mathlib.Omega.{arith}
 use lib.ListN.{length, getD, take, set, length-set}
 use lib.Seq.{getD-set-same, getD-set-other, length-take-le}
 use Rattle.ring.specs.Letters.{digit, bit}
-use Rattle.ring.specs.Table.{IsTable, tabulate, values}
+use Rattle.ring.specs.Table.{tabulate, values}
 use Rattle.ring.proofs.Mask.{low}
 use Rattle.ring.proofs.Points.{digit-low}
-use Rattle.ring.proofs.Table.{tabulate-cong, is-table, table-by-values}
+use Rattle.ring.proofs.Table.{tabulate-cong, table-by-values}
 use Rattle.tables.proofs.Steps.{pow-small}
 use Rattle.grammar.specs.Symbols.{symbols}
-use Rattle.grammar.specs.Meaning.{normalForm}
+use Rattle.grammar.specs.Meaning.{atPoint, normalForm}
 use Rattle.grammar.specs.Text.{IsRead, textTable}
 use Rattle.grammar.proofs.Points.{value-normal}
 use Rattle.grammar.proofs.Theorems.{text-declared}
 use Rattle.grammar.specs.Grammar.{Tree}
 use Rattle.grammar.specs.Reader.{sum, reads, isWhole, treeRead, grammarReads, treeOf}
-use Rattle.grammar.specs.Words.{atPoint, word}
-use Rattle.grammar.specs.Parts.{valuesFrom}
-use Rattle.grammar.specs.declared.Values.{Values}
-use Rattle.grammar.proofs.Words.{word-bit}
+use Rattle.parser.specs.Words.{word}
+use Rattle.parser.specs.Parts.{valuesFrom}
+use Rattle.parser.specs.declared.Values.{Values}
+use Rattle.parser.proofs.Words.{word-bit}
 use Rattle.notation.specs.Work.{AreWords}
 
 -- ---- the words, one after another
@@ -87,9 +87,6 @@ words-enough k words h = rw (length-take-le (4 * ((k + 255) / 256)) words h) (om
 pub symbols-whole : (text l : List ℕ) → l ≡ symbols text → grammarReads text ≡ true → isWhole (reads sum l) ≡ true
 unfolding grammarReads
 symbols-whole text l e h = rw e h
-
-pub points-table : (n k : ℕ) (h : ℕ → Bool) (t : List ℕ) → t ≡ tabulate k h → k ≡ 2 ^ n → IsTable n t
-points-table n k h t e q = rw (e, q) (is-table n h)
 
 pub values-text : (U G : ℕ) (text l t r : List ℕ) (k : ℕ) → IsRead U G text → l ≡ symbols text → t ≡ tabulate k (atPoint U (treeRead (reads sum l))) → k ≡ 2 ^ (U + G)
     → r ≡ values (U + G) t → r ≡ textTable U G text

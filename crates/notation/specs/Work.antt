@@ -6,7 +6,7 @@ use Prim.Native.Nat.{ℕ, _+_, _^_, _≤_, _<_}
 use lib.ListN.{length, getD}
 use Rattle.grammar.specs.Grammar.{Tree}
 use Rattle.grammar.specs.Text.{IsRead}
-use Rattle.grammar.specs.Words.{word}
+use Rattle.parser.specs.Words.{word}
 
 -- what the work on an accepted text is handed: U unknowns, G givens, and a table of exactly the length that is needed
 pub record Ready (U G : ℕ) (text table : List ℕ) : Type 0 where

@@ -12,7 +12,7 @@ ghost use Rattle.ring.specs.Table.{tabulate};
 ghost use Rattle.tables.specs.Reply.{reply, after, outcome};
 ghost use Rattle.grammar.specs.Reader as reader;
 ghost use Rattle.grammar.specs.Reader.{reads, isWhole, treeRead, grammarReads};
-ghost use Rattle.grammar.specs.Words.{atPoint};
+ghost use Rattle.grammar.specs.Meaning.{atPoint};
 ghost use Rattle.grammar.specs.Text.{textTable};
 ghost use Rattle.notation.specs.Text.{hasTextLength, textRefusal};
 ghost use Rattle.notation.specs.Work.{AreWords, Ready};
@@ -24,7 +24,7 @@ fn fill_words(s: &[u8], unknowns: usize, turns: usize, words: &mut [u64])
 {
     for i in 0..turns {
         let w = 4 * i;
-        let v = grammar::values_from(s, unknowns, w as u64);
+        let v = parser::values_from(s, unknowns, w as u64);
         words[w] = v.0;
         words[w + 1] = v.1;
         words[w + 2] = v.2;
@@ -58,7 +58,7 @@ fn read_table(unknowns: usize, givens: usize, text: &[u8], table: &mut [u8])
 {
     let mut symbols = [0u8; 200];
     let mut words = [0u64; 16];
-    let count = grammar::write_symbols(text, &mut symbols);
+    let count = parser::write_symbols(text, &mut symbols);
     let turns = (table.len() + 255) / 256;
     let used = 4 * turns;
     fill_points(
@@ -77,8 +77,8 @@ fn grammar_reads(text: &[u8]) -> bool
     ensures { λ r. ⌜ r ≡ grammarReads (now (text .entry)) ⌝ }
 {
     let mut symbols = [0u8; 200];
-    let count = grammar::write_symbols(text, &mut symbols);
-    grammar::is_whole(&symbols[..count])
+    let count = parser::write_symbols(text, &mut symbols);
+    parser::is_whole(&symbols[..count])
 }
 
 // Question 3.
@@ -104,10 +104,10 @@ fn text_refusal(unknowns: usize, givens: usize, text: &[u8], room: usize) -> u8
     if room < tables::pow2(unknowns + givens) {
         return tables::ROOM;
     }
-    if !grammar::all_signs(text) {
+    if !parser::all_signs(text) {
         return tables::SIGNS;
     }
-    if !grammar::all_declared(unknowns, givens, text) {
+    if !parser::all_declared(unknowns, givens, text) {
         return tables::DECLARED;
     }
     if !grammar_reads(text) {

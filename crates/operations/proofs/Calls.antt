@@ -1,12 +1,11 @@
 -- What the calls' contracts say of whole buffers, from what the inner functions give on the parts that they are lent.
 -- Assumes nothing.
 use mathlib.Core.Path.{_≡_, refl, sym, ap, ap₂, _∙_}
-use mathlib.Core.Bool.{Bool, true, false, _&&_, cond}
+use mathlib.Core.Bool.{true, cond}
 use mathlib.Core.List.{List, [], _∷_}
-use Prim.Native.Nat.{ℕ, zero, suc, _+_, _*_, _^_, _<_, _≤_}
+use Prim.Native.Nat.{ℕ, _+_, _*_, _^_, _<_, _≤_}
 use native.Mathlib.Nat.{lt-of-lt-of-le}
 use native.Mathlib.Decide.{ℕ-discrete}
-use native.Mathlib.Omega.{arith}
 use lib.Dec.{ltb}
 use lib.Pow.{pow-mono}
 use borrow.Author.Tests.{lt-ltb, le-ltb, ltb-true}
@@ -20,8 +19,9 @@ use Rattle.ring.proofs.Points.{point-lt}
 use Rattle.ring.proofs.Value.{value-cong, product-cong}
 use Rattle.ring.proofs.Substitute.{substitute-cong, forUnknowns-cong}
 use Rattle.ring.proofs.Table.{table-cong, present-take, held-take, length-table}
+use Rattle.ring.proofs.Bool.{and-left, and-right}
 use Rattle.tables.specs.Questions.{asks, firstNo, tableQuestions, reads, inRange}
-use Rattle.tables.proofs.Bits.{both-left, both-right}
+use Rattle.tables.proofs.FirstNo.{yes-to}
 use Rattle.tables.proofs.Questions.{tableRefusal, one-table, table-yes, table-no, fine}
 use Rattle.operations.specs.Calls.{valueRefusal, valueAt, sumTable, productTable, substituteTable}
 
@@ -90,20 +90,16 @@ pub askable : (u g : ℕ) (t : List ℕ) (state : State) (choice : Choice) → v
 unfolding valueRefusal inRange
 askable u g t state choice z = go (ℕ-discrete (firstNo (tableQuestions u g (reads 1 t ∷ []))) 0)
   where
-    yes-to : (p : Bool) → _≡_ {A = ℕ} (cond p 0 16) 0 → p ≡ true
-    yes-to true e = refl
-    yes-to false e = absurd (omega arith)
-
     go : Dec (firstNo (tableQuestions u g (reads 1 t ∷ [])) ≡ 0) → Askable u g t state choice
     go (no n) = absurd (n (table-no u g (reads 1 t ∷ []) (asks 16 (inRange u g state choice) ∷ []) _ refl n ∙ z))
     go (yes y) =
         let f = fine u g t [] 0 0 0 (one-table u g t ∙ y) in
-        let r : inRange u g state choice ≡ true = yes-to _ (sym (then-16 u g t state choice 0 (sym (one-table u g t ∙ y)) refl) ∙ z) in
+        let r : inRange u g state choice ≡ true = yes-to _ 0 15 (sym (then-16 u g t state choice 0 (sym (one-table u g t ∙ y)) refl) ∙ z) .0 in
         record {
           small = f .small;
           room = f .first-room;
-          state-fits = ltb-true _ _ (both-left (ltb (state .0) (2 ^ g)) _ r);
-          choice-fits = ltb-true _ _ (both-right (ltb (state .0) (2 ^ g)) _ r);
+          state-fits = ltb-true _ _ (and-left (ltb (state .0) (2 ^ g)) _ r);
+          choice-fits = ltb-true _ _ (and-right (ltb (state .0) (2 ^ g)) _ r);
         }
 
 -- the value of the part that counts is the value of the whole, at the point that the code forms

@@ -1,25 +1,26 @@
 -- The point at which a condition is looked up, built from the last unknown down, and that looking the condition up there is substitution.
 -- Assumes nothing.
 use mathlib.Core.Path.{_≡_, refl, sym, ap, ap₂, _∙_}
-use mathlib.Core.Bool.{Bool, true, false, cond}
+use mathlib.Core.Bool.{Bool, cond}
 use mathlib.Core.List.{List}
-use Prim.Native.Nat.{ℕ, zero, suc, _+_, _-_, _*_, _/_, _%_, _^_, _<_, _≤_}
-use native.Mathlib.Nat.{pow-suc, div-one, zero-add, add-zero, sub-self, add-mul, one-mul, mul-le-mul-right, div-add-mod', lt-of-lt-of-le}
+use Prim.Native.Nat.{ℕ, zero, suc, _+_, _-_, _*_, _/_, _^_, _<_, _≤_}
+use native.Mathlib.Nat.{pow-suc, div-one, add-zero, sub-self, lt-of-lt-of-le}
 use native.Mathlib.Omega.{arith}
-use lib.Arith.{lt-one, digits-lt}
+use lib.Arith.{digits-lt}
 use lib.Pow.{shr-lt, pow-mono}
-use lib.Dec.{eqb, ltb}
+use lib.Dec.{ltb}
 use lib.ListN.{length, getD}
-use borrow.Author.Tests.{lt-ltb, le-ltb, ltb-true, ltb-false}
+use borrow.Author.Tests.{lt-ltb, le-ltb, ltb-true}
 use Rattle.ring.specs.Letters.{digit, bit, pointWhere}
-use Rattle.ring.specs.Polynomial.{Polynomial, value, substitute}
+use Rattle.ring.specs.Polynomial.{value, substitute}
 use Rattle.ring.specs.Table.{AreBits, present, tabulate, table, values, held, answerTable, forUnknowns}
 use Rattle.ring.proofs.Bool.{bool-iff}
-use Rattle.ring.proofs.Points.{bit-zero, bit-suc, shift-suc, digit-lt, digit-low, pointWhere-cong}
+use Rattle.ring.proofs.Points.{bit-suc, shift-suc, pointWhere-cong, pointWhere-lt, pointWhere-bits}
 use Rattle.ring.proofs.Substitute.{value-forUnknowns}
 use Rattle.ring.proofs.Table.{table-by-values, value-present-values, held-answerTable}
+use Rattle.ring.proofs.Lists.{tabulate-listed}
 use Rattle.tables.proofs.Bits.{byte-digit}
-use Rattle.tables.proofs.Filled.{filled, filled-end, tabulate-listed}
+use Rattle.tables.proofs.Filled.{filled, filled-end}
 use Rattle.operations.specs.LookUp.{stacked}
 
 -- a byte of the handed values as the bit that it adds
@@ -72,18 +73,8 @@ small-point n j q h l =
 pub bits-end : (n j q : ℕ) → j ≡ 0 → q < 2 ^ (n - j) → q < 2 ^ n
 bits-end n j q z l = let d : n - j ≡ n = omega arith in rw d at l
 
--- a point is made of its own letters
-point-bits : (n p : ℕ) → p < 2 ^ n → pointWhere n (λ j. bit p j) ≡ p
-unfolding pointWhere
-point-bits zero p l = sym (lt-one l)
-point-bits (suc n) p l =
-    ap₂ (λ (x : ℕ) (y : ℕ). x * 2 + y)
-    (pointWhere-cong n _ _ (λ j _. bit-suc p j) ∙ point-bits n (p / 2) (omega (arith, pow-suc 2 n)))
-    (ap digit (bit-zero p) ∙ digit-low p)
-    ∙ div-add-mod' p 2
-
-ltb-suc : (j u : ℕ) → ltb (suc j) (suc u) ≡ ltb j u
-ltb-suc j u =
+ltb-suc-suc : (j u : ℕ) → ltb (suc j) (suc u) ≡ ltb j u
+ltb-suc-suc j u =
     bool-iff (ltb (suc j) (suc u)) (ltb j u) (λ e. let h : suc j < suc u = ltb-true _ _ e in lt-ltb j u (omega arith))
     (λ e. let h : j < u = ltb-true _ _ e in lt-ltb (suc j) (suc u) (omega arith))
 
@@ -91,19 +82,14 @@ ltb-suc j u =
 stacked-point : (u n p : ℕ) (h : ℕ → Bool) → u ≤ n → p < 2 ^ n → stacked u h (p / 2 ^ u) ≡ pointWhere n (λ j. cond (ltb j u) (h j) (bit p j))
 unfolding stacked pointWhere
 stacked-point zero n p h k l =
-    div-one p ∙ sym (point-bits n p l) ∙ pointWhere-cong n _ _ (λ j _. ap (λ (b : Bool). cond b (h j) (bit p j)) (sym (le-ltb j 0 (omega arith))))
+    div-one p ∙ sym (pointWhere-bits n p l) ∙ pointWhere-cong n _ _ (λ j _. ap (λ (b : Bool). cond b (h j) (bit p j)) (sym (le-ltb j 0 (omega arith))))
 stacked-point (suc u) zero p h k l = absurd (omega arith)
 stacked-point (suc u) (suc n) p h k l =
     ap₂ (λ (x : ℕ) (b : Bool). x * 2 + digit b)
     (ap (stacked u (λ j. h (suc j))) (shift-suc p u)
     ∙ stacked-point u n (p / 2) (λ j. h (suc j)) (omega arith) (omega (arith, pow-suc 2 n))
-    ∙ pointWhere-cong n _ _ (λ j _. ap₂ (λ (b c : Bool). cond b (h (suc j)) c) (sym (ltb-suc j u)) (sym (bit-suc p j))))
+    ∙ pointWhere-cong n _ _ (λ j _. ap₂ (λ (b c : Bool). cond b (h (suc j)) c) (sym (ltb-suc-suc j u)) (sym (bit-suc p j))))
     (ap (λ (b : Bool). cond b (h 0) (bit p 0)) (sym (lt-ltb 0 (suc u) (omega arith))))
-
-pointWhere-lt : (n : ℕ) (b : ℕ → Bool) → pointWhere n b < 2 ^ n
-unfolding pointWhere
-pointWhere-lt zero b = omega arith
-pointWhere-lt (suc n) b = omega (arith, pow-suc 2 n, pointWhere-lt n (λ j. b (suc j)), digit-lt (b 0))
 
 -- looked up at every point, and back: the substitution
 pub substitute-done : (u n : ℕ) (f b w₁ w₂ p₁ p₂ o₁ o₂ : List ℕ) → u ≤ n → w₁ ≡ f → w₂ ≡ values n w₁ → p₁ ≡ b

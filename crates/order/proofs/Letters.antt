@@ -1,49 +1,20 @@
 -- The number of letters of a mask below 2 ^ n: a count of its n bits, worked out by halving, and at most n.
 -- Assumes nothing.
 use mathlib.Core.Path.{_≡_, refl, sym, ap, ap₂, _∙_}
-use mathlib.Core.Bool.{Bool, true, false}
+use mathlib.Core.Bool.{true, false}
 use mathlib.Core.Logic.{_⊎_, inl, inr}
 use Prim.Native.Nat.{ℕ, zero, suc, _+_, _-_, _/_, _%_, _^_, _≤_, _<_}
-use native.Mathlib.Nat.{add-zero, zero-add, add-assoc, add-suc, pow-suc, div-eq-of-lt}
+use native.Mathlib.Nat.{pow-suc}
 use native.Mathlib.Omega.{arith}
 use lib.Dec.{leb}
 use lib.Pow.{pow-mono}
 use borrow.Author.Tests.{leb-true, leb-false}
 use Rattle.ring.specs.Letters.{digit, bit}
 use Rattle.ring.specs.Polynomial.{count}
-use Rattle.ring.proofs.Points.{bit-zero, bit-suc, digit-low, digit-lt}
+use Rattle.ring.proofs.Bool.{bool-cases}
+use Rattle.ring.proofs.Parity.{count-cong, count-first, count-more, count-most}
+use Rattle.ring.proofs.Points.{bit-zero, bit-suc, bit-none, digit-low}
 use Rattle.order.specs.Order.{letters}
-use Rattle.order.proofs.Lists.{bool-cases}
-
--- ---- count
-count-cong : (k : ℕ) (g h : ℕ → Bool) → ((i : ℕ) → g i ≡ h i) → count k g ≡ count k h
-unfolding count
-count-cong zero g h e = refl
-count-cong (suc k) g h e = ap₂ _+_ (count-cong k g h e) (ap digit (e k))
-
--- the first number apart
-count-first : (k : ℕ) (test : ℕ → Bool) → count (suc k) test ≡ digit (test 0) + count k (λ j. test (suc j))
-unfolding count
-count-first zero test = zero-add (digit (test 0)) ∙ sym (add-zero (digit (test 0)))
-count-first (suc k) test =
-    ap (λ (c : ℕ). c + digit (test (suc k))) (count-first k test) ∙ add-assoc (digit (test 0)) (count k (λ j. test (suc j))) (digit (test (suc k)))
-
--- what comes after k does not pass
-count-more : (k d : ℕ) (test : ℕ → Bool) → ((j : ℕ) → k ≤ j → test j ≡ false) → count (k + d) test ≡ count k test
-unfolding count
-count-more k zero test e = ap (λ (i : ℕ). count i test) (add-zero k)
-count-more k (suc d) test e =
-    ap (λ (i : ℕ). count i test) (add-suc k d) ∙ rw (count-more k d test e, e (k + d) (omega arith)) (add-zero (count k test))
-
-count-most : (k : ℕ) (test : ℕ → Bool) → count k test ≤ k
-unfolding count
-count-most zero test = omega arith
-count-most (suc k) test = omega (arith, count-most k test, digit-lt (test k))
-
--- ---- letters
-bit-none : (m j : ℕ) → m < 2 ^ j → bit m j ≡ false
-unfolding bit
-bit-none m j h = rw (div-eq-of-lt h)
 
 below-pow : (m : ℕ) → m < 2 ^ m
 below-pow zero = omega arith

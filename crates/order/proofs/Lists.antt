@@ -1,7 +1,7 @@
 -- The laws of `keep`, `below` and `has`, the lists that the written order is made of.
 -- Assumes nothing.
 use mathlib.Core.Path.{_≡_, refl, sym, ap, _∙_}
-use mathlib.Core.Bool.{Bool, true, false, cond, _&&_, _||_, and-false, or-true, or-false, or-assoc}
+use mathlib.Core.Bool.{Bool, true, false, cond, _&&_, _||_, and-false, or-false}
 use mathlib.Core.List.{List, [], _∷_, _++_, append-nil}
 use mathlib.Core.Logic.{_⊎_, inl, inr}
 use Prim.Native.Nat.{ℕ, zero, suc, _+_, _≤_, _<_}
@@ -11,35 +11,10 @@ use lib.Dec.{eqb, ltb}
 use lib.ListN.{length, getD, take, length-append}
 use lib.Seq.{take-suc}
 use borrow.Author.Tests.{lt-ltb, le-ltb, ltb-true, eqb-true, eqb-false, eq-eqb}
-use Rattle.ring.proofs.Bool.{bool-iff}
-use Rattle.order.specs.Order.{keep, below, has}
-
--- ---- tests
-pub and-left : (p q : Bool) → (p && q) ≡ true → p ≡ true
-and-left true q e = refl
-and-left false q e = e
-
-pub and-right : (p q : Bool) → (p && q) ≡ true → q ≡ true
-and-right true q e = e
-and-right false true e = refl
-and-right false false e = e
-
-pub both : {p q : Bool} → p ≡ true → q ≡ true → (p && q) ≡ true
-both e f = rw (e, f)
-
-pub or-cases : (p q : Bool) → (p || q) ≡ true → (p ≡ true) ⊎ (q ≡ true)
-or-cases true q e = inl refl
-or-cases false q e = inr e
-
-pub or-right : (p : Bool) {q : Bool} → q ≡ true → (p || q) ≡ true
-or-right p e = rw e (or-true p)
-
-pub bool-cases : (p : Bool) → (p ≡ true) ⊎ (p ≡ false)
-bool-cases true = inl refl
-bool-cases false = inr refl
-
-pub never : {A : Type 0} {p : Bool} → p ≡ true → p ≡ false → A
-never e f = let z : _≡_ {A = ℕ} 0 1 = (cc) in absurd (omega arith)
+use Rattle.ring.proofs.Bool.{bool-iff, or-cases, or-right, bool-cases}
+use Rattle.ring.proofs.Lists.{has-append}
+use Rattle.ring.specs.Lists.{has}
+use Rattle.order.specs.Order.{keep, below}
 
 pub ltb-suc : (m k : ℕ) → ltb m (suc k) ≡ (ltb m k || eqb m k)
 ltb-suc m k = sym (bool-iff (ltb m k || eqb m k) (ltb m (suc k)) (λ e. lt-ltb m (suc k) (up (or-cases _ _ e))) (λ e. down (ltb-true m (suc k) e) (bool-cases (eqb m k))))
@@ -112,11 +87,6 @@ length-below zero = refl
 length-below (suc k) = length-append (below k) (k ∷ []) ∙ rw (length-below k) (omega arith)
 
 -- ---- has
-pub has-append : (m : ℕ) (xs ys : List ℕ) → has m (xs ++ ys) ≡ (has m xs || has m ys)
-unfolding has
-has-append m [] ys = refl
-has-append m (x ∷ xs) ys = ap (λ (b : Bool). eqb m x || b) (has-append m xs ys) ∙ sym (or-assoc (eqb m x) (has m xs) (has m ys))
-
 pub has-keep : (t : ℕ → Bool) (m : ℕ) (xs : List ℕ) → has m (keep t xs) ≡ (t m && has m xs)
 unfolding has keep
 has-keep t m [] = sym (and-false (t m))
@@ -132,20 +102,3 @@ pub has-below : (m k : ℕ) → has m (below k) ≡ ltb m k
 unfolding has below
 has-below m zero = sym (le-ltb m 0 (omega arith))
 has-below m (suc k) = has-append m (below k) (k ∷ []) ∙ rw (has-below m k, or-false (eqb m k)) (sym (ltb-suc m k))
-
--- ---- listed
--- f 0, f 1 and so on, k of them
-unfoldable pub listed : {A : Type 0} → (ℕ → A) → ℕ → List A
-listed f zero = []
-listed f (suc k) = f 0 ∷ listed (λ i. f (suc i)) k
-
-pub length-listed : {A : Type 0} (f : ℕ → A) (k : ℕ) → length (listed f k) ≡ k
-unfolding listed
-length-listed f zero = refl
-length-listed f (suc k) = ap suc (length-listed (λ i. f (suc i)) k)
-
-pub getD-listed : {A : Type 0} (f : ℕ → A) (k i : ℕ) (d : A) → i < k → getD (listed f k) i d ≡ f i
-unfolding listed
-getD-listed f zero i d h = absurd (omega arith)
-getD-listed f (suc k) zero d h = refl
-getD-listed f (suc k) (suc i) d h = getD-listed (λ j. f (suc j)) k i d (omega arith)

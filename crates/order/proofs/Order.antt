@@ -11,36 +11,17 @@ use native.Mathlib.Omega.{arith}
 use lib.Dec.{eqb, ltb}
 use lib.ListN.{length, getD, length-append}
 use lib.Pow.{pow-mono}
-use borrow.Author.Tests.{lt-ltb, le-ltb, ltb-true, eqb-true, eq-eqb}
+use borrow.Author.Tests.{lt-ltb, le-ltb, ltb-true, eqb-true}
 use Rattle.ring.specs.Polynomial.{Polynomial}
-use Rattle.ring.proofs.Bool.{bool-iff}
-use Rattle.order.specs.Order.{letters, before, keep, below, groups, order, monomials, has, rises}
-use Rattle.order.proofs.Lists.{and-left, and-right, both, or-cases, or-right, bool-cases, never, keep-append, keep-none, keep-every, keep-all, length-below, ltb-suc, has-append, has-keep, has-below}
+use Rattle.ring.specs.Lists.{has}
+use Rattle.ring.proofs.Bool.{bool-iff, and-left, and-right, both, or-cases, bool-cases, never}
+use Rattle.ring.proofs.Lists.{has-append, has-cases, has-first, has-place, has-rest}
+use Rattle.order.specs.Order.{letters, before, keep, below, groups, order, monomials, rises}
+use Rattle.order.proofs.Lists.{keep-append, keep-none, keep-every, keep-all, length-below, ltb-suc, has-keep, has-below}
 use Rattle.order.proofs.Letters.{letters-most}
 use Rattle.order.proofs.Relation.{before-fewer, before-smaller, before-irreflexive, before-transitive}
 
 -- ---- rising lists
-pub has-first : (m : ℕ) (ms : List ℕ) → has m (m ∷ ms) ≡ true
-unfolding has
-has-first m ms = rw (eq-eqb m m refl)
-
-pub has-rest : (k m : ℕ) (ms : List ℕ) → has k ms ≡ true → has k (m ∷ ms) ≡ true
-unfolding has
-has-rest k m ms h = or-right (eqb k m) h
-
-pub has-cases : (k m : ℕ) (ms : List ℕ) → has k (m ∷ ms) ≡ true → (k ≡ m) ⊎ (has k ms ≡ true)
-unfolding has
-has-cases k m ms h = go (or-cases (eqb k m) (has k ms) h)
-  where
-    go : (eqb k m ≡ true) ⊎ (has k ms ≡ true) → (k ≡ m) ⊎ (has k ms ≡ true)
-    go (inl e) = inl (eqb-true k m e)
-    go (inr i) = inr i
-
-pub has-place : (xs : List ℕ) (i : ℕ) → i < length xs → has (getD xs i 0) xs ≡ true
-has-place [] i h = absurd (omega arith)
-has-place (x ∷ xs) zero h = has-first x xs
-has-place (x ∷ xs) (suc i) h = has-rest (getD xs i 0) x xs (has-place xs i (omega arith))
-
 pub rises-tail : (m : ℕ) (ms : List ℕ) → rises (m ∷ ms) ≡ true → rises ms ≡ true
 unfolding rises
 rises-tail m [] r = refl

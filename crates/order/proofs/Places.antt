@@ -10,12 +10,14 @@ use native.Mathlib.Omega.{arith}
 use lib.Dec.{ltb, leb}
 use lib.ListN.{length, getD}
 use borrow.Author.Tests.{lt-ltb, ltb-true, leb-true}
-use Rattle.order.specs.Order.{before, order, has, rises}
+use Rattle.order.specs.Order.{before, order, rises}
 use Rattle.order.specs.Place.{choose, nth, rank}
-use Rattle.order.proofs.Lists.{and-left, and-right, never, listed, length-listed, getD-listed}
+use Rattle.ring.proofs.Bool.{and-left, and-right, never}
+use Rattle.ring.proofs.Lists.{length-listed, getD-listed, has-cases}
+use Rattle.ring.specs.Lists.{listed, has}
 use Rattle.order.proofs.Letters.{lettersIn, letters-in}
 use Rattle.order.proofs.Relation.{before-rank}
-use Rattle.order.proofs.Order.{has-cases, rises-cons, rising-whole}
+use Rattle.order.proofs.Order.{rises-cons, rising-whole}
 
 -- the mask number r of those for ten letters that have k or more, `more` numbers of letters from k on being left
 unfoldable pub placed : ℕ → ℕ → ℕ → ℕ
@@ -81,12 +83,12 @@ pub climbs-order : (n : ℕ) (ms : List ℕ) → climbs n 0 ms ≡ true → leng
 climbs-order n ms c l = rising-whole n ms (climbs-rises n 0 ms c) (λ k i. climbs-has n 0 ms c k i .0) l
 
 -- the one test
-test : climbs 10 0 (listed maskAt 1024) ≡ true
+test : climbs 10 0 (listed 1024 maskAt) ≡ true
 unfolding climbs rankIn lettersIn listed maskAt placed nth choose
 test = refl
 
 -- the mask at a place, from counts of letters, is the one that stands there in the ten-letter order
 pub mask-at-place : (p : ℕ) → p < 1024 → maskAt p ≡ getD (order 10) p 0
 mask-at-place p h =
-    sym (getD-listed maskAt 1024 p 0 h)
-    ∙ ap (λ (l : List ℕ). getD l p 0) (climbs-order 10 (listed maskAt 1024) test (length-listed maskAt 1024))
+    sym (getD-listed 1024 maskAt p 0 h)
+    ∙ ap (λ (l : List ℕ). getD l p 0) (climbs-order 10 (listed 1024 maskAt) test (length-listed 1024 maskAt))

@@ -9,10 +9,9 @@ use native.Mathlib.Omega.{arith}
 use lib.Dec.{eqb, ltb}
 use lib.Arith.{digits-lt}
 use borrow.Author.Tests.{lt-ltb, ltb-true, ltb-false, eqb-true, eq-eqb}
-use Rattle.ring.proofs.Bool.{bool-iff}
+use Rattle.ring.proofs.Bool.{bool-iff, and-left, and-right, both, or-cases, or-right, bool-cases}
 use Rattle.order.specs.Order.{letters, before}
 use Rattle.order.specs.Place.{rank}
-use Rattle.order.proofs.Lists.{and-left, and-right, both, or-cases, or-right, bool-cases}
 use Rattle.order.proofs.Letters.{letters-most}
 
 -- fewer letters

@@ -1,7 +1,7 @@
 -- The written order (document 01, 'The table of a polynomial'): 'The written order puts fewer letters first and, among equals, the smaller mask.'
 -- As a relation on masks, `before`; and as the list of the masks for n letters, `order n`.
 -- Assumes nothing.
-use mathlib.Core.Bool.{Bool, true, false, cond, _&&_, _||_}
+use mathlib.Core.Bool.{Bool, true, cond, _&&_, _||_}
 use mathlib.Core.List.{List, [], _∷_, _++_}
 use Prim.Native.Nat.{ℕ, zero, suc, _^_}
 use lib.Dec.{eqb, ltb}
@@ -38,11 +38,6 @@ order n = groups n (suc n)
 -- the monomials that a polynomial in n letters has, in written order
 unfoldable pub monomials : ℕ → Polynomial → List ℕ
 monomials n f = keep f (order n)
-
--- m is in the list
-unfoldable pub has : ℕ → List ℕ → Bool
-has m [] = false
-has m (k ∷ ks) = eqb m k || has m ks
 
 -- each mask of the list stands before the next: 'all in order, none twice'
 unfoldable pub rises : List ℕ → Bool

@@ -11,9 +11,8 @@ use lib.Dec.{ltb}
 use lib.ListN.{length, getD, take, drop, length-append, length-drop, drop-of-length-le}
 use lib.Seq.{getD-drop, drop-drop, take-at, drop-at}
 use borrow.Author.Tests.{ltb-true, eq-eqb, ne-eqb, lt-ltb, le-ltb}
-use Rattle.order.proofs.Lists.{never}
+use Rattle.ring.proofs.Bool.{never, and-left, and-right}
 use Rattle.tables.specs.Put.{Put}
-use Rattle.tables.proofs.Bits.{both-left, both-right}
 use Rattle.tables.proofs.Put.{put-none, put-both, put-same}
 use Rattle.entry.specs.declared.Record.{Record}
 use Rattle.entry.specs.declared.Record.the-variants.{Start, Condition, Answer, End, None, Broken}
@@ -76,7 +75,7 @@ module _ (old s : List ℕ) (at : ℕ) where
       none-left : (rs : List Record) → allWhole rs ≡ true → bytes rs ≡ [] → recordLines rs ≡ []
       none-left [] w e = refl
       none-left (r ∷ rs) w e =
-          absurd (omega (arith, ltb-true 0 (size r) (both-left (ltb 0 (size r)) (allWhole rs) w), ap length e, length-append (recordBytes r) (bytes rs)))
+          absurd (omega (arith, ltb-true 0 (size r) (and-left (ltb 0 (size r)) (allWhole rs) w), ap length e, length-append (recordBytes r) (bytes rs)))
 
   -- the record that stands at `from`, and those behind it
   pub record Stands (rs : List Record) (from n : ℕ) : Type 0 where
@@ -94,7 +93,7 @@ module _ (old s : List ℕ) (at : ℕ) where
       go : (rs : List Record) → drop from s ≡ bytes rs → allWhole rs ≡ true → Stands rs from n
       go [] e w = absurd (omega (arith, ap length e, length-drop from s))
       go (r ∷ rs) e w =
-          let h : ltb 0 (size r) ≡ true = both-left (ltb 0 (size r)) (allWhole rs) w in
+          let h : ltb 0 (size r) ≡ true = and-left (ltb 0 (size r)) (allWhole rs) w in
           let first-byte : getD s from 0 ≡ kind r =
           ap (λ (i : ℕ). getD s i 0) (sym (add-zero from)) ∙ sym (getD-drop from s 0 0) ∙ ap (λ (bs : List ℕ). getD bs 0 0) e ∙ first-kind r (bytes rs) h in
           let is : n ≡ size r = en ∙ ap kindLength first-byte ∙ kind-size r h in
@@ -123,7 +122,7 @@ module _ (old s : List ℕ) (at : ℕ) where
         done = p .done ++ (hexadecimal (recordBytes r) ++ (lineFeed ∷ []));
         left = rs;
         rest = sym (drop-drop n from s) ∙ ap (λ (m : ℕ). drop m (drop from s)) (f .size-is) ∙ ap (drop (size r)) here ∙ drop-front r rs;
-        whole = both-right (ltb 0 (size r)) (allWhole rs) (whole-cons r rs (ap allWhole (sym (f .are)) ∙ p .whole));
+        whole = and-right (ltb 0 (size r)) (allWhole rs) (whole-cons r rs (ap allWhole (sym (f .are)) ∙ p .whole));
         lines = p .lines ∙ ap (λ (ls : List Record). p .done ++ recordLines ls) (f .are) ∙ lines-cons r rs (p .done);
         put = put-both (p .put) line;
         short = omega (arith, p .short, line .place, length-append (hexadecimal (recordBytes r)) (lineFeed ∷ []), hex-length (recordBytes r), f .size-is, f .some);

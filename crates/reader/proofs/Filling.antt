@@ -14,10 +14,9 @@ use lib.Seq.{ext-getD, getD-set-same, getD-set-other}
 use borrow.Author.Tests.{le-leb, lt-leb, leb-true, leb-false, eq-eqb, ne-eqb, eqb-true, eqb-false}
 use Rattle.ring.specs.Letters.{digit}
 use Rattle.ring.specs.Table.{tabulate, table, answerTable}
-use Rattle.ring.proofs.Bool.{bool-iff}
+use Rattle.ring.proofs.Bool.{bool-iff, and-left, and-right, both, bool-cases}
 use Rattle.ring.proofs.Table.{length-tabulate, getD-tabulate, tabulate-cong}
 use Rattle.tables.proofs.Parts.{answers-fit}
-use Rattle.order.proofs.Lists.{and-left, and-right, both, bool-cases}
 use Rattle.entry.specs.declared.Record.{Record}
 use Rattle.entry.specs.Record.{size, kind, isEnd, isMonomial, maskIn, tableIn}
 use Rattle.entry.specs.Held.{next, records, hasMonomial, conditionIn, answersIn}

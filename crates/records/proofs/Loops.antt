@@ -10,7 +10,7 @@ use native.Mathlib.Omega.{arith}
 use lib.Dec.{eqb}
 use lib.ListN.{length, drop, length-append}
 use borrow.Author.Tests.{eq-eqb, ne-eqb}
-use Rattle.order.proofs.Lists.{bool-cases}
+use Rattle.ring.proofs.Bool.{bool-cases}
 use Rattle.solution.specs.Elimination.{none}
 use Rattle.entry.specs.declared.Record.{Record}
 use Rattle.entry.specs.Record.{recordBytes, bytes, size, kind, isEnd, isNone, routeIn, stateIn}

@@ -7,9 +7,9 @@ use mathlib.Core.Logic.{_⊎_, inl, inr}
 use Prim.Native.Nat.{ℕ}
 use native.Mathlib.Omega.{arith}
 use lib.ListN.{length}
+use Rattle.ring.proofs.Bool.{bool-cases}
 use Rattle.tables.specs.Questions.{firstNo, lettersFit}
 use Rattle.tables.proofs.Questions.{letters-small}
-use Rattle.order.proofs.Lists.{bool-cases}
 use Rattle.entry.specs.declared.Record.{Record}
 use Rattle.entry.specs.Record.{bytes}
 use Rattle.entry.specs.Held.{next, records, routeOf, unknownsOf, givensOf}

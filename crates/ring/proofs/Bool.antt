@@ -1,7 +1,12 @@
--- The laws of Boole's ring on Bool, and how two Bools are shown equal.
+-- The laws of Boole's ring on Bool, how two Bools are shown equal, and what a test that is true or false tells.
 -- Assumes nothing.
-use mathlib.Core.Path.{_≡_, refl, sym}
-use mathlib.Core.Bool.{Bool, true, false, not, _&&_, and-comm, and-assoc, and-false, and-true, and-self, Bool·beq}
+use mathlib.Core.Path.{_≡_, refl, sym, _∙_}
+use mathlib.Core.Logic.{_⊎_, inl, inr}
+use mathlib.Core.Bool.{Bool, true, false, not, _&&_, _||_, and-comm, and-assoc, and-false, and-true, and-self, or-true, Bool·beq, true≢false}
+use Prim.Native.Nat.{_<_}
+use native.Mathlib.Omega.{arith}
+use lib.Dec.{eqb}
+use Rattle.ring.specs.Letters.{digit}
 use Rattle.ring.specs.Polynomial.{_⊕_}
 
 pub xor-false : (a : Bool) → (a ⊕ false) ≡ a
@@ -66,3 +71,46 @@ xor-code true true = refl
 xor-code true false = refl
 xor-code false true = refl
 xor-code false false = refl
+
+-- ---- a Bool as a byte
+pub digit-lt : (b : Bool) → digit b < 2
+digit-lt true = omega arith
+digit-lt false = omega arith
+
+-- a digit read as a Bool
+pub bit-digit : (b : Bool) → eqb (digit b) 1 ≡ b
+bit-digit true = refl
+bit-digit false = refl
+
+-- ---- tests
+pub and-left : (p q : Bool) → (p && q) ≡ true → p ≡ true
+and-left true q e = refl
+and-left false q e = e
+
+pub and-right : (p q : Bool) → (p && q) ≡ true → q ≡ true
+and-right true q e = e
+and-right false q e = absurd (true≢false (sym e))
+
+pub both : {p q : Bool} → p ≡ true → q ≡ true → (p && q) ≡ true
+both e f = rw (e, f)
+
+pub or-cases : (p q : Bool) → (p || q) ≡ true → (p ≡ true) ⊎ (q ≡ true)
+or-cases true q e = inl refl
+or-cases false q e = inr e
+
+pub or-right : (p : Bool) {q : Bool} → q ≡ true → (p || q) ≡ true
+or-right p e = rw e (or-true p)
+
+pub bool-cases : (p : Bool) → (p ≡ true) ⊎ (p ≡ false)
+bool-cases true = inl refl
+bool-cases false = inr refl
+
+pub never : {A : Type 0} {p : Bool} → p ≡ true → p ≡ false → A
+never e f = absurd (true≢false (sym e ∙ f))
+
+-- the code's test of two bools
+pub same-bool : (a b : Bool) → Bool·beq a b ≡ true → a ≡ b
+same-bool true true h = refl
+same-bool true false h = sym h
+same-bool false true h = h
+same-bool false false h = refl

@@ -1,4 +1,7 @@
 pub mod Bool
+pub mod Every
+pub mod Lists
+pub mod Bitwise
 pub mod Parity
 pub mod Mask
 pub mod Points

@@ -1,9 +1,9 @@
 -- The laws of masks: `within` and `bit`, digit by digit, lowest first.
 -- Assumes nothing.
 use mathlib.Core.Path.{_≡_, refl, sym, ap, ap₂, _∙_}
-use mathlib.Core.Bool.{Bool, true, false, not, _&&_, _||_, and-false, and-true, and-assoc, and-comm}
-use Prim.Native.Nat.{ℕ, zero, suc, _+_, _*_, _/_, _%_, _^_, _<_, _≤_, min, max}
-use native.Mathlib.Nat.{div-add-mod', mod-lt, pow-suc, zero-lt-suc, div-one}
+use mathlib.Core.Bool.{Bool, true, false, not, _&&_, _||_, and-false}
+use Prim.Native.Nat.{ℕ, zero, suc, _+_, _*_, _/_, _%_, _^_, _<_, min, max}
+use native.Mathlib.Nat.{div-add-mod', mod-lt, pow-suc, zero-lt-suc}
 use native.Mathlib.Omega.{arith}
 use lib.Arith.{bin-ind, lt-one}
 use lib.Dec.{eqb}

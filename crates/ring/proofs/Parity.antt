@@ -1,10 +1,10 @@
--- The laws of `odd`, the parity of how many numbers below a bound pass a test: those of a finite sum in the two-element ring.
+-- The laws of `count`, how many numbers below a bound pass a test, and of `odd`, its parity: those of a finite sum in the two-element ring.
 -- `odd-suc` turns the count into a sum; the others follow by induction on the bound.
 -- Assumes nothing.
 use mathlib.Core.Path.{_≡_, refl, sym, ap, ap₂, _∙_}
 use mathlib.Core.Bool.{Bool, true, false, _&&_, and-false, and-true, and-comm}
-use Prim.Native.Nat.{ℕ, zero, suc, _+_, _*_, _%_, _<_}
-use native.Mathlib.Nat.{add-zero, suc-mul, not-suc-le-zero}
+use Prim.Native.Nat.{ℕ, zero, suc, _+_, _*_, _%_, _<_, _≤_}
+use native.Mathlib.Nat.{add-zero, zero-add, add-assoc, add-suc, suc-mul, not-suc-le-zero}
 use native.Mathlib.Omega.{arith}
 use native.Mathlib.Numerals.{add-one, add-two}
 use native.Mathlib.Decide.{ℕ-discrete}
@@ -12,7 +12,31 @@ use lib.Dec.{eqb}
 use borrow.Author.Tests.{eq-eqb, ne-eqb, eqb-true, eqb-false}
 use Rattle.ring.specs.Letters.{digit}
 use Rattle.ring.specs.Polynomial.{_⊕_, count, odd}
-use Rattle.ring.proofs.Bool.{xor-assoc, and-xor, xor-false, ac}
+use Rattle.ring.proofs.Bool.{xor-assoc, and-xor, xor-false, ac, digit-lt}
+
+pub count-cong : (k : ℕ) (g h : ℕ → Bool) → ((i : ℕ) → g i ≡ h i) → count k g ≡ count k h
+unfolding count
+count-cong zero g h e = refl
+count-cong (suc k) g h e = ap₂ _+_ (count-cong k g h e) (ap digit (e k))
+
+-- the first number apart
+pub count-first : (k : ℕ) (test : ℕ → Bool) → count (suc k) test ≡ digit (test 0) + count k (λ j. test (suc j))
+unfolding count
+count-first zero test = zero-add (digit (test 0)) ∙ sym (add-zero (digit (test 0)))
+count-first (suc k) test =
+    ap (λ (c : ℕ). c + digit (test (suc k))) (count-first k test) ∙ add-assoc (digit (test 0)) (count k (λ j. test (suc j))) (digit (test (suc k)))
+
+-- what comes after k does not pass
+pub count-more : (k d : ℕ) (test : ℕ → Bool) → ((j : ℕ) → k ≤ j → test j ≡ false) → count (k + d) test ≡ count k test
+unfolding count
+count-more k zero test e = ap (λ (i : ℕ). count i test) (add-zero k)
+count-more k (suc d) test e =
+    ap (λ (i : ℕ). count i test) (add-suc k d) ∙ rw (count-more k d test e, e (k + d) (omega arith)) (add-zero (count k test))
+
+pub count-most : (k : ℕ) (test : ℕ → Bool) → count k test ≤ k
+unfolding count
+count-most zero test = omega arith
+count-most (suc k) test = omega (arith, count-most k test, digit-lt (test k))
 
 flip : (c : ℕ) → eqb ((c + 1) % 2) 1 ≡ (eqb (c % 2) 1 ⊕ true)
 flip c = go (eqb (c % 2) 1) refl

@@ -1,19 +1,20 @@
--- The laws of points: `bit` and `assign`, digit by digit, lowest first.
+-- The laws of points: `bit`, `assign` and `pointWhere`, digit by digit, lowest first. Two points with the same letters are one.
 -- Assumes nothing.
 use mathlib.Core.Path.{_≡_, refl, sym, ap, ap₂, _∙_}
 use mathlib.Core.Logic.{_≢_}
 use mathlib.Core.Bool.{Bool, true, false}
-use Prim.Native.Nat.{ℕ, zero, suc, _+_, _*_, _/_, _%_, _^_, _-_, _<_, max}
-use native.Mathlib.Nat.{div-add-mod', mod-lt, pow-suc, pow-succ', div-one, div-div-eq-div-mul, max-zero, mul-assoc, mul-add-div-right, add-comm}
+use Prim.Native.Nat.{ℕ, zero, suc, _+_, _*_, _/_, _%_, _^_, _-_, _<_, _≤_, max}
+use native.Mathlib.Nat.{div-add-mod', div-eq-of-lt, mod-lt, pow-suc, pow-succ', div-one, div-div-eq-div-mul, max-zero, mul-assoc, mul-add-div-right, add-comm}
 use native.Mathlib.Omega.{arith}
 use lib.Dec.{eqb}
-use lib.Arith.{digits-lt}
+use lib.Arith.{lt-one, digits-lt}
 use lib.Pow.{pow-pos, pow-add, shr-shr, shr-lt, high, split}
 use lib.Bits.{bitOr, or-step, or-zero-r}
 use borrow.Author.Tests.{eq-eqb, ne-eqb, eqb-true, eqb-false}
 use Rattle.ring.specs.declared.State.{State}
 use Rattle.ring.specs.declared.Choice.{Choice}
 use Rattle.ring.specs.Letters.{digit, bit, point, pointWhere, assign}
+use Rattle.ring.proofs.Bool.{digit-lt}
 use Rattle.ring.proofs.Mask.{low}
 
 pub bit-zero : (p : ℕ) → bit p 0 ≡ low p
@@ -27,9 +28,10 @@ pub bit-suc : (p j : ℕ) → bit p (suc j) ≡ bit (p / 2) j
 unfolding bit
 bit-suc p j = ap (λ (x : ℕ). eqb (x % 2) 1) (shift-suc p j)
 
-pub digit-lt : (b : Bool) → digit b < 2
-digit-lt true = omega arith
-digit-lt false = omega arith
+-- a bit above the number
+pub bit-none : (m j : ℕ) → m < 2 ^ j → bit m j ≡ false
+unfolding bit
+bit-none m j h = rw (div-eq-of-lt h)
 
 pub low-digit : (q : ℕ) (b : Bool) → low (q * 2 + digit b) ≡ b
 unfolding low
@@ -61,7 +63,7 @@ assign-mod : (p j : ℕ) (b : Bool) → assign p (suc j) b % 2 ≡ p % 2
 unfolding assign
 assign-mod p j b = mod-digit (assign (p / 2) j b) (p % 2) (mod-lt2 p)
 
--- a letter that is assign at the value that it has
+-- a letter that is assigned the value that it has
 pub assign-bit : (p j : ℕ) → assign p j (bit p j) ≡ p
 unfolding assign
 assign-bit p zero = rw (bit-zero p, digit-low p) (div-add-mod' p 2)
@@ -102,6 +104,17 @@ assign-lt zero p j b hp hj = absurd (omega arith)
 assign-lt (suc n) p zero b hp hj = omega (arith, pow-suc 2 n, digit-lt b)
 assign-lt (suc n) p (suc j) b hp hj = omega (arith, pow-suc 2 n, assign-lt n (p / 2) j b (omega (arith, pow-suc 2 n)) (omega arith))
 
+-- a letter that is 0 set to 1, and one that is 1 set to 0
+pub assign-set : (p j : ℕ) → bit p j ≡ false → assign p j true ≡ p + 2 ^ j
+unfolding assign low
+assign-set p zero h = omega (arith, eqb-false (p % 2) 1 (sym (bit-zero p) ∙ h))
+assign-set p (suc j) h = omega (arith, pow-suc 2 j, assign-set (p / 2) j (sym (bit-suc p j) ∙ h))
+
+pub assign-clear : (p j : ℕ) → bit p j ≡ true → assign p j false + 2 ^ j ≡ p
+unfolding assign low
+assign-clear p zero h = omega (arith, eqb-true (p % 2) 1 (sym (bit-zero p) ∙ h))
+assign-clear p (suc j) h = omega (arith, pow-suc 2 j, assign-clear (p / 2) j (sym (bit-suc p j) ∙ h))
+
 -- the masks that a program makes
 pub assign-true : (p j : ℕ) → assign p j true ≡ bitOr p (2 ^ j)
 unfolding assign
@@ -127,6 +140,41 @@ bit-pointWhere (suc n) b (suc j) h =
     bit-suc (pointWhere n (λ j. b (suc j)) * 2 + digit (b 0)) j
     ∙ ap (λ (x : ℕ). bit x j) (half-digit (pointWhere n (λ j. b (suc j))) (digit (b 0)) (digit-lt (b 0)))
     ∙ bit-pointWhere n (λ j. b (suc j)) j (omega arith)
+
+-- two points with the same letters are one
+pub same-letters : (n x y : ℕ) → x < 2 ^ n → y < 2 ^ n → ((i : ℕ) → i < n → bit x i ≡ bit y i) → x ≡ y
+same-letters zero x y hx hy e = lt-one hx ∙ sym (lt-one hy)
+same-letters (suc n) x y hx hy e =
+    let half : x / 2 ≡ y / 2 = same-letters n (x / 2) (y / 2) (omega (arith, pow-suc 2 n)) (omega (arith, pow-suc 2 n))
+    (λ i l. sym (bit-suc x i) ∙ e (suc i) (omega arith) ∙ bit-suc y i) in
+    let last : x % 2 ≡ y % 2 = sym (digit-low x) ∙ ap digit (sym (bit-zero x) ∙ e 0 (omega arith) ∙ bit-zero y) ∙ digit-low y in
+    omega arith
+
+-- the same of the letters from k on
+pub same-above : (k n x y : ℕ) → x < 2 ^ n → y < 2 ^ n → ((i : ℕ) → k ≤ i → i < n → bit x i ≡ bit y i) → x / 2 ^ k ≡ y / 2 ^ k
+same-above zero n x y hx hy e = ap (λ (z : ℕ). z / 1) (same-letters n x y hx hy (λ i l. e i (omega arith) l))
+same-above (suc k) zero x y hx hy e = ap (λ (z : ℕ). z / 2 ^ suc k) (lt-one hx ∙ sym (lt-one hy))
+same-above (suc k) (suc n) x y hx hy e =
+    shift-suc x k
+    ∙ same-above k n (x / 2) (y / 2) (omega (arith, pow-suc 2 n)) (omega (arith, pow-suc 2 n))
+    (λ i l m. sym (bit-suc x i) ∙ e (suc i) (omega arith) (omega arith) ∙ bit-suc y i)
+    ∙ sym (shift-suc y k)
+
+-- a state's letters, by any of its points
+pub bit-above : (u i x y : ℕ) → u ≤ i → x / 2 ^ u ≡ y / 2 ^ u → bit x i ≡ bit y i
+bit-above zero i x y h e = ap (λ (z : ℕ). bit z i) (sym (div-one x) ∙ e ∙ div-one y)
+bit-above (suc u) zero x y h e = absurd (omega arith)
+bit-above (suc u) (suc i) x y h e =
+    bit-suc x i ∙ bit-above u i (x / 2) (y / 2) (omega arith) (sym (shift-suc x u) ∙ e ∙ shift-suc y u) ∙ sym (bit-suc y i)
+
+pub pointWhere-lt : (n : ℕ) (b : ℕ → Bool) → pointWhere n b < 2 ^ n
+unfolding pointWhere
+pointWhere-lt zero b = omega arith
+pointWhere-lt (suc n) b = omega (arith, pow-suc 2 n, pointWhere-lt n (λ j. b (suc j)), digit-lt (b 0))
+
+-- a point is the point of its letters
+pub pointWhere-bits : (n q : ℕ) → q < 2 ^ n → pointWhere n (λ j. bit q j) ≡ q
+pointWhere-bits n q h = same-letters n (pointWhere n (λ j. bit q j)) q (pointWhere-lt n _) h (λ j l. bit-pointWhere n (λ j. bit q j) j l)
 
 -- a number made of a high part and U low bits: its bits below U, and from U on
 pub bit-low : (hi lo U j : ℕ) → j < U → bit (hi * 2 ^ U + lo) j ≡ bit lo j

@@ -1,16 +1,16 @@
 -- The value of a polynomial with one letter set; elimination on polynomials.
 -- Assumes nothing.
 use mathlib.Core.Path.{_≡_, refl, sym, ap, ap₂, _∙_}
-use mathlib.Core.Bool.{Bool, true, false, not, _&&_, and-false, cond}
-use Prim.Native.Nat.{ℕ, zero, suc, _+_, _*_, _/_, _%_, _^_, _<_, _≤_}
-use native.Mathlib.Nat.{pow-suc, add-mul}
+use mathlib.Core.Bool.{Bool, true, false, _&&_, and-false, cond}
+use Prim.Native.Nat.{ℕ, zero, suc, _+_, _*_, _/_, _%_, _^_, _<_}
+use native.Mathlib.Nat.{pow-suc}
 use native.Mathlib.Omega.{arith}
 use lib.Dec.{eqb}
 use Rattle.ring.specs.Letters.{digit, bit, assign}
 use Rattle.ring.specs.Polynomial.{_⊕_, value, sum, restrict}
-use Rattle.ring.proofs.Bool.{xor-false, xor-and}
+use Rattle.ring.proofs.Bool.{xor-false, digit-lt}
 use Rattle.ring.proofs.Mask.{low, even-low, even-half, odd-low, odd-half}
-use Rattle.ring.proofs.Points.{bit-zero, bit-suc, low-digit, half-digit, digit-lt}
+use Rattle.ring.proofs.Points.{bit-zero, bit-suc, low-digit, half-digit}
 use Rattle.ring.proofs.Value.{value-cong, value-none, value-sum}
 use Rattle.ring.proofs.Transform.{value-step}
 

@@ -1,8 +1,8 @@
--- The value of a substitution: the value of f at the pointWhere of the values that are assign in.
+-- The value of a substitution: the value of f at the point that the values of what is put in make.
 -- Assumes nothing.
 use mathlib.Core.Path.{_≡_, refl, sym, ap, ap₂, _∙_}
 use mathlib.Core.Bool.{Bool, true, false, not, _&&_, and-assoc, and-comm, and-true, Bool·not-not, cond}
-use Prim.Native.Nat.{ℕ, zero, suc, _+_, _*_, _-_, _/_, _^_, _<_}
+use Prim.Native.Nat.{ℕ, zero, suc, _+_, _*_, _/_, _^_, _<_}
 use native.Mathlib.Nat.{pow-suc}
 use native.Mathlib.Omega.{arith}
 use lib.Arith.{lt-one}
@@ -10,12 +10,14 @@ use lib.Pow.{pow-pos, pow-lt}
 use lib.Dec.{eqb, ltb}
 use borrow.Author.Tests.{ltb-true}
 use Rattle.ring.specs.Letters.{digit, bit, pointWhere}
-use Rattle.ring.specs.Polynomial.{Polynomial, odd, within, value, constant, letter, product, monomial, substitute}
+use Rattle.ring.specs.Polynomial.{Polynomial, everyBelow, within, value, constant, letter, monomial, substitute}
 use Rattle.ring.specs.Table.{forUnknowns}
+use Rattle.ring.proofs.Every.{every-first, every-cong}
 use Rattle.ring.proofs.Parity.{odd-cong, odd-and, odd-and-r, odd-swap, odd-at}
 use Rattle.ring.proofs.Mask.{low, within-step, even-low, even-half}
 use Rattle.ring.proofs.Value.{value-none, value-product, product-cong}
-use Rattle.ring.proofs.Points.{bit-zero, bit-suc, digit-lt, low-digit, half-digit, pointWhere-cong}
+use Rattle.ring.proofs.Points.{bit-zero, bit-suc, low-digit, half-digit, pointWhere-cong}
+use Rattle.ring.proofs.Bool.{digit-lt}
 
 within-zero : (p : ℕ) → within 0 p ≡ true
 unfolding within
@@ -43,34 +45,19 @@ pub value-letter : (n l p : ℕ) → l < n → value n (letter l) p ≡ bit p l
 unfolding letter
 value-letter n l p h = value-alone n (2 ^ l) p (pow-lt h) ∙ within-letter l p
 
--- do all the numbers below n pass?
-every : ℕ → (ℕ → Bool) → Bool
-every zero t = true
-every (suc n) t = every n t && t n
-
-every-first : (n : ℕ) (t : ℕ → Bool) → every (suc n) t ≡ (t 0 && every n (λ j. t (suc j)))
-unfolding every
-every-first zero t = sym (and-true (t 0))
-every-first (suc n) t = ap (λ (x : Bool). x && t (suc n)) (every-first n t) ∙ and-assoc (t 0) (every n (λ j. t (suc j))) (t (suc n))
-
-every-cong : (n : ℕ) (s t : ℕ → Bool) → ((j : ℕ) → s j ≡ t j) → every n s ≡ every n t
-unfolding every
-every-cong zero s t e = refl
-every-cong (suc n) s t e = ap₂ _&&_ (every-cong n s t e) (e n)
-
 -- a monomial is 1 at the point where each of its letters is
-within-point : (n i : ℕ) (b : ℕ → Bool) → i < 2 ^ n → within i (pointWhere n b) ≡ every n (λ j. not (bit i j && not (b j)))
-unfolding every pointWhere within
+within-point : (n i : ℕ) (b : ℕ → Bool) → i < 2 ^ n → within i (pointWhere n b) ≡ everyBelow n (λ j. not (bit i j && not (b j)))
+unfolding everyBelow pointWhere within
 within-point zero i b h = rw (lt-one h)
 within-point (suc n) i b h =
     within-step i (pointWhere n (λ j. b (suc j)) * 2 + digit (b 0))
     ∙ ap₂ (λ (x : Bool) (y : ℕ). not (low i && not x) && within (i / 2) y) (low-digit (pointWhere n (λ j. b (suc j))) (b 0)) (half-digit (pointWhere n (λ j. b (suc j))) (digit (b 0)) (digit-lt (b 0)))
     ∙ ap (λ (x : Bool). not (low i && not (b 0)) && x) (within-point n (i / 2) (λ j. b (suc j)) (omega (arith, pow-suc 2 n)))
-    ∙ ap₂ (λ (x y : Bool). not (x && not (b 0)) && y) (sym (bit-zero i)) (every-cong n _ _ (λ j. ap (λ (x : Bool). not (x && not (b (suc j)))) (sym (bit-suc i j))))
+    ∙ ap₂ (λ (x y : Bool). not (x && not (b 0)) && y) (sym (bit-zero i)) (every-cong n _ _ (λ j _. ap (λ (x : Bool). not (x && not (b (suc j)))) (sym (bit-suc i j))))
     ∙ sym (every-first n (λ j. not (bit i j && not (b j))))
 
-value-monomial : (k : ℕ) (τ : ℕ → ℕ → Bool) (i n q : ℕ) → value k (monomial k τ i n) q ≡ every n (λ j. not (bit i j && not (value k (τ j) q)))
-unfolding monomial every
+value-monomial : (k : ℕ) (τ : ℕ → ℕ → Bool) (i n q : ℕ) → value k (monomial k τ i n) q ≡ everyBelow n (λ j. not (bit i j && not (value k (τ j) q)))
+unfolding monomial everyBelow
 value-monomial k τ i zero q = value-constant k true q
 value-monomial k τ i (suc n) q =
     value-product k (monomial k τ i n) (cond (bit i n) (τ n) (constant true)) q ∙ ap₂ _&&_ (value-monomial k τ i n q) (go (bit i n))

@@ -1,21 +1,23 @@
--- Tables of bytes: two with the same values are one, and every function on the points has a table.
+-- Tables of bytes: two with the same values are one, and every function on the points has a table. Then answer tables, U tables one after another.
 -- Assumes nothing.
-use mathlib.Core.Path.{_≡_, refl, sym, ap, ap₂, subst, _∙_}
+use mathlib.Core.Path.{_≡_, refl, sym, ap, ap₂, _∙_}
 use mathlib.Core.Bool.{Bool, true, false}
-use mathlib.Core.List.{List, [], _∷_}
-use Prim.Native.Nat.{ℕ, zero, suc, _+_, _*_, _^_, _<_}
+use mathlib.Core.List.{List, [], _∷_, _++_}
+use Prim.Native.Nat.{ℕ, zero, suc, _+_, _*_, _/_, _%_, _^_, _<_}
+use native.Mathlib.Nat.{suc-mul, zero-mul}
 use native.Mathlib.Omega.{arith}
 use lib.Dec.{eqb}
 use lib.Arith.{digits-lt}
 use lib.Pow.{high, low}
 use lib.ListN.{length, getD, take}
 use lib.Seq.{ext-getD, getD-take}
-use borrow.Author.Tests.{eqb-true, eqb-false, eq-eqb, ne-eqb}
+use borrow.Author.Tests.{eqb-true, eqb-false}
 use Rattle.ring.specs.Letters.{digit}
 use Rattle.ring.specs.Polynomial.{Polynomial, value}
-use Rattle.ring.specs.Table.{present, IsTable, tabulate, table, values, held, answerTable}
+use Rattle.ring.specs.Table.{present, AreBits, IsTable, tabulate, table, values, held, answerTable}
+use Rattle.ring.proofs.Lists.{tabulate-listed, listed-add}
 use Rattle.ring.proofs.Value.{value-cong, involution, same-values}
-use Rattle.ring.proofs.Points.{digit-lt}
+use Rattle.ring.proofs.Bool.{digit-lt, bit-digit}
 
 pub length-tabulate : (k : ℕ) (h : ℕ → Bool) → length (tabulate k h) ≡ k
 unfolding tabulate
@@ -40,13 +42,13 @@ tabulate-cong zero g h e = refl
 tabulate-cong (suc k) g h e =
     ap₂ (λ (b : Bool) (l : List ℕ). digit b ∷ l) (e 0 (omega arith)) (tabulate-cong k (λ i. g (suc i)) (λ i. h (suc i)) (λ i l. e (suc i) (omega arith)))
 
+tabulate-add : (j k : ℕ) (h : ℕ → Bool) → tabulate (j + k) h ≡ tabulate j h ++ tabulate k (λ i. h (j + i))
+tabulate-add j k h =
+    tabulate-listed (j + k) h ∙ listed-add j k (λ i. digit (h i)) ∙ sym (ap₂ _++_ (tabulate-listed j h) (tabulate-listed k (λ i. h (j + i))))
+
 pub present-tabulate : (k : ℕ) (h : ℕ → Bool) (i : ℕ) → i < k → present (tabulate k h) i ≡ h i
 unfolding present
-present-tabulate k h i l = ap (λ (x : ℕ). eqb x 1) (getD-tabulate k h i l) ∙ go (h i)
-  where
-    go : (b : Bool) → eqb (digit b) 1 ≡ b
-    go true = refl
-    go false = refl
+present-tabulate k h i l = ap (λ (x : ℕ). eqb x 1) (getD-tabulate k h i l) ∙ bit-digit (h i)
 
 pub is-table : (n : ℕ) (h : ℕ → Bool) → IsTable n (tabulate (2 ^ n) h)
 is-table n h = record { size = length-tabulate (2 ^ n) h; bits = bits-tabulate (2 ^ n) h }
@@ -116,6 +118,51 @@ pub length-answerTable : (count n : ℕ) (a : ℕ → Polynomial) → length (an
 unfolding answerTable
 length-answerTable count n a = length-tabulate (count * 2 ^ n) _
 
+-- 'U such tables one after another, unknown 0 first'
+pub answerTable-none : (n : ℕ) (a : ℕ → Polynomial) → answerTable 0 n a ≡ []
+unfolding answerTable tabulate
+answerTable-none n a = ap (λ (k : ℕ). tabulate k (λ i. a (i / 2 ^ n) (i % 2 ^ n))) (zero-mul (2 ^ n))
+
+pub answerTable-last : (U n : ℕ) (a : ℕ → Polynomial) → answerTable (suc U) n a ≡ answerTable U n a ++ table n (a U)
+unfolding answerTable table
+answerTable-last U n a =
+    ap (λ (k : ℕ). tabulate k (λ i. a (i / 2 ^ n) (i % 2 ^ n))) (suc-mul U (2 ^ n))
+    ∙ tabulate-add (U * 2 ^ n) (2 ^ n) (λ i. a (i / 2 ^ n) (i % 2 ^ n))
+    ∙ ap (λ (l : List ℕ). tabulate (U * 2 ^ n) (λ i. a (i / 2 ^ n) (i % 2 ^ n)) ++ l) (tabulate-cong (2 ^ n) _ _ (λ m l. ap₂ a (high U n l) (low U n l)))
+
+pub answerTable-cong : (U n : ℕ) (a b : ℕ → Polynomial) → ((j m : ℕ) → j < U → m < 2 ^ n → a j m ≡ b j m) → answerTable U n a ≡ answerTable U n b
+answerTable-cong zero n a b e = answerTable-none n a ∙ sym (answerTable-none n b)
+answerTable-cong (suc U) n a b e =
+    answerTable-last U n a
+    ∙ ap₂ _++_ (answerTable-cong U n a b (λ j m l h. e j m (omega arith) h)) (table-cong n (a U) (b U) (λ m l. e U m (omega arith) l))
+    ∙ sym (answerTable-last U n b)
+
 pub value-present-values : (n : ℕ) (t : List ℕ) (p : ℕ) → p < 2 ^ n → present (values n t) p ≡ value n (present t) p
 unfolding values
 value-present-values n t p l = present-tabulate (2 ^ n) _ p l
+
+-- back to the polynomials that have these values
+pub values-back : (u n : ℕ) (a : ℕ → Polynomial) (h : ℕ → ℕ → Bool) → ((j p : ℕ) → j < u → p < 2 ^ n → h j p ≡ value n (a j) p)
+    → answerTable u n (λ j. value n (h j)) ≡ answerTable u n a
+values-back u n a h e = answerTable-cong u n _ _ (λ j m hj hm. value-cong n _ _ m (λ p hp. e j p hj hp) ∙ involution n (a j) m hm)
+
+-- ---- a list that is known to be a table, or an answer table
+pub same-is-table : (n : ℕ) (s t : List ℕ) → s ≡ t → IsTable n t → IsTable n s
+same-is-table n s t e h = rw e h
+
+pub values-is-table : (n : ℕ) (s t : List ℕ) → s ≡ values n t → IsTable n s
+unfolding values
+values-is-table n s t e = rw e (is-table n _)
+
+pub tabulate-is-table : (n k : ℕ) (h : ℕ → Bool) (s : List ℕ) → s ≡ tabulate k h → k ≡ 2 ^ n → IsTable n s
+tabulate-is-table n k h s e ek = rw (e, ek) (is-table n h)
+
+pub same-bits : (s t : List ℕ) → s ≡ t → AreBits t → AreBits s
+same-bits s t e h = rw e h
+
+pub answers-length : (count n : ℕ) (a : ℕ → Polynomial) (s : List ℕ) → s ≡ answerTable count n a → length s ≡ count * 2 ^ n
+answers-length count n a s e = ap length e ∙ length-answerTable count n a
+
+pub answers-bits : (count n : ℕ) (a : ℕ → Polynomial) (s : List ℕ) → s ≡ answerTable count n a → AreBits s
+unfolding answerTable
+answers-bits count n a s e = rw e (bits-tabulate (count * 2 ^ n) _)

@@ -1,8 +1,8 @@
 -- The fast values: the values of a polynomial from those of its two halves, by the lowest letter.
 -- Assumes nothing.
-use mathlib.Core.Path.{_≡_, refl, sym, ap, ap₂, _∙_}
-use mathlib.Core.Bool.{Bool, true, false, not, _&&_, and-true, and-false, and-assoc, Bool·not-not}
-use Prim.Native.Nat.{ℕ, zero, suc, _+_, _*_, _/_, _%_, _^_, _-_, _<_}
+use mathlib.Core.Path.{_≡_, sym, ap, ap₂, _∙_}
+use mathlib.Core.Bool.{Bool, true, false, not, _&&_, and-true, Bool·not-not}
+use Prim.Native.Nat.{ℕ, suc, _+_, _*_, _/_, _%_, _^_, _-_, _<_}
 use native.Mathlib.Nat.{pow-suc, pow-succ', mul-assoc, add-mul, zero-mul, one-mul, zero-add, sub-self, sub-zero, mod-eq-of-lt, div-one, mod-lt}
 use native.Mathlib.Omega.{arith}
 use lib.Arith.{mod-mul}

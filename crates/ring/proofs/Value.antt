@@ -1,12 +1,12 @@
 -- The value of a sum and of a product; the values of the values are the coefficients.
 -- Assumes nothing.
 use mathlib.Core.Path.{_≡_, refl, sym, ap, ap₂, _∙_}
-use mathlib.Core.Bool.{Bool, true, false, not, _&&_, and-assoc, and-comm}
-use Prim.Native.Nat.{ℕ, zero, suc, _^_, _<_}
+use mathlib.Core.Bool.{Bool, false, _&&_, and-assoc}
+use Prim.Native.Nat.{ℕ, _^_, _<_}
 use lib.Dec.{eqb}
 use lib.Bits.{bitOr, or-lt}
 use Rattle.ring.specs.Polynomial.{Polynomial, _⊕_, odd, within, value, sum, product}
-use Rattle.ring.proofs.Bool.{xor-and, ac, and-left-comm}
+use Rattle.ring.proofs.Bool.{xor-and, ac}
 use Rattle.ring.proofs.Parity.{odd-cong, odd-none, odd-xor, odd-and, odd-and-r, odd-swap, odd-at}
 use Rattle.ring.proofs.Mask.{eqb-iff, within-or, between}
 

@@ -1,3 +1,4 @@
 pub mod Letters
 pub mod Polynomial
+pub mod Lists
 pub mod Table

@@ -22,6 +22,11 @@ unfoldable pub count : ℕ → (ℕ → Bool) → ℕ
 count zero test = 0
 count (suc k) test = count k test + digit (test k)
 
+-- do all the numbers below k pass the test?
+unfoldable pub everyBelow : ℕ → (ℕ → Bool) → Bool
+everyBelow zero test = true
+everyBelow (suc k) test = everyBelow k test && test k
+
 -- is the number of those that pass odd?
 unfoldable pub odd : ℕ → (ℕ → Bool) → Bool
 odd k test = eqb (count k test % 2) 1

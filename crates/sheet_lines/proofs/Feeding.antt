@@ -11,10 +11,10 @@ use native.Mathlib.Omega.{arith}
 use lib.ListN.{length, getD, take, drop, set, length-append, length-set}
 use lib.Seq.{take-suc, take-all, take-suc-set, take-append-le, length-take-le}
 use borrow.Author.Tests.{eq-eqb, ne-eqb}
+use Rattle.ring.proofs.Bool.{bool-cases}
 use Rattle.tables.specs.Put.{Put}
 use Rattle.tables.proofs.Put.{put-none, put-both, put-same}
 use Rattle.tables.proofs.Slices.{rest-of}
-use Rattle.order.proofs.Lists.{bool-cases}
 use Rattle.printing.specs.Print.{unreadableLine}
 use Rattle.sheet_lines.specs.declared.Line.{Line}
 use Rattle.sheet_lines.specs.declared.Line.the-variants.{Readable, Unreadable}

@@ -11,7 +11,7 @@ use lib.Dec.{eqb, leb}
 use lib.ListN.{length, getD, take, drop, length-drop, drop-of-length-le, List·getD-eq-default}
 use lib.Seq.{drop-cons, getD-drop}
 use borrow.Author.Tests.{le-leb, lt-leb, eq-eqb, ne-eqb, leb-true, eqb-true}
-use Rattle.tables.proofs.Bits.{both-left, both-right}
+use Rattle.ring.proofs.Bool.{and-left, and-right}
 use Rattle.tables.proofs.Questions.{failed, passed}
 use Rattle.tables.proofs.Slices.{rest-of}
 use Rattle.grammar.specs.Symbols.{space}
@@ -103,7 +103,7 @@ module _ (s : List ℕ) where
 -- they take five bytes
 pub letters-length : (s : List ℕ) → hasLetters s ≡ true → 5 ≤ length s
 unfolding hasLetters
-letters-length s h = go s (eqb-true _ _ (both-right (isDigit (getD s 3 0)) _ (both-right (eqb (getD s 2 0) space) _ (both-right (isDigit (getD s 1 0)) _ (both-right (eqb (getD s 0 0) space) _ h)))))
+letters-length s h = go s (eqb-true _ _ (and-right (isDigit (getD s 3 0)) _ (and-right (eqb (getD s 2 0) space) _ (and-right (isDigit (getD s 1 0)) _ (and-right (eqb (getD s 0 0) space) _ h)))))
   where
     go : (s : List ℕ) → getD s 4 0 ≡ 32 → 5 ≤ length s
     go [] e = absurd (omega arith)
@@ -143,12 +143,12 @@ module _ (line : List ℕ) where
   readable-fits e t f =
       rw f
       (let h : isReadable line ≡ true = passed e t in
-      let behind = both-right (leb (length line) 300) _ h in
-      let further = both-right (leb 1 (digitsAhead line)) _ behind in
-      let letters = letters-length (drop (digitsAhead line) line) (both-right (leb (digitsAhead line) 3) _ further) in
+      let behind = and-right (leb (length line) 300) _ h in
+      let further = and-right (leb 1 (digitsAhead line)) _ behind in
+      let letters = letters-length (drop (digitsAhead line) line) (and-right (leb (digitsAhead line) 3) _ further) in
       record {
-        some = leb-true _ _ (both-left (leb 1 (digitsAhead line)) _ behind);
-        few = leb-true _ _ (both-left (leb (digitsAhead line) 3) _ further);
+        some = leb-true _ _ (and-left (leb 1 (digitsAhead line)) _ behind);
+        few = leb-true _ _ (and-left (leb (digitsAhead line) 3) _ further);
         room = omega (arith, letters, length-drop (digitsAhead line) line);
       })
 

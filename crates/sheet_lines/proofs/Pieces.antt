@@ -13,7 +13,7 @@ use lib.Dec.{eqb}
 use lib.ListN.{length, take, length-append, length-take}
 use lib.Seq.{take-all}
 use borrow.Author.Tests.{lt-leb, ne-eqb}
-use Rattle.order.proofs.Lists.{bool-cases}
+use Rattle.ring.proofs.Bool.{bool-cases}
 use Rattle.printing.specs.Print.{lineFeed}
 use Rattle.sheet_lines.specs.declared.Line.the-variants.{Unreadable}
 use Rattle.sheet_lines.specs.Fields.{isReadable, readLine}

@@ -15,9 +15,10 @@ use Rattle.tables.specs.declared.Outcome.{Outcome}
 use Rattle.tables.specs.declared.Outcome.the-variants.{Done, Refused}
 use Rattle.tables.specs.Put.{Put}
 use Rattle.tables.specs.Questions.{firstNo, lettersFit, hasRoom}
-use Rattle.tables.specs.Reply.{accepted, refused, reply, after, outcome}
+use Rattle.tables.specs.Reply.{accepted, reply, after, outcome}
 use Rattle.tables.proofs.FirstNo.{yes-to}
 use Rattle.tables.proofs.Questions.{failed, letters-small}
+use Rattle.tables.proofs.Reply.{accepted-is, refused-is}
 use Rattle.grammar.specs.Symbols.{allSigns, allDeclared}
 use Rattle.grammar.specs.Reader.{grammarReads}
 use Rattle.grammar.specs.Text.{textTable}
@@ -28,17 +29,6 @@ use Rattle.entry.specs.Questions.{routeFits}
 use Rattle.printing.specs.Print.{recordLines, refusedLine}
 use Rattle.sheet_lines.specs.Sheet.{lineQuestions, lineRefusal, answerLines, routeBehind}
 use Rattle.sheet_lines.specs.Work.{Answers}
-
--- ---- what a reply tells
-accepted-zero : (x : ℕ) → accepted [] ≡ reply x [] → x ≡ 0
-unfolding reply
-accepted-zero zero e = refl
-accepted-zero (suc x) e = let z : _≡_ {A = ℕ} 0 1 = cc in absurd (omega arith)
-
-refused-number : (x : ℕ) {q : ℕ} → refused q [] ≡ reply x [] → (x ≡ q) × (q ≡ 0 → ⊥)
-unfolding reply
-refused-number zero e = let z : _≡_ {A = ℕ} 0 1 = cc in absurd (omega arith)
-refused-number (suc x) {q} e = let s : suc x ≡ q = cc in (s, λ z. omega arith)
 
 -- ---- the first no of a line
 module _ (last route U G : ℕ) (text : List ℕ) where
@@ -60,9 +50,10 @@ module _ (last route U G : ℕ) (text : List ℕ) where
       pub refused-text : (r : Outcome) {q : ℕ} → r ≡ Refused q → outcome r ≡ reply (textRefusal U G text room) [] → (q ≡ lineRefusal last route U G text) × (q ≡ 0 → ⊥)
       unfolding lineRefusal lineQuestions textRefusal textQuestions firstNo
       refused-text r {q} er e =
-          let n = refused-number (textRefusal U G text room) (sym (ap outcome er) ∙ e) in
+          let n = refused-is (textRefusal U G text room) [] (sym (ap outcome er) ∙ e) in
+          let some : (q ≡ 0 → ⊥) = λ z. n .1 (n .0 ∙ z) in
           let t = rw (l, enough) at (n .0) in
-          (rw (l, f) (go (hasTextLength text) (allSigns text) (allDeclared U G text) (grammarReads text) (ltb last route) t (n .1)), n .1)
+          (rw (l, f) (go (hasTextLength text) (allSigns text) (allDeclared U G text) (grammarReads text) (ltb last route) t some), some)
         where
           go : (a b c d e : Bool) {q : ℕ} → cond a (cond b (cond c (cond d 0 7) 6) 5) 3 ≡ q → (q ≡ 0 → ⊥) → q ≡ cond a (cond b (cond c (cond d (cond e 0 15) 7) 6) 5) 3
           go true true true true e p n = absurd (n (sym p))
@@ -73,7 +64,7 @@ module _ (last route U G : ℕ) (text : List ℕ) where
 
       module _ (r : Outcome) (er : r ≡ Done) (e : outcome r ≡ reply (textRefusal U G text room) []) where
         text-passes : textRefusal U G text room ≡ 0
-        text-passes = accepted-zero (textRefusal U G text room) (sym (ap outcome er) ∙ e)
+        text-passes = accepted-is (textRefusal U G text room) [] (sym (ap outcome er) ∙ e) .0
 
         pub refused-rising : route ≤ last → 15 ≡ lineRefusal last route U G text
         unfolding lineRefusal lineQuestions firstNo

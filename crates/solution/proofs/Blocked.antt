@@ -11,18 +11,19 @@ use lib.Pow.{pow-pos, split, high, shl-shr, shl-lt, shr-lt}
 use borrow.Author.Tests.{ltb-false, le-ltb, not-true, not-false}
 use Rattle.ring.specs.declared.State.{State}
 use Rattle.ring.specs.Letters.{point, pointWhere}
-use Rattle.ring.specs.Polynomial.{Polynomial, value}
-use Rattle.ring.proofs.Points.{bit-pointWhere, point-lt}
+use Rattle.ring.specs.Polynomial.{Polynomial, value, everyBelow}
+use Rattle.ring.specs.Lists.{has}
+use Rattle.ring.proofs.Points.{bit-pointWhere, point-lt, pointWhere-lt, same-above, bit-above}
 use Rattle.ring.proofs.Value.{value-cong, value-none, same-values}
+use Rattle.ring.proofs.Every.{every-all, every-of, every-not}
 use Rattle.solution.specs.Letters.{Letter, HoldsGivens, Valuation}
 use Rattle.solution.specs.Substitution.{Substitution, MakesZero}
-use Rattle.solution.specs.Elimination.{remains, isIn, IsOrder, everyBelow, blocked, smallestBlocked, isZero, solvable}
+use Rattle.solution.specs.Elimination.{remains, IsOrder, blocked, smallestBlocked, isZero, solvable}
 use Rattle.solution.specs.General.{Blocked, SmallestBlocked}
-use Rattle.solution.proofs.Scan.{every-all, every-of, every-not, smallest-is}
-use Rattle.solution.proofs.Points.{pointWhere-lt, same-above, bit-above}
 use Rattle.solution.proofs.Elimination.{remains-none, remains-outside, answeredThrough, solves, answered-lt, answered-kept}
 use Rattle.solution.proofs.Letters.{replacedValue, value-putIn, valuation, valuation-letter}
 use Rattle.solution.proofs.General.{in-order, remains-values}
+use Rattle.solution.proofs.Smallest.{smallest-is}
 
 -- a polynomial without monomials has the value 0 everywhere, and no other has
 pub zero-values : (n : ℕ) (g : Polynomial) (p : ℕ) → isZero n g ≡ true → value n g p ≡ false
@@ -81,7 +82,7 @@ module _ (U G : ℕ) (f : Polynomial) where
           (λ i l m. bit-pointWhere (U + G) (replacedValue U L σ v) i m ∙ rw (le-ltb i U l) (valuation-letter U (s * 2 ^ U) i)) ∙ shl-shr s U
 
   module _ (order : List ℕ) (is : IsOrder U order) where
-    within-letters : (x : ℕ) → isIn order x ≡ true → x < U + G
+    within-letters : (x : ℕ) → has x order ≡ true → x < U + G
     within-letters = in-order U G f order is
 
     -- what remains has the value 1 in the blocked states, and in no other

@@ -5,7 +5,7 @@ use mathlib.Core.Path.{_≡_, refl, sym, ap, ap₂, _∙_}
 use mathlib.Core.Logic.{_≢_}
 use mathlib.Core.Bool.{Bool, true, false, not, _&&_, cond}
 use mathlib.Core.List.{List, [], _∷_, _++_}
-use Prim.Native.Nat.{ℕ, zero, suc, _+_, _*_, _-_, _/_, _%_, _^_, _<_, _≤_}
+use Prim.Native.Nat.{ℕ, zero, suc, _+_, _*_, _/_, _%_, _^_, _<_, _≤_}
 use native.Mathlib.Nat.{add-zero, mul-one, div-one, zero-div, zero-mul, suc-mul}
 use native.Mathlib.Omega.{arith}
 use lib.Dec.{ltb}
@@ -16,29 +16,24 @@ use Rattle.ring.specs.declared.State.{State}
 use Rattle.ring.specs.Letters.{digit, bit, assign}
 use Rattle.ring.specs.Polynomial.{Polynomial, _⊕_, value, constant, substitute}
 use Rattle.ring.specs.Table.{present, values, answerTable, forUnknowns}
+use Rattle.ring.specs.Lists.{listed, has}
 use Rattle.ring.proofs.Bool.{xor-false}
-use Rattle.ring.proofs.Points.{bit-low, bit-assign-other, assign-lt, assign-above, pointWhere-cong}
+use Rattle.ring.proofs.Lists.{listed-last}
+use Rattle.ring.proofs.Points.{bit-low, bit-assign-other, assign-lt, assign-above, pointWhere-cong, pointWhere-bits, bit-above}
 use Rattle.ring.proofs.Value.{same-values}
 use Rattle.ring.proofs.Substitute.{value-constant, value-forUnknowns}
-use Rattle.ring.proofs.Table.{length-tabulate, tabulate-cong, table-by-values}
-use Rattle.solution.specs.Substitution.{Substitution, listed, ownLetters, putIn}
-use Rattle.solution.specs.Elimination.{remains, booleAnswers, particular, lowenheim, ownLowenheim, defaultOrder, isIn, smallestBelow, blocked, smallestBlocked, solvable, Verdict, solved, none, solve}
+use Rattle.ring.proofs.Table.{length-tabulate, tabulate-cong, table-by-values, answerTable-none, answerTable-last}
+use Rattle.solution.specs.Substitution.{Substitution, ownLetters, putIn}
+use Rattle.solution.specs.Elimination.{remains, booleAnswers, particular, lowenheim, ownLowenheim, defaultOrder, smallestBelow, blocked, smallestBlocked, solvable, Verdict, solved, none, solve}
 use Rattle.solution.specs.ByPoints.{chosenValue, remainsAt, remainsRow, answeredPoint, firstBlocked, zeroChoice, particularPoint, lowenheimPoint, tableByValues}
-use Rattle.solution.proofs.Points.{pointWhere-bits, bit-above}
 use Rattle.solution.proofs.Elimination.{bothCases, remainsThrough, chosenPoint, answeredThrough, out-head, out-tail}
 use Rattle.solution.proofs.Values.{value-remains, value-answers, value-lowenheim}
 use Rattle.solution.proofs.General.{led, value-putIn-own}
-use Rattle.solution.proofs.Scan.{smallest-is, smallest-none, smallest-cong}
 use Rattle.solution.proofs.Blocked.{zero-values, blocked-remains, remains-blocked, is-blocked}
 use Rattle.solution.proofs.Orders.{default-order}
-use Rattle.solution.proofs.AnswerTable.{answerTable-none, answerTable-last}
+use Rattle.solution.proofs.Smallest.{smallest-is, smallest-none, smallest-cong}
 
 -- the order with one unknown more has it at the end
-listed-last : (k : ℕ) (h : ℕ → ℕ) → listed (suc k) h ≡ listed k h ++ (h k ∷ [])
-unfolding listed
-listed-last zero h = refl
-listed-last (suc k) h = ap (λ (l : List ℕ). h 0 ∷ l) (listed-last k (λ i. h (suc i)))
-
 default-last : (u : ℕ) → defaultOrder (suc u) ≡ defaultOrder u ++ (u ∷ [])
 unfolding defaultOrder
 default-last u = listed-last u (λ j. j)
@@ -59,7 +54,7 @@ unfolding chosenPoint
 chosen-other f x b q j h = bit-assign-other q j x _ h
 
 -- an unknown at the end of the order is answered first
-answered-append : (f : ℕ → Bool) (order : List ℕ) (x p : ℕ) → isIn order x ≡ false
+answered-append : (f : ℕ → Bool) (order : List ℕ) (x p : ℕ) → has x order ≡ false
     → answeredThrough f (order ++ (x ∷ [])) p ≡ answeredThrough f order (chosenPoint (remainsThrough f order) x (bit p x) p)
 unfolding answeredThrough remainsThrough
 answered-append f [] x p h = refl
@@ -116,7 +111,7 @@ row-next f u row = ap₂ _&&_ (side true) (side false ∙ ap (λ (x : ℕ). rema
 pub row-case : (f : ℕ → Bool) (u p : ℕ) (b : Bool) → remainsAt f u (assign p u b) ≡ remainsRow f u (p / 2 ^ suc u * 2 + digit b)
 row-case f u p b = remains-row f u (assign p u b) ∙ ap (remainsRow f u) (assign-above p u b)
 
-in-default : (U n : ℕ) → U ≤ n → (x : ℕ) → isIn (defaultOrder U) x ≡ true → x < n
+in-default : (U n : ℕ) → U ≤ n → (x : ℕ) → has x (defaultOrder U) ≡ true → x < n
 in-default U n h x e = omega (arith, ltb-true x U (sym (default-order U x) ∙ e))
 
 -- the value of what remains

@@ -4,17 +4,17 @@
 -- Assumes nothing.
 use mathlib.Core.Path.{_≡_, refl, sym, ap, ap₂, _∙_}
 use mathlib.Core.Logic.{_≢_}
-use mathlib.Core.Bool.{Bool, true, false, _&&_, _||_, and-false, or-true, or-false, true≢false}
+use mathlib.Core.Bool.{Bool, true, false, _&&_, _||_, and-false, or-false, true≢false}
 use mathlib.Core.List.{List, [], _∷_}
 use Prim.Native.Nat.{ℕ, _^_, _<_}
 use lib.Dec.{eqb}
-use borrow.Author.Tests.{eqb-true, eqb-false, eq-eqb}
+use borrow.Author.Tests.{eqb-true, eqb-false}
 use Rattle.ring.specs.Letters.{bit, assign}
 use Rattle.ring.specs.Polynomial.{_⊕_}
-use Rattle.ring.proofs.Points.{assign-bit, bit-assign, bit-assign-other, assign-lt}
-use Rattle.solution.specs.Elimination.{isIn}
+use Rattle.ring.specs.Lists.{has}
+use Rattle.ring.proofs.Lists.{has-first, has-rest}
+use Rattle.ring.proofs.Points.{assign-bit, bit-assign, bit-assign-other, assign-lt, same-letters}
 use Rattle.solution.specs.ByPoints.{chosenValue}
-use Rattle.solution.proofs.Points.{same-letters}
 
 -- where not both cases give 1, the chosen value gives 0
 pub chosen-solves : (e : Bool → Bool) (x : Bool) → (e true && e false) ≡ false → e (chosenValue (e true) (e false) x) ≡ false
@@ -87,33 +87,25 @@ reproduces f (x ∷ order) p h =
     ∙ ap (assign p x) (solution-kept (λ b. f (assign p x b)) (bit p x) (ap f (assign-bit p x) ∙ h))
     ∙ assign-bit p x
 
--- the letters of an order, and those outside
-pub in-head : (x : ℕ) (order : List ℕ) → isIn (x ∷ order) x ≡ true
-unfolding isIn
-in-head x order = rw (eq-eqb x x refl)
+-- the letters outside an order
+pub out-head : (x : ℕ) (order : List ℕ) (y : ℕ) → has y (x ∷ order) ≡ false → y ≢ x
+out-head x order y h e = true≢false (sym (has-first x order) ∙ ap (λ (z : ℕ). has z (x ∷ order)) (sym e) ∙ h)
 
-pub in-tail : (x : ℕ) (order : List ℕ) (y : ℕ) → isIn order y ≡ true → isIn (x ∷ order) y ≡ true
-unfolding isIn
-in-tail x order y e = rw e (or-true (eqb x y))
-
-pub out-head : (x : ℕ) (order : List ℕ) (y : ℕ) → isIn (x ∷ order) y ≡ false → y ≢ x
-out-head x order y h e = true≢false (sym (in-head x order) ∙ ap (isIn (x ∷ order)) (sym e) ∙ h)
-
-pub out-tail : (x : ℕ) (order : List ℕ) (y : ℕ) → isIn (x ∷ order) y ≡ false → isIn order y ≡ false
-out-tail x order y h = go (isIn order y) refl
+pub out-tail : (x : ℕ) (order : List ℕ) (y : ℕ) → has y (x ∷ order) ≡ false → has y order ≡ false
+out-tail x order y h = go (has y order) refl
   where
-    go : (b : Bool) → isIn order y ≡ b → b ≡ false
-    go true e = sym (in-tail x order y e) ∙ h
+    go : (b : Bool) → has y order ≡ b → b ≡ false
+    go true e = sym (has-rest y x order e) ∙ h
     go false e = refl
 
-pub answered-lt : (n : ℕ) (f : ℕ → Bool) (order : List ℕ) (p : ℕ) → ((x : ℕ) → isIn order x ≡ true → x < n) → p < 2 ^ n → answeredThrough f order p < 2 ^ n
+pub answered-lt : (n : ℕ) (f : ℕ → Bool) (order : List ℕ) (p : ℕ) → ((x : ℕ) → has x order ≡ true → x < n) → p < 2 ^ n → answeredThrough f order p < 2 ^ n
 unfolding answeredThrough chosenPoint
 answered-lt n f [] p b h = h
 answered-lt n f (x ∷ order) p b h =
-    assign-lt n (answeredThrough (bothCases f x) order p) x _ (answered-lt n (bothCases f x) order p (λ y e. b y (in-tail x order y e)) h) (b x (in-head x order))
+    assign-lt n (answeredThrough (bothCases f x) order p) x _ (answered-lt n (bothCases f x) order p (λ y e. b y (has-rest y x order e)) h) (b x (has-first x order))
 
 -- a letter that is not in the order is kept
-pub answered-kept : (f : ℕ → Bool) (order : List ℕ) (p j : ℕ) → isIn order j ≡ false → bit (answeredThrough f order p) j ≡ bit p j
+pub answered-kept : (f : ℕ → Bool) (order : List ℕ) (p j : ℕ) → has j order ≡ false → bit (answeredThrough f order p) j ≡ bit p j
 unfolding answeredThrough chosenPoint
 answered-kept f [] p j h = refl
 answered-kept f (x ∷ order) p j h =
@@ -123,26 +115,26 @@ answered-kept f (x ∷ order) p j h =
 abbrev Ignores : ℕ → (ℕ → Bool) → (ℕ → Bool) → Type 0
 Ignores n f D = (p q : ℕ) → p < 2 ^ n → q < 2 ^ n → ((j : ℕ) → j < n → D j ≡ false → bit p j ≡ bit q j) → f p ≡ f q
 
-cases-ignore : (n : ℕ) (f D : ℕ → Bool) (x : ℕ) → x < n → Ignores n f D → Ignores n (bothCases f x) (λ j. eqb x j || D j)
+cases-ignore : (n : ℕ) (f D : ℕ → Bool) (x : ℕ) → x < n → Ignores n f D → Ignores n (bothCases f x) (λ j. eqb j x || D j)
 unfolding bothCases
 cases-ignore n f D x hx ignores p q hp hq e = ap₂ _&&_ (side true) (side false)
   where
-    agree : (b : Bool) (j : ℕ) → j < n → D j ≡ false → (t : Bool) → eqb x j ≡ t → bit (assign p x b) j ≡ bit (assign q x b) j
-    agree b j l d true k = rw (← eqb-true x j k) (bit-assign p x b ∙ sym (bit-assign q x b))
+    agree : (b : Bool) (j : ℕ) → j < n → D j ≡ false → (t : Bool) → eqb j x ≡ t → bit (assign p x b) j ≡ bit (assign q x b) j
+    agree b j l d true k = rw (eqb-true j x k) (bit-assign p x b ∙ sym (bit-assign q x b))
     agree b j l d false k =
-        let other : j ≢ x = λ w. eqb-false x j k (sym w) in
+        let other : j ≢ x = eqb-false j x k in
         bit-assign-other p j x b other ∙ e j l (rw (k, d)) ∙ sym (bit-assign-other q j x b other)
 
     side : (b : Bool) → f (assign p x b) ≡ f (assign q x b)
-    side b = ignores (assign p x b) (assign q x b) (assign-lt n p x b hp hx) (assign-lt n q x b hq hx) (λ j l d. agree b j l d (eqb x j) refl)
+    side b = ignores (assign p x b) (assign q x b) (assign-lt n p x b hp hx) (assign-lt n q x b hq hx) (λ j l d. agree b j l d (eqb j x) refl)
 
-remains-ignore : (n : ℕ) (f D : ℕ → Bool) (order : List ℕ) → ((x : ℕ) → isIn order x ≡ true → x < n) → Ignores n f D
-    → Ignores n (remainsThrough f order) (λ j. isIn order j || D j)
-unfolding remainsThrough isIn
+remains-ignore : (n : ℕ) (f D : ℕ → Bool) (order : List ℕ) → ((x : ℕ) → has x order ≡ true → x < n) → Ignores n f D
+    → Ignores n (remainsThrough f order) (λ j. has j order || D j)
+unfolding remainsThrough has
 remains-ignore n f D [] b ignores p q hp hq e = ignores p q hp hq e
 remains-ignore n f D (x ∷ order) b ignores p q hp hq e =
-    remains-ignore n (bothCases f x) (λ j. eqb x j || D j) order (λ y k. b y (in-tail x order y k)) (cases-ignore n f D x (b x (in-head x order)) ignores) p q hp hq
-    (λ j l d. e j l (shuffle (eqb x j) (isIn order j) (D j) ∙ d))
+    remains-ignore n (bothCases f x) (λ j. eqb j x || D j) order (λ y k. b y (has-rest y x order k)) (cases-ignore n f D x (b x (has-first x order)) ignores) p q hp hq
+    (λ j l d. e j l (shuffle (eqb j x) (has j order) (D j) ∙ d))
   where
     shuffle : (a b c : Bool) → ((a || b) || c) ≡ (b || (a || c))
     shuffle true true c = refl
@@ -150,8 +142,8 @@ remains-ignore n f D (x ∷ order) b ignores p q hp hq e =
     shuffle false b c = refl
 
 -- what remains is the same at two points that agree outside the order
-pub remains-outside : (n : ℕ) (f : ℕ → Bool) (order : List ℕ) → ((x : ℕ) → isIn order x ≡ true → x < n)
-    → (p q : ℕ) → p < 2 ^ n → q < 2 ^ n → ((j : ℕ) → j < n → isIn order j ≡ false → bit p j ≡ bit q j) → remainsThrough f order p ≡ remainsThrough f order q
+pub remains-outside : (n : ℕ) (f : ℕ → Bool) (order : List ℕ) → ((x : ℕ) → has x order ≡ true → x < n)
+    → (p q : ℕ) → p < 2 ^ n → q < 2 ^ n → ((j : ℕ) → j < n → has j order ≡ false → bit p j ≡ bit q j) → remainsThrough f order p ≡ remainsThrough f order q
 remains-outside n f order b p q hp hq e =
     remains-ignore n f (λ j. false) order b (λ x y hx hy k. ap f (same-letters n x y hx hy (λ j l. k j l refl))) p q hp hq
-    (λ j l d. e j l (sym (or-false (isIn order j)) ∙ d))
+    (λ j l d. e j l (sym (or-false (has j order)) ∙ d))

@@ -11,14 +11,14 @@ use lib.Dec.{ltb}
 use borrow.Author.Tests.{ltb-true}
 use Rattle.ring.specs.Letters.{bit, pointWhere}
 use Rattle.ring.specs.Polynomial.{Polynomial, _⊕_, value, constant}
+use Rattle.ring.specs.Lists.{has}
 use Rattle.ring.proofs.Bool.{xor-false}
 use Rattle.ring.proofs.Value.{value-cong}
-use Rattle.ring.proofs.Points.{pointWhere-cong, bit-pointWhere}
+use Rattle.ring.proofs.Points.{pointWhere-cong, bit-pointWhere, pointWhere-lt, pointWhere-bits}
 use Rattle.solution.specs.Letters.{Letter, HoldsGivens, Valuation, valueOver}
 use Rattle.solution.specs.Substitution.{Substitution, letterAt, ownLetters, putIn, MakesZero, InstanceOf}
-use Rattle.solution.specs.Elimination.{booleAnswers, remains, isIn, IsOrder, lowenheim, particular}
+use Rattle.solution.specs.Elimination.{booleAnswers, remains, IsOrder, lowenheim, particular}
 use Rattle.solution.specs.General.{General, InstancesOfEachOther}
-use Rattle.solution.proofs.Points.{pointWhere-lt, pointWhere-bits}
 use Rattle.solution.proofs.Elimination.{remainsThrough, answeredThrough, solves, reproduces, answered-lt, answered-kept}
 use Rattle.solution.proofs.Values.{value-remains, value-answers, value-lowenheim}
 use Rattle.solution.proofs.Letters.{replacedValue, replacedValue-unknown, value-putIn, own-holds, ownPoint, value-own, valuation, ownPoint-valuation}
@@ -113,7 +113,7 @@ each-other U G f a b ga gb =
 
 -- Boole's answers, for every order of the unknowns
 module _ (U G : ℕ) (f : Polynomial) (order : List ℕ) (is-order : IsOrder U order) where
-  pub in-order : (x : ℕ) → isIn order x ≡ true → x < U + G
+  pub in-order : (x : ℕ) → has x order ≡ true → x < U + G
   in-order x e = omega (arith, ltb-true x U (sym (is-order x) ∙ e))
 
   pub remains-values : (p : ℕ) → value (U + G) (remains (U + G) f order) p ≡ remainsThrough (value (U + G) f) order p

@@ -11,11 +11,13 @@ use lib.ListN.{length}
 use borrow.Author.Tests.{eqb-true, eq-eqb, ltb-false, lt-ltb, le-ltb}
 use Rattle.ring.specs.Letters.{digit, bit, pointWhere}
 use Rattle.ring.specs.Polynomial.{Polynomial, value, letter}
-use Rattle.ring.proofs.Points.{bit-zero, bit-suc, digit-lt, low-digit, half-digit, pointWhere-cong}
+use Rattle.ring.specs.Lists.{listed}
+use Rattle.ring.proofs.Lists.{length-listed}
+use Rattle.ring.proofs.Points.{bit-zero, bit-suc, low-digit, half-digit, pointWhere-cong, pointWhere-bits}
 use Rattle.ring.proofs.Substitute.{value-letter, value-substitute}
+use Rattle.ring.proofs.Bool.{digit-lt}
 use Rattle.solution.specs.Letters.{Letter, unknown, given, other, sameLetter, holds, HoldsGivens, place, Valuation, pointOf, valueOver}
-use Rattle.solution.specs.Substitution.{Substitution, letterAt, listed, ownLetters, putIn}
-use Rattle.solution.proofs.Points.{pointWhere-bits}
+use Rattle.solution.specs.Substitution.{Substitution, letterAt, ownLetters, putIn}
 
 pub sameLetter-true : (x l : Letter) → sameLetter x l ≡ true → x ≡ l
 sameLetter-true (unknown i) (unknown j) e = ap unknown (eqb-true i j e)
@@ -92,11 +94,6 @@ same-without-unknowns G f L givens σ τ v =
     ∙ sym (value-putIn 0 G L givens f τ v)
 
 -- the engine's own list
-length-listed : (k : ℕ) (h : ℕ → Letter) → length (listed k h) ≡ k
-unfolding listed
-length-listed zero h = refl
-length-listed (suc k) h = ap suc (length-listed k (λ i. h (suc i)))
-
 holds-listed : (k : ℕ) (h : ℕ → Letter) (j : ℕ) → j < k → holds (listed k h) (h j) ≡ true
 unfolding listed holds
 holds-listed zero h j l = absurd (omega arith)

@@ -1,12 +1,10 @@
-pub mod Points
 pub mod Elimination
 pub mod Values
 pub mod Letters
 pub mod General
-pub mod Scan
+pub mod Smallest
 pub mod Blocked
 pub mod Orders
-pub mod AnswerTable
 pub mod Verdict
 pub mod Theorems
 pub mod Written

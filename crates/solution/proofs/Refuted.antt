@@ -10,9 +10,10 @@ use Rattle.ring.specs.declared.State.{State}
 use Rattle.ring.specs.Letters.{bit, point, pointWhere}
 use Rattle.ring.specs.Polynomial.{count, odd, within, value, constant, letter, product, monomial, substitute}
 use Rattle.ring.specs.Table.{present, held}
+use Rattle.ring.specs.Lists.{listed}
 use Rattle.ring.proofs.Substitute.{value-letter}
 use Rattle.solution.specs.Letters.{Letter, unknown, given, other, holds, HoldsGivens, place, Valuation, pointOf, valueOver}
-use Rattle.solution.specs.Substitution.{Substitution, letterAt, listed, ownLetters, putIn, MakesZero, InstanceOf}
+use Rattle.solution.specs.Substitution.{Substitution, letterAt, ownLetters, putIn, MakesZero, InstanceOf}
 use Rattle.solution.specs.Elimination.{defaultOrder, Verdict, solved, none}
 use Rattle.solution.specs.General.{RightVerdict}
 use Rattle.solution.proofs.Letters.{replacedValue, value-putIn, bit-place}

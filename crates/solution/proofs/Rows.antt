@@ -2,11 +2,12 @@
 -- Assumes nothing.
 use mathlib.Core.Path.{refl}
 use Rattle.ring.specs.Letters.{bit, point}
-use Rattle.ring.specs.Polynomial.{count, odd, within, value, constant, letter, sum, product, restrict, monomial, substitute}
+use Rattle.ring.specs.Polynomial.{count, odd, within, value, constant, letter, sum, product, restrict, monomial, substitute, everyBelow}
 use Rattle.ring.specs.Table.{present, tabulate, answerTable}
+use Rattle.ring.specs.Lists.{listed}
 use Rattle.solution.specs.Letters.{place}
-use Rattle.solution.specs.Substitution.{letterAt, listed, ownLetters, putIn}
-use Rattle.solution.specs.Elimination.{nextCondition, remains, answerFrom, booleAnswers, particular, lowenheim, ownLowenheim, defaultOrder, everyBelow, smallestBelow, blocked, smallestBlocked, isZero, solvable, solve}
+use Rattle.solution.specs.Substitution.{letterAt, ownLetters, putIn}
+use Rattle.solution.specs.Elimination.{nextCondition, remains, answerFrom, booleAnswers, particular, lowenheim, ownLowenheim, defaultOrder, smallestBelow, blocked, smallestBlocked, isZero, solvable, solve}
 use Rattle.solution.specs.BenchTable.{starredRows, furtherRows, AllHold, end, _also_}
 
 pub starred-rows-hold : AllHold starredRows

@@ -10,6 +10,7 @@ use Prim.Native.Nat.{ℕ, _+_, _<_}
 use Rattle.ring.specs.Polynomial.{Polynomial, constant}
 use Rattle.ring.specs.Table.{present, held, answerTable}
 use Rattle.ring.proofs.Bool.{bool-iff}
+use Rattle.ring.proofs.Table.{held-answerTable}
 use Rattle.solution.specs.Letters.{Letter, HoldsGivens, Valuation, valueOver}
 use Rattle.solution.specs.Substitution.{Substitution, ownLetters, putIn, MakesZero}
 use Rattle.solution.specs.Elimination.{booleAnswers, IsOrder, particular, lowenheim, ownLowenheim, smallestBlocked, solvable, solve}
@@ -18,7 +19,6 @@ use Rattle.solution.proofs.Letters.{own-holds, same-without-unknowns}
 use Rattle.solution.proofs.General.{each-other, lowenheim-general, particular-zero, leads-reproductive}
 use Rattle.solution.proofs.Blocked.{remains-blocked, blocked-none, smallest-blocked}
 use Rattle.solution.proofs.Verdict.{AreBooles, boole-leads-all, booles-general, own-general, own-table-general, right}
-use Rattle.solution.proofs.AnswerTable.{held-answerTable}
 
 module _ (U G : ℕ) (f : Polynomial) (order : List ℕ) (is-order : IsOrder U order) where
   -- 'If it is 0, go back': then Boole's answers are a general solution; so 'the answers .. make t zero' (`makes-zero`),

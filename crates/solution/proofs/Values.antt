@@ -8,27 +8,28 @@ use lib.Dec.{eqb}
 use borrow.Author.Tests.{eqb-true, eqb-false}
 use Rattle.ring.specs.Letters.{bit, pointWhere, assign}
 use Rattle.ring.specs.Polynomial.{Polynomial, _⊕_, value, constant, letter, sum, product, restrict, substitute}
-use Rattle.ring.proofs.Points.{bit-assign, bit-assign-other, pointWhere-cong}
+use Rattle.ring.specs.Lists.{has}
+use Rattle.ring.proofs.Lists.{has-first, has-rest}
+use Rattle.ring.proofs.Points.{bit-assign, bit-assign-other, pointWhere-cong, pointWhere-bits}
 use Rattle.ring.proofs.Value.{value-sum, value-product}
 use Rattle.ring.proofs.Restrict.{value-restrict}
 use Rattle.ring.proofs.Substitute.{value-constant, value-letter, value-substitute}
 use Rattle.solution.specs.Substitution.{Substitution}
-use Rattle.solution.specs.Elimination.{nextCondition, remains, answerFrom, booleAnswers, lowenheim, isIn}
+use Rattle.solution.specs.Elimination.{nextCondition, remains, answerFrom, booleAnswers, lowenheim}
 use Rattle.solution.specs.ByPoints.{chosenValue}
-use Rattle.solution.proofs.Points.{pointWhere-bits}
-use Rattle.solution.proofs.Elimination.{bothCases, remainsThrough, chosenPoint, answeredThrough, answered-lt, in-head, in-tail}
+use Rattle.solution.proofs.Elimination.{bothCases, remainsThrough, chosenPoint, answeredThrough, answered-lt}
 
 pub value-next : (n : ℕ) (f : Polynomial) (x : ℕ) → x < n → value n (nextCondition n f x) ≡ bothCases (value n f) x
 unfolding nextCondition bothCases
 value-next n f x h =
     fun-ext (λ p. value-product n (restrict f x true) (restrict f x false) p ∙ ap₂ _&&_ (value-restrict n f x true p h) (value-restrict n f x false p h))
 
-pub value-remains : (n : ℕ) (f : Polynomial) (order : List ℕ) → ((x : ℕ) → isIn order x ≡ true → x < n)
+pub value-remains : (n : ℕ) (f : Polynomial) (order : List ℕ) → ((x : ℕ) → has x order ≡ true → x < n)
     → value n (remains n f order) ≡ remainsThrough (value n f) order
 unfolding remains remainsThrough
 value-remains n f [] b = refl
 value-remains n f (x ∷ order) b =
-    value-remains n (nextCondition n f x) order (λ y e. b y (in-tail x order y e)) ∙ ap (λ (g : ℕ → Bool). remainsThrough g order) (value-next n f x (b x (in-head x order)))
+    value-remains n (nextCondition n f x) order (λ y e. b y (has-rest y x order e)) ∙ ap (λ (g : ℕ → Bool). remainsThrough g order) (value-next n f x (b x (has-first x order)))
 
 value-answer : (n x : ℕ) (r s : Polynomial) (p : ℕ) → x < n → value n (answerFrom n x r s) p ≡ chosenValue (value n r p) (value n s p) (bit p x)
 unfolding answerFrom chosenValue
@@ -59,15 +60,15 @@ module _ (n : ℕ) (f : Polynomial) (x : ℕ) (hx : x < n) (p : ℕ)
           rw (eqb-true j x e) (value-answer n x _ _ p hx ∙ ap₂ (λ (r s : Bool). chosenValue r s (bit p x)) (side true) (side false) ∙ sym (bit-assign q x _))
       go false e = ih j hj ∙ sym (bit-assign-other q j x _ (eqb-false j x e))
 
-pub value-answers : (n : ℕ) (f : Polynomial) (order : List ℕ) → ((x : ℕ) → isIn order x ≡ true → x < n)
+pub value-answers : (n : ℕ) (f : Polynomial) (order : List ℕ) → ((x : ℕ) → has x order ≡ true → x < n)
     → (j p : ℕ) → j < n → p < 2 ^ n → value n (booleAnswers n f order j) p ≡ bit (answeredThrough (value n f) order p) j
 unfolding booleAnswers answeredThrough
 value-answers n f [] b j p hj hp = value-letter n j p hj
 value-answers n f (x ∷ order) b j p hj hp =
-    step n f x (b x (in-head x order)) p (booleAnswers n (nextCondition n f x) order) (answeredThrough (bothCases (value n f) x) order p)
-    (answered-lt n (bothCases (value n f) x) order p (λ y e. b y (in-tail x order y e)) hp)
-    (λ i l. value-answers n (nextCondition n f x) order (λ y e. b y (in-tail x order y e)) i p l hp
-    ∙ ap (λ (g : ℕ → Bool). bit (answeredThrough g order p) i) (value-next n f x (b x (in-head x order))))
+    step n f x (b x (has-first x order)) p (booleAnswers n (nextCondition n f x) order) (answeredThrough (bothCases (value n f) x) order p)
+    (answered-lt n (bothCases (value n f) x) order p (λ y e. b y (has-rest y x order e)) hp)
+    (λ i l. value-answers n (nextCondition n f x) order (λ y e. b y (has-rest y x order e)) i p l hp
+    ∙ ap (λ (g : ℕ → Bool). bit (answeredThrough g order p) i) (value-next n f x (b x (has-first x order))))
     j hj
 
 pub value-lowenheim : (n : ℕ) (f : Polynomial) (b : Substitution) (x p : ℕ) → x < n

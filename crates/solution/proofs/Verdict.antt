@@ -13,7 +13,7 @@ use Rattle.solution.specs.Elimination.{booleAnswers, IsOrder, ownLowenhe
 use Rattle.solution.specs.General.{SmallestBlocked, General, RightVerdict, inPolynomials}
 use Rattle.solution.proofs.Blocked.{zero-values, remains-blocked, blocked-none, smallest-blocked}
 use Rattle.solution.proofs.General.{Leads, leads-same, general, each-other, boole-leads, lowenheim-leads, particular-zero}
-use Rattle.solution.proofs.AnswerTable.{held-answerTable}
+use Rattle.ring.proofs.Table.{held-answerTable}
 
 solved-none : {B : Type 0} (a : Substitution) (state : State) → solved a ≡ none state → B
 solved-none a state e = let z : _≡_ {A = ℕ} 0 1 = cc in absurd (omega arith)

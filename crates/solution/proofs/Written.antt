@@ -10,9 +10,9 @@ use native.Mathlib.Omega.{arith}
 use lib.ListN.{length}
 use Rattle.ring.specs.Letters.{bit}
 use Rattle.ring.specs.Polynomial.{Polynomial, _⊕_, value, constant, letter, sum, product}
-use Rattle.ring.proofs.Points.{digit-lt}
 use Rattle.ring.proofs.Value.{value-sum, value-product, involution}
 use Rattle.ring.proofs.Substitute.{value-constant, value-letter}
+use Rattle.ring.proofs.Bool.{digit-lt}
 use Rattle.solution.specs.Letters.{Letter, sameLetter, holds, place, Valuation, pointOf, valueOver}
 use Rattle.solution.proofs.Letters.{place-lt, bit-place, sameLetter-refl}
 

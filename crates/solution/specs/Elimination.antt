@@ -2,15 +2,16 @@
 -- Elimination goes through a list of unknowns, the order; document 01's is 0, 1, 2, ..
 -- Assumes nothing.
 use mathlib.Core.Path.{_≡_}
-use mathlib.Core.Bool.{Bool, true, false, not, _&&_, _||_, cond}
+use mathlib.Core.Bool.{Bool, true, false, not, cond}
 use mathlib.Core.List.{List, [], _∷_}
 use Prim.Native.Nat.{ℕ, zero, suc, _+_, _^_}
 use lib.Dec.{eqb, ltb}
 use Rattle.ring.specs.declared.State.{State}
 use Rattle.ring.specs.Letters.{point}
-use Rattle.ring.specs.Polynomial.{Polynomial, value, constant, letter, sum, product, restrict, substitute}
+use Rattle.ring.specs.Polynomial.{Polynomial, value, constant, letter, sum, product, restrict, substitute, everyBelow}
 use Rattle.ring.specs.Table.{present, answerTable}
-use Rattle.solution.specs.Substitution.{Substitution, listed, ownLetters, putIn}
+use Rattle.ring.specs.Lists.{listed, has}
+use Rattle.solution.specs.Substitution.{Substitution, ownLetters, putIn}
 
 -- 'let r be f with x = 1 and s be f with x = 0. The next condition is r*s'
 unfoldable pub nextCondition : ℕ → Polynomial → ℕ → Polynomial
@@ -51,19 +52,9 @@ ownLowenheim U G order f = lowenheim (U + G) f (particular U G order f)
 unfoldable pub defaultOrder : ℕ → List ℕ
 defaultOrder U = listed U (λ j. j)
 
--- is x in the order?
-unfoldable pub isIn : List ℕ → ℕ → Bool
-isIn [] x = false
-isIn (y ∷ order) x = eqb y x || isIn order x
-
 -- the order lists the unknowns: every one of them, and nothing else
 abbrev pub IsOrder : ℕ → List ℕ → Type 0
-IsOrder U order = (x : ℕ) → isIn order x ≡ ltb x U
-
--- do all the numbers below k pass the test?
-unfoldable pub everyBelow : ℕ → (ℕ → Bool) → Bool
-everyBelow zero test = true
-everyBelow (suc k) test = everyBelow k test && test k
+IsOrder U order = (x : ℕ) → has x order ≡ ltb x U
 
 -- the smallest number below k that passes the test, k if none does
 unfoldable pub smallestBelow : ℕ → (ℕ → Bool) → ℕ

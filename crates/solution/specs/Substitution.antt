@@ -3,11 +3,12 @@
 -- Assumes nothing.
 use mathlib.Core.Path.{_≡_}
 use mathlib.Core.Bool.{false, cond}
-use mathlib.Core.List.{List, [], _∷_}
-use Prim.Native.Nat.{ℕ, zero, suc, _+_, _-_, _<_}
+use mathlib.Core.List.{List}
+use Prim.Native.Nat.{ℕ, _+_, _-_, _<_}
 use lib.Dec.{ltb}
 use lib.ListN.{length}
 use Rattle.ring.specs.Polynomial.{Polynomial, letter, substitute}
+use Rattle.ring.specs.Lists.{listed}
 use Rattle.solution.specs.Letters.{Letter, unknown, given, place, Valuation, valueOver}
 
 -- 'A substitution gives every unknown a polynomial over one finite list of letters that holds the givens': that of unknown j, for j below U
@@ -17,11 +18,6 @@ Substitution = ℕ → Polynomial
 -- the letter of bit j of a table's masks: unknown j, or given i where j is U + i
 unfoldable pub letterAt : ℕ → ℕ → Letter
 letterAt U j = cond (ltb j U) (unknown j) (given (j - U))
-
--- the list h 0, h 1, .., of k members
-unfoldable pub listed {ℓ} : {A : Type ℓ} → ℕ → (ℕ → A) → List A
-listed zero h = []
-listed (suc k) h = h 0 ∷ listed k (λ i. h (suc i))
 
 -- the engine's own list, over which tables are: the unknowns, then the givens
 unfoldable pub ownLetters : ℕ → ℕ → List Letter

@@ -4,7 +4,6 @@ use mathlib.Core.Path.{_≡_, refl, sym, ap, ap₂, _∙_}
 use mathlib.Core.Bool.{Bool, true, false, cond}
 use mathlib.Core.List.{List, [], _∷_, _++_}
 use Prim.Native.Nat.{ℕ, _+_, _*_, _^_}
-use native.Mathlib.Nat.{zero-mul}
 use native.Mathlib.Omega.{arith}
 use lib.ListN.{length, take, drop, take-append-drop}
 use borrow.Author.Tests.{ne-eqb}
@@ -13,24 +12,19 @@ use Rattle.ring.specs.Letters.{bit}
 use Rattle.ring.specs.Table.{present, held, answerTable}
 use Rattle.ring.proofs.Value.{value-cong}
 use Rattle.ring.proofs.Table.{present-take, held-take, length-answerTable}
-use Rattle.tables.specs.Questions.{firstNo, asks, lettersFit, hasRoom, holdsBits, areBits, reads, writes, haveRoom, holdBits, tableQuestions}
+use Rattle.tables.specs.Questions.{firstNo, asks, lettersFit, reads, writes, haveRoom, holdBits, tableQuestions}
 use Rattle.tables.specs.Reply.{Reply, accepted, refused, reply, after}
-use Rattle.tables.proofs.Questions.{tableRefusal, table-yes, table-no}
+use Rattle.tables.proofs.Questions.{tableRefusal, one-read, table-yes, table-no}
 use Rattle.tables.proofs.Reply.{reply-refused, after-refused, after-done}
 use Rattle.solution.specs.Elimination.{lowenheim, defaultOrder, smallestBlocked, solvable, solved, none, Verdict as Said}
 use Rattle.solution.proofs.ByPoints.{handed-table, tableByValues-cong}
 use Rattle.solver.specs.Calls.{solvingRefusal, solvingReply, booleTable, particularTable, lowenheimTable, handedTable}
 use Rattle.solver.specs.Methods.{tableBy, solveBy, verdict, answersAfter}
-use Rattle.solver.specs.declared.Method.{Method}
-use Rattle.solver.specs.declared.Method.the-variants.{Boole, Particular, Lowenheim}
+use Rattle.elimination.specs.declared.Method.{Method}
+use Rattle.elimination.specs.declared.Method.the-variants.{Boole, Particular, Lowenheim}
 use Rattle.solver.specs.declared.Verdict.{Verdict}
 use Rattle.solver.specs.declared.Verdict.the-variants.{Solved, None}
 use Rattle.solver.proofs.Verdicts.{solve-whole}
-
--- a second table of no bytes asks for nothing
-one-read : (u g : ℕ) (t : List ℕ) (results room : ℕ) → tableRefusal u g t [] 0 room results ≡ firstNo (tableQuestions u g (reads 1 t ∷ writes results room ∷ []))
-unfolding firstNo tableQuestions haveRoom holdBits hasRoom holdsBits areBits
-one-read u g t results room = rw (zero-mul)
 
 -- the tables' questions are none of them the ninth
 not-nine : (u g : ℕ) (t : List ℕ) (results room : ℕ) → firstNo (tableQuestions u g (reads 1 t ∷ writes results room ∷ [])) ≡ 9 → ⊥

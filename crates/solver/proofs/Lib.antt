@@ -1,5 +1,3 @@
-pub mod Halving
-pub mod Points
-pub mod Answers
+pub mod Handed
 pub mod Verdicts
 pub mod Calls

@@ -17,18 +17,17 @@ use Rattle.ring.specs.Polynomial.{value}
 use Rattle.ring.specs.Table.{present, values, answerTable}
 use Rattle.ring.proofs.Points.{assign-lt}
 use Rattle.ring.proofs.Value.{value-cong}
-use Rattle.ring.proofs.Table.{present-take, value-present-values}
+use Rattle.ring.proofs.Table.{present-take, value-present-values, values-back}
+use Rattle.ring.proofs.Bool.{bit-digit}
 use Rattle.solution.specs.Elimination.{defaultOrder, smallestBelow, smallestBlocked, solvable, solved, none, Verdict as Said}
 use Rattle.solution.specs.ByPoints.{chosenValue, remainsAt, remainsRow, answeredPoint, firstBlocked, zeroChoice, particularPoint, lowenheimPoint, tableByValues}
-use Rattle.solution.proofs.Scan.{smallest-cong}
 use Rattle.solution.proofs.ByPoints.{zeroChoice-lt, value-boole, value-particular, value-own-lowenheim, smallest-by-points, solvable-by-points, boole-table, particular-table, own-lowenheim-table}
+use Rattle.solution.proofs.Smallest.{smallest-cong}
 use Rattle.solver.specs.Calls.{booleTable, particularTable, lowenheimTable}
 use Rattle.solver.specs.Methods.{tableBy, solveBy, answersAfter}
-use Rattle.solver.specs.Rows.{HoldsRows, valuesIn, pointBy}
-use Rattle.solver.specs.declared.Method.{Method}
-use Rattle.solver.specs.declared.Method.the-variants.{Boole, Particular, Lowenheim}
-use Rattle.solver.proofs.Halving.{bit-digit}
-use Rattle.solver.proofs.Answers.{values-back}
+use Rattle.elimination.specs.Rows.{HoldsRows, valuesIn, pointBy}
+use Rattle.elimination.specs.declared.Method.{Method}
+use Rattle.elimination.specs.declared.Method.the-variants.{Boole, Particular, Lowenheim}
 
 -- rows and points from two functions that agree below 2 ^ n
 module _ (n : ℕ) (f g : ℕ → Bool) (same : (p : ℕ) → p < 2 ^ n → f p ≡ g p) where

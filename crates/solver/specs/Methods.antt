@@ -7,8 +7,8 @@ use Prim.Native.Nat.{ℕ, _+_}
 use Rattle.ring.specs.Table.{present}
 use Rattle.solution.specs.Elimination.{defaultOrder, smallestBlocked, solvable, solved, none, Verdict as Said}
 use Rattle.solver.specs.Calls.{booleTable, particularTable, lowenheimTable}
-use Rattle.solver.specs.declared.Method.{Method}
-use Rattle.solver.specs.declared.Method.the-variants.{Boole, Particular, Lowenheim}
+use Rattle.elimination.specs.declared.Method.{Method}
+use Rattle.elimination.specs.declared.Method.the-variants.{Boole, Particular, Lowenheim}
 use Rattle.solver.specs.declared.Verdict.{Verdict}
 use Rattle.solver.specs.declared.Verdict.the-variants.{Solved, None}
 

@@ -1,7 +1,7 @@
 -- Bytes that are 0 or 1: the code's operations on them as the ring's, and question 8 by the union of all bytes.
 -- Assumes nothing.
 use mathlib.Core.Path.{_≡_, refl, sym, ap, _∙_}
-use mathlib.Core.Bool.{Bool, true, false, _&&_, and-true, and-assoc}
+use mathlib.Core.Bool.{Bool, true, _&&_, and-true, and-assoc}
 use mathlib.Core.List.{List, [], _∷_, _++_}
 use Prim.Native.Nat.{ℕ, zero, suc, _+_, _≤_, _<_}
 use native.Mathlib.Numerals.{add-one}
@@ -14,9 +14,9 @@ use lib.Seq.{take-suc, take-length, getD-take, getD-drop}
 use borrow.Author.Tests.{le-leb, leb-true}
 use Rattle.ring.specs.Letters.{digit}
 use Rattle.ring.specs.Polynomial.{_⊕_}
-use Rattle.ring.specs.Table.{AreBits, present}
-use Rattle.ring.proofs.Bool.{bool-iff}
-use Rattle.tables.specs.Questions.{areBits, holdsBits}
+use Rattle.ring.specs.Table.{AreBits}
+use Rattle.ring.proofs.Bool.{bool-iff, and-left, and-right, both}
+use Rattle.tables.specs.Questions.{areBits}
 
 pub xor-bytes : (a b : ℕ) → a < 2 → b < 2 → bitXor a b ≡ digit (eqb a 1 ⊕ eqb b 1)
 xor-bytes zero zero ha hb = refl
@@ -39,18 +39,6 @@ byte-digit zero h = refl
 byte-digit (suc zero) h = refl
 byte-digit (suc (suc a)) h = absurd (omega arith)
 
-pub both-true : (p q : Bool) → p ≡ true → q ≡ true → (p && q) ≡ true
-both-true p q ep eq = rw (ep, eq)
-
-pub both-left : (p q : Bool) → (p && q) ≡ true → p ≡ true
-both-left true q e = refl
-both-left false q e = e
-
-pub both-right : (p q : Bool) → (p && q) ≡ true → q ≡ true
-both-right true q e = e
-both-right false true e = refl
-both-right false false e = e
-
 -- a union of bytes is at most 1 exactly if both are
 pub or-one : (a b : ℕ) → leb (bitOr a b) 1 ≡ (leb a 1 && leb b 1)
 or-one a b =
@@ -59,10 +47,10 @@ or-one a b =
     let h : bitOr a b ≤ 1 = leb-true _ _ e in
     let ha : a ≤ 1 = omega (arith, or-add-and a b, and-le-r a b) in
     let hb : b ≤ 1 = omega (arith, or-add-and a b, and-le-l a b) in
-    both-true (leb a 1) (leb b 1) (le-leb _ _ ha) (le-leb _ _ hb))
+    both (le-leb _ _ ha) (le-leb _ _ hb))
     (λ e.
-    let ha : a ≤ 1 = leb-true _ _ (both-left (leb a 1) (leb b 1) e) in
-    let hb : b ≤ 1 = leb-true _ _ (both-right (leb a 1) (leb b 1) e) in
+    let ha : a ≤ 1 = leb-true _ _ (and-left (leb a 1) (leb b 1) e) in
+    let hb : b ≤ 1 = leb-true _ _ (and-right (leb a 1) (leb b 1) e) in
     let h : bitOr a b ≤ 1 = omega (arith, or-lt 1 a b (omega arith) (omega arith)) in
     le-leb _ _ h)
 
@@ -81,14 +69,14 @@ bits-end s union i h l e = let n : i ≡ length s = omega arith in e ∙ rw (n, 
 pub are-bits : (t : List ℕ) → areBits t ≡ true → AreBits t
 unfolding areBits
 are-bits [] e i = omega arith
-are-bits (b ∷ t) e zero = omega (arith, leb-true b 1 (both-left (leb b 1) (areBits t) e))
-are-bits (b ∷ t) e (suc i) = are-bits t (both-right (leb b 1) (areBits t) e) i
+are-bits (b ∷ t) e zero = omega (arith, leb-true b 1 (and-left (leb b 1) (areBits t) e))
+are-bits (b ∷ t) e (suc i) = are-bits t (and-right (leb b 1) (areBits t) e) i
 
 -- and what a yes to it needs
 pub bits-are : (t : List ℕ) → AreBits t → areBits t ≡ true
 unfolding areBits
 bits-are [] h = refl
-bits-are (b ∷ t) h = both-true (leb b 1) (areBits t) (le-leb b 1 (omega (arith, h 0))) (bits-are t (λ i. h (suc i)))
+bits-are (b ∷ t) h = both (le-leb b 1 (omega (arith, h 0))) (bits-are t (λ i. h (suc i)))
 
 -- a part of bytes that are 0 or 1
 pub bits-drop : (k : ℕ) (t : List ℕ) → AreBits t → AreBits (drop k t)

@@ -1,43 +1,19 @@
 -- Loops that answer a list from the front, one store a turn: `filled k f xs` is the list xs whose first k elements are f's.
 -- `filled-start`, `filled-more`, `filled-read` and `filled-end` are the invariant of every such loop.
 -- Assumes nothing.
-use mathlib.Core.Path.{_≡_, refl, sym, ap, ap₂, _∙_}
+use mathlib.Core.Path.{_≡_, refl, sym, ap, _∙_}
 use mathlib.Core.Bool.{Bool}
 use mathlib.Core.List.{List, [], _∷_, _++_, append-nil}
 use Prim.Native.Nat.{ℕ, zero, suc, _+_, _≤_, _<_}
-use native.Mathlib.Nat.{not-suc-le-zero, le-of-suc-le-suc, zero-add, suc-add}
+use native.Mathlib.Nat.{not-suc-le-zero, le-of-suc-le-suc}
 use native.Mathlib.Numerals.{add-one}
 use native.Mathlib.Omega.{arith}
 use lib.ListN.{length, getD, set, drop, length-append, length-drop, List·getD-append}
 use lib.Seq.{set-getD, drop-length}
 use Rattle.ring.specs.Letters.{digit}
 use Rattle.ring.specs.Table.{tabulate}
-
--- f 0, f 1, .., f (k - 1)
-unfoldable pub listed : ℕ → (ℕ → ℕ) → List ℕ
-listed zero f = []
-listed (suc k) f = f 0 ∷ listed k (λ i. f (suc i))
-
-pub length-listed : (k : ℕ) (f : ℕ → ℕ) → length (listed k f) ≡ k
-unfolding listed
-length-listed zero f = refl
-length-listed (suc k) f = ap suc (length-listed k (λ i. f (suc i)))
-
-pub getD-listed : (k : ℕ) (f : ℕ → ℕ) (i : ℕ) → i < k → getD (listed k f) i 0 ≡ f i
-unfolding listed
-getD-listed zero f i h = absurd (not-suc-le-zero h)
-getD-listed (suc k) f zero h = refl
-getD-listed (suc k) f (suc i) h = getD-listed k (λ i. f (suc i)) i (le-of-suc-le-suc h)
-
-pub listed-getD : (xs : List ℕ) → listed (length xs) (λ m. getD xs m 0) ≡ xs
-unfolding listed
-listed-getD [] = refl
-listed-getD (x ∷ xs) = ap (λ (l : List ℕ). x ∷ l) (listed-getD xs)
-
-pub tabulate-listed : (k : ℕ) (h : ℕ → Bool) → tabulate k h ≡ listed k (λ i. digit (h i))
-unfolding listed tabulate
-tabulate-listed zero h = refl
-tabulate-listed (suc k) h = ap (λ (l : List ℕ). digit (h 0) ∷ l) (tabulate-listed k (λ i. h (suc i)))
+use Rattle.ring.specs.Lists.{listed}
+use Rattle.ring.proofs.Lists.{length-listed, getD-listed, listed-tabulate}
 
 -- the first k answered by f, the rest as before
 unfoldable pub filled : ℕ → (ℕ → ℕ) → List ℕ → List ℕ
@@ -49,7 +25,7 @@ length-filled k f xs h = simp (length-append, length-drop, length-listed) (omega
 
 pub filled-low : (k : ℕ) (f : ℕ → ℕ) (xs : List ℕ) (i : ℕ) → i < k → getD (filled k f xs) i 0 ≡ f i
 unfolding filled
-filled-low k f xs i h = List·getD-append (listed k f) (drop k xs) 0 i (omega (arith, length-listed k f)) ∙ getD-listed k f i h
+filled-low k f xs i h = List·getD-append (listed k f) (drop k xs) 0 i (omega (arith, length-listed k f)) ∙ getD-listed k f i 0 h
 
 pub filled-high : (k : ℕ) (f : ℕ → ℕ) (xs : List ℕ) (i : ℕ) → k ≤ i → i < length xs → getD (filled k f xs) i 0 ≡ getD xs i 0
 unfolding filled listed
@@ -100,25 +76,8 @@ pub combined-more : (op : ℕ → ℕ → ℕ) (xs s t : List ℕ) (i : ℕ) →
 unfolding combined
 combined-more op xs s t i e l = filled-more i (combined op xs s) xs t e _ l (ap (λ (x : ℕ). op x (getD s i 0)) (filled-read i (combined op xs s) xs t e l))
 
-pub listed-cong : (k : ℕ) (f g : ℕ → ℕ) → ((i : ℕ) → i < k → f i ≡ g i) → listed k f ≡ listed k g
-unfolding listed
-listed-cong zero f g e = refl
-listed-cong (suc k) f g e =
-    ap₂ (λ (x : ℕ) (l : List ℕ). x ∷ l) (e 0 (omega arith)) (listed-cong k (λ i. f (suc i)) (λ i. g (suc i)) (λ i l. e (suc i) (omega arith)))
-
-pub listed-tabulate : (k : ℕ) (f : ℕ → ℕ) (h : ℕ → Bool) → ((i : ℕ) → i < k → f i ≡ digit (h i)) → listed k f ≡ tabulate k h
-listed-tabulate k f h e = listed-cong k f _ e ∙ sym (tabulate-listed k h)
-
 -- the same loop over bytes that are 0 or 1, once it has ended
 pub combined-end : (op : ℕ → ℕ → ℕ) (xs s t : List ℕ) (i : ℕ) (h : ℕ → Bool) → t ≡ filled i (combined op xs s) xs → i ≤ length xs → length xs ≤ i
     → ((m : ℕ) → op (getD xs m 0) (getD s m 0) ≡ digit (h m)) → t ≡ tabulate (length xs) h
 unfolding combined
 combined-end op xs s t i h e l k r = filled-end i (combined op xs s) xs t e l k ∙ listed-tabulate (length xs) (combined op xs s) h (λ m _. r m)
-
-pub listed-add : (a k : ℕ) (f : ℕ → ℕ) → listed (a + k) f ≡ listed a f ++ listed k (λ i. f (a + i))
-unfolding listed
-listed-add zero k f = ap (λ (x : ℕ). listed x f) (zero-add k) ∙ listed-cong k f _ (λ i l. ap f (sym (zero-add i)))
-listed-add (suc a) k f =
-    ap (λ (x : ℕ). listed x f) (suc-add a k)
-    ∙ ap (λ (l : List ℕ). f 0 ∷ l)
-    (listed-add a k (λ i. f (suc i)) ∙ ap (λ (l : List ℕ). listed a (λ i. f (suc i)) ++ l) (listed-cong k _ _ (λ i l. ap f (sym (suc-add a i)))))

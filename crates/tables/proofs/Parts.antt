@@ -1,23 +1,24 @@
 -- Tables that stand one after another: each of them taken to its values in place.
 -- `filled (j * 2 ^ n) (partByte n t) t` is the list t with its first j tables done.
 -- Assumes nothing.
-use mathlib.Core.Path.{_≡_, refl, sym, ap, ap₂, _∙_}
-use mathlib.Core.Bool.{Bool}
-use mathlib.Core.List.{List, _++_, append-assoc}
+use mathlib.Core.Path.{_≡_, sym, ap, ap₂, _∙_}
+use mathlib.Core.List.{List, append-assoc}
 use Prim.Native.Nat.{ℕ, _+_, _-_, _*_, _/_, _%_, _^_, _≤_, _<_}
 use native.Mathlib.Nat.{add-mul, one-mul, mul-le-mul, mul-le-mul-right}
 use native.Mathlib.Omega.{arith}
 use lib.Dec.{eqb}
 use lib.Pow.{high, low, pow-mono}
-use lib.ListN.{length, getD, take, drop, length-drop}
+use lib.ListN.{length, take, drop, length-drop}
 use lib.Seq.{getD-take, getD-drop, drop-drop, take-at, drop-at, length-take-le}
 use borrow.Rule.Slice.PartMut.{putMid}
 use Rattle.ring.specs.Letters.{digit}
 use Rattle.ring.specs.Polynomial.{value}
-use Rattle.ring.specs.Table.{AreBits, IsTable, present, tabulate, values, held, answerTable}
+use Rattle.ring.specs.Table.{AreBits, IsTable, present, values, held, answerTable}
+use Rattle.ring.specs.Lists.{listed}
 use Rattle.ring.proofs.Value.{value-cong}
+use Rattle.ring.proofs.Lists.{length-listed, listed-add, listed-cong, tabulate-listed}
 use Rattle.tables.proofs.Bits.{bits-take, bits-drop}
-use Rattle.tables.proofs.Filled.{listed, length-listed, listed-add, listed-cong, listed-tabulate, tabulate-listed, filled, filled-all}
+use Rattle.tables.proofs.Filled.{filled, filled-all}
 
 -- byte i of the values of each table of t
 pub partByte : ℕ → List ℕ → ℕ → ℕ

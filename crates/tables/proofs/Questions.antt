@@ -1,9 +1,9 @@
 -- Questions 1, 4 and 8 as the code asks them, one test after another, and what it means that none of them is answered no.
 -- Assumes nothing.
-use mathlib.Core.Path.{_≡_, refl, sym, ap, ap₂, _∙_}
+use mathlib.Core.Path.{_≡_, refl, sym, _∙_}
 use mathlib.Core.Bool.{Bool, true, false, _&&_, cond, not, and-true}
 use mathlib.Core.List.{List, [], _∷_, _++_}
-use Prim.Native.Nat.{ℕ, zero, _+_, _*_, _^_, _≤_, _<_}
+use Prim.Native.Nat.{ℕ, _+_, _*_, _^_, _≤_}
 use native.Mathlib.Nat.{one-mul, zero-mul, mul-le-mul}
 use native.Mathlib.Omega.{arith}
 use lib.Dec.{leb}
@@ -11,9 +11,10 @@ use lib.ListN.{length, take}
 use lib.Seq.{length-take-le}
 use borrow.Author.Tests.{leb-true, not-true, not-false}
 use Rattle.ring.specs.Table.{AreBits, IsTable}
-use Rattle.tables.specs.Questions.{Asked, asks, firstNo, lettersFit, hasRoom, areBits, holdsBits, Lent, reads, writes, haveRoom, holdBits, tableQuestions}
+use Rattle.tables.specs.Questions.{Asked, firstNo, lettersFit, hasRoom, areBits, holdsBits, Lent, reads, writes, haveRoom, holdBits, tableQuestions}
 use Rattle.tables.proofs.Steps.{pow-small}
-use Rattle.tables.proofs.Bits.{both-left, both-right, are-bits}
+use Rattle.ring.proofs.Bool.{and-left, and-right}
+use Rattle.tables.proofs.Bits.{are-bits}
 use Rattle.tables.proofs.FirstNo.{yes-to, first-counts}
 
 -- a question's answer as the code has it, in a bool that a branch then tests
@@ -26,11 +27,11 @@ passed {r} {x} e t = sym e ∙ not-false r t
 -- what a yes to question 1 tells
 pub letters-small : (u g : ℕ) → lettersFit u g ≡ true → u + g ≤ 10
 unfolding lettersFit
-letters-small u g e = leb-true _ _ (both-right (leb g 8) (leb (u + g) 10) (both-right (leb u 6) _ e))
+letters-small u g e = leb-true _ _ (and-right (leb g 8) (leb (u + g) 10) (and-right (leb u 6) _ e))
 
 pub unknowns-small : (u g : ℕ) → lettersFit u g ≡ true → u ≤ 6
 unfolding lettersFit
-unknowns-small u g e = leb-true _ _ (both-left (leb u 6) _ e)
+unknowns-small u g e = leb-true _ _ (and-left (leb u 6) _ e)
 
 -- the questions of a call that reads the table a and then `count` tables b, and writes `results` tables into `room` bytes
 module _ (u g : ℕ) (a b : List ℕ) (count room results : ℕ) where
@@ -169,3 +170,8 @@ module _ (u g : ℕ) (lent : List Lent) (more : List Asked) where
 pub one-table : (u g : ℕ) (a : List ℕ) → tableRefusal u g a [] 0 0 0 ≡ firstNo (tableQuestions u g (reads 1 a ∷ []))
 unfolding firstNo tableQuestions haveRoom holdBits hasRoom holdsBits areBits
 one-table u g a = rw (zero-mul, and-true, and-true)
+
+-- the same where a result is written
+pub one-read : (u g : ℕ) (t : List ℕ) (results room : ℕ) → tableRefusal u g t [] 0 room results ≡ firstNo (tableQuestions u g (reads 1 t ∷ writes results room ∷ []))
+unfolding firstNo tableQuestions haveRoom holdBits hasRoom holdsBits areBits
+one-read u g t results room = rw (zero-mul)

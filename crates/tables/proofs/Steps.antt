@@ -18,10 +18,11 @@ use Rattle.ring.specs.Polynomial.{Polynomial, _⊕_}
 use Rattle.ring.specs.Table.{AreBits, IsTable, present, tabulate, values}
 use Rattle.ring.proofs.Bool.{xor-false}
 use Rattle.ring.proofs.Transform.{stage, stage-first, stage-last, stage-keep, stage-flip}
-use Rattle.ring.proofs.Table.{length-tabulate, getD-tabulate, bits-tabulate, present-tabulate, tabulate-cong, is-table}
+use Rattle.ring.proofs.Table.{length-tabulate, getD-tabulate, present-tabulate, tabulate-cong, is-table}
+use Rattle.ring.proofs.Lists.{listed-tabulate}
 use Rattle.tables.specs.Steps.{stepped, xorRun}
 use Rattle.tables.proofs.Bits.{xor-bytes, byte-digit}
-use Rattle.tables.proofs.Filled.{filled, filled-low, filled-high, filled-set, filled-skip, filled-all, listed-tabulate}
+use Rattle.tables.proofs.Filled.{filled, filled-low, filled-high, filled-set, filled-skip, filled-all}
 
 -- what stands at m after letter j's step, as a byte
 pub stepByte : ℕ → List ℕ → ℕ → ℕ

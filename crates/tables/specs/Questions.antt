@@ -1,7 +1,7 @@
 -- The questions on letters and buffers, and the first no (document 01, 'The questions, and the number if the answer is no').
 -- Each is a Bool function, total on any numbers and bytes. Buffers are lists of bytes.
 -- Assumes nothing.
-use mathlib.Core.Bool.{Bool, true, false, _&&_, cond}
+use mathlib.Core.Bool.{Bool, true, _&&_, cond}
 use mathlib.Core.List.{List, [], _∷_}
 use Prim.Native.Nat.{ℕ, _+_, _*_, _^_}
 use lib.Dec.{leb, ltb}

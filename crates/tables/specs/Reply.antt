@@ -1,6 +1,6 @@
 -- What a call answers, and what becomes of the buffers that it is lent (document 01, 'Where each language form goes' and 'Agreement').
 -- Assumes nothing.
-use mathlib.Core.List.{List, [], _∷_, _++_}
+use mathlib.Core.List.{List, [], _++_}
 use Prim.Native.Nat.{ℕ, zero, suc}
 use lib.ListN.{length, drop}
 use Rattle.tables.specs.declared.Outcome.{Outcome}

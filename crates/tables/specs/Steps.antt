@@ -1,6 +1,6 @@
 -- Inner work: one letter's step of the passage between coefficients and values, as a function and as the code's run of stores.
 -- Assumes nothing.
-use mathlib.Core.Bool.{Bool, _&&_}
+use mathlib.Core.Bool.{_&&_}
 use mathlib.Core.List.{List}
 use Prim.Native.Nat.{ℕ, zero, suc, _+_, _-_, _^_}
 use lib.Bits.{bitXor}

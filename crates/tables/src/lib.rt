@@ -215,7 +215,16 @@ pub fn to_values(t: &mut [u8], n: usize)
     }
 }
 
-// The same for each of `count` tables that stand one after another.
+// The values of a table, into a buffer of its own.
+pub fn take_values(n: usize, t: &[u8], out: &mut [u8])
+    requires { ⌜ (n ≤ 10) × IsTable n (now t) × (length (now out) ≡ 2 ^ n) ⌝ }
+    ensures { λ _. ⌜ now (out .exit) ≡ values n (now (t .entry)) ⌝ }
+{
+    copy(out, t);
+    to_values(out, n);
+}
+
+// The values in place for each of `count` tables that stand one after another.
 pub fn all_to_values(t: &mut [u8], n: usize, count: usize)
     requires { ⌜ (n ≤ 10) × (count ≤ 6) × (length (now t) ≡ count * 2 ^ n) × AreBits (now t) ⌝ }
     ensures { λ _. ⌜ now (t .exit) ≡ answerTable count n (λ j. value n (held n (now (t .entry)) j)) ⌝ }

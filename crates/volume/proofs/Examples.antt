@@ -4,13 +4,13 @@ use mathlib.Core.Path.{_≡_, refl}
 use mathlib.Core.List.{List, [], _∷_, _++_}
 use Prim.Native.Nat.{ℕ}
 use Rattle.ring.specs.Letters.{bit, point}
-use Rattle.ring.specs.Polynomial.{count, odd, within, value, constant, letter, sum, product, restrict, monomial, substitute}
+use Rattle.ring.specs.Polynomial.{count, odd, within, value, constant, letter, sum, product, restrict, monomial, substitute, everyBelow}
 use Rattle.ring.specs.Table.{present, tabulate, table, answerTable}
+use Rattle.ring.specs.Lists.{listed}
 use Rattle.tables.specs.Questions.{firstNo, lettersFit}
 use Rattle.tables.specs.Reply.{Reply, accepted, refused}
 use Rattle.order.specs.Order.{letters, before}
-use Rattle.solution.specs.Substitution.{listed}
-use Rattle.solution.specs.Elimination.{nextCondition, remains, answerFrom, booleAnswers, defaultOrder, everyBelow, smallestBelow, blocked, smallestBlocked, isZero, solvable, solve}
+use Rattle.solution.specs.Elimination.{nextCondition, remains, answerFrom, booleAnswers, defaultOrder, smallestBelow, blocked, smallestBlocked, isZero, solvable, solve}
 use Rattle.entry.specs.Record.{bytes}
 use Rattle.entry.specs.Held.{next, firstRecords, records, hasMonomial, conditionIn, answersIn, unlessNone, heldCondition, heldVerdict}
 use Rattle.entry.specs.Questions.{routeFits, hasEnd, mayFollow, kindsFollow, kindsFit, allInBounds, standsBefore, inOrder, allInOrder, numbersFit, entryQuestions, sameBytes, solvedAfresh, answersHold, auditQuestions}

@@ -13,7 +13,7 @@ use lib.Dec.{eqb, leb}
 use lib.ListN.{length, drop, length-drop, length-append, take-append-drop, drop-of-length-le}
 use lib.Seq.{drop-at}
 use borrow.Author.Tests.{eqb-true, leb-true, ltb-true, lt-ltb}
-use Rattle.order.proofs.Lists.{and-left, bool-cases, or-right}
+use Rattle.ring.proofs.Bool.{and-left, bool-cases, or-right}
 use Rattle.tables.specs.Questions.{firstNo}
 use Rattle.tables.specs.Reply.{Reply, accepted, refused}
 use Rattle.entry.specs.Record.{AreBytes, bytes}

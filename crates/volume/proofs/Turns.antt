@@ -11,7 +11,7 @@ use lib.Seq.{drop-drop}
 use Rattle.tables.specs.Questions.{firstNo}
 use Rattle.tables.specs.Reply.{Reply, accepted, refused, reply}
 use Rattle.tables.proofs.FirstNo.{first-counts}
-use Rattle.tables.proofs.Reply.{reply-refused, reply-accepted}
+use Rattle.tables.proofs.Reply.{reply-refused, reply-accepted, accepted-is, refused-is}
 use Rattle.entry.specs.Record.{bytes}
 use Rattle.entry.specs.Held.{records, routeOf}
 use Rattle.entry.specs.Questions.{auditQuestions}
@@ -22,7 +22,6 @@ use Rattle.reader.specs.Reading.{readValues}
 use Rattle.audit.specs.declared.Audited.{Audited}
 use Rattle.audit.specs.declared.Audited.the-variants.{Passed, Refused}
 use Rattle.audit.specs.Audit.{auditRefusal, auditReply, audited, stateSaid}
-use Rattle.audit.proofs.Passing.{accepted-is, refused-is}
 use Rattle.volume.specs.Walk.{routeRises, walkQuestions, walkRefusal, atEntry, walkBehind, walkReply}
 use Rattle.volume.proofs.Walking.{then-15, passed-some, walk-end, walk-on}
 

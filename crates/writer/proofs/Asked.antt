@@ -11,7 +11,8 @@ use lib.Seq.{length-take-le}
 use borrow.Author.Tests.{le-leb, lt-leb, leb-true}
 use Rattle.tables.specs.Questions.{asks, firstNo, lettersFit, hasRoom, holdsBits}
 use Rattle.tables.specs.Reply.{reply, after}
-use Rattle.tables.proofs.Bits.{both-left, both-right, are-bits}
+use Rattle.ring.proofs.Bool.{and-left, and-right}
+use Rattle.tables.proofs.Bits.{are-bits}
 use Rattle.tables.proofs.FirstNo.{yes-to, first-counts}
 use Rattle.tables.proofs.Questions.{letters-small, unknowns-small}
 use Rattle.tables.proofs.Reply.{reply-refused, reply-accepted, after-refused, after-done}
@@ -72,7 +73,7 @@ module _ (route U G : ℕ) (t : List ℕ) where
 
     pub fine-route : route ≤ 250
     unfolding routeFits
-    fine-route = leb-true route 250 (both-right (leb 1 route) (leb route 250) (all-yes .route-fits))
+    fine-route = leb-true route 250 (and-right (leb 1 route) (leb route 250) (all-yes .route-fits))
 
     pub fine-room : {k : ℕ} → k ≡ 2 ^ (U + G) → k ≤ length t
     fine-room ek = rw ek (all-yes .room)
@@ -82,7 +83,7 @@ module _ (route U G : ℕ) (t : List ℕ) where
     fine-ready {k} ek =
         record {
           unknowns = unknowns-small U G (all-yes .letters);
-          givens = leb-true _ _ (both-left (leb G 8) (leb (U + G) 10) (both-right (leb U 6) _ (all-yes .letters)));
+          givens = leb-true _ _ (and-left (leb G 8) (leb (U + G) 10) (and-right (leb U 6) _ (all-yes .letters)));
           letters = fine-small;
           table = rw ek (record { size = length-take-le (2 ^ (U + G)) t (all-yes .room); bits = are-bits (take (2 ^ (U + G)) t) (all-yes .bits) });
         }

@@ -3,7 +3,8 @@ use mathlib.Core.Path.{sym}
 use native.Mathlib.Omega.{arith}
 use lib.Seq.{length-take-le}
 use borrow.Author.Needs.{needs}
-use Rattle.notation.proofs.Values.{turns-few, words-enough, symbols-whole, points-table, values-text}
+use Rattle.ring.proofs.Table.{tabulate-is-table}
+use Rattle.notation.proofs.Values.{turns-few, words-enough, symbols-whole, values-text}
 use Rattle.notation.proofs.read_table.Statement.{statement}
 use Rattle.notation.proofs.read_table.Tie as tie
 
@@ -27,7 +28,7 @@ to-values-requires : tie.Need-to-values-requires
 to-values-requires c κs =
     let filled = c .before .before .before .before in
     let pre = filled .before .before .before .before .before .before .before .before .before .pre in
-    (pre .small, points-table _ _ _ _ (filled .fill-points .ensures) (pre .size))
+    (pre .small, tabulate-is-table _ _ _ _ (filled .fill-points .ensures) (pre .size))
 
 returns : tie.Need-returns
 returns c =

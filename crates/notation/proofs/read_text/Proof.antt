@@ -5,7 +5,7 @@ use native.Mathlib.Omega.{arith}
 use lib.ListN.{length}
 use lib.Seq.{length-take-le}
 use borrow.Author.Needs.{needs}
-use Rattle.tables.proofs.Reply.{reply-refused, reply-accepted, after-refused, after-done}
+use Rattle.tables.proofs.Reply.{call-refused, call-done}
 use Rattle.notation.proofs.Refusal.{Fine, fine, fine-small, fine-room, ready, table-length}
 use Rattle.notation.proofs.read_text.Statement.{statement}
 use Rattle.notation.proofs.read_text.Tie as tie
@@ -13,7 +13,7 @@ use Rattle.notation.proofs.read_text.Tie as tie
 returns : tie.Need-returns
 returns c =
     let e = c .before .text-refusal .ensures in
-    (reply-refused _ _ e [] (c .if1 .taken), after-refused _ _ e _ _ (c .if1 .taken))
+    call-refused _ _ e [] _ _ (c .if1 .taken)
 
 -- no question is answered no
 yes : (c : tie.Else1) → Fine (c .before .before .before .before .args .unknowns) (c .before .before .before .before .args .givens) (c .before .before .before .before .args .text .now) (length (c .before .before .before .before .args .condition .now))
@@ -31,7 +31,7 @@ returns-2 c =
     let power = read .before .before in
     let e = power .before .before .text-refusal .ensures in
     let z = power .before .if1 .left in
-    (reply-accepted _ _ e [] z, after-done _ _ e _ _ _ _ z (read .read-table .ensures) (table-length _ _ _ _ (power .pow2 .ensures)))
+    call-done _ _ e [] _ _ _ _ z (read .read-table .ensures) (table-length _ _ _ _ (power .pow2 .ensures))
 
 pub read-text-spec : {M : Type 1} → statement M
 read-text-spec =

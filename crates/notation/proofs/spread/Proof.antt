@@ -4,7 +4,8 @@ use Prim.Native.Nat.{ℕ, _≤_, _-_, _/_, _%_}
 use borrow.Author.Needs.{needs}
 use lib.ListN.{length, getD, length-set}
 use Rattle.ring.specs.Letters.{digit, bit}
-use Rattle.tables.proofs.Filled.{filled, filled-start, filled-more, filled-end, tabulate-listed}
+use Rattle.ring.proofs.Lists.{tabulate-listed}
+use Rattle.tables.proofs.Filled.{filled, filled-start, filled-more, filled-end}
 use Rattle.notation.proofs.Values.{bit-byte}
 use Rattle.notation.proofs.spread.Statement.{statement}
 use Rattle.notation.proofs.spread.Tie as tie

@@ -1,9 +1,8 @@
 -- `operations::add` meets its contract: a copy, and the other table added to it.
 -- Assumes nothing.
-use mathlib.Core.Path.{_≡_}
-use native.Mathlib.Omega.{arith}
 use borrow.Author.Needs.{needs}
-use Rattle.operations.proofs.Work.{same-is-table, sum-done}
+use Rattle.ring.proofs.Table.{same-is-table}
+use Rattle.operations.proofs.Work.{sum-done}
 use Rattle.operations.proofs.add.Statement.{statement}
 use Rattle.operations.proofs.add.Tie as tie
 

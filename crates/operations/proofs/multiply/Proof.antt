@@ -1,6 +1,6 @@
 -- `operations::multiply` meets its contract: the scratch table has room for 2 ^ n bytes.
 -- Assumes nothing.
-use mathlib.Core.Path.{_≡_, sym, _∙_}
+use mathlib.Core.Path.{sym, _∙_}
 use borrow.Author.Needs.{needs}
 use lib.Seq.{length-take-le}
 use Rattle.tables.proofs.Steps.{pow-small}

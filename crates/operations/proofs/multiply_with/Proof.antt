@@ -1,9 +1,9 @@
 -- `operations::multiply_with` meets its contract: both tables to their values, their product point by point, and back.
 -- Assumes nothing.
-use mathlib.Core.Path.{_≡_, sym, _∙_}
-use native.Mathlib.Omega.{arith}
+use mathlib.Core.Path.{sym, _∙_}
 use borrow.Author.Needs.{needs}
-use Rattle.operations.proofs.Work.{same-is-table, values-is-table, tabulate-is-table, product-done}
+use Rattle.ring.proofs.Table.{same-is-table, values-is-table, tabulate-is-table}
+use Rattle.operations.proofs.Work.{product-done}
 use Rattle.operations.proofs.multiply_with.Statement.{statement}
 use Rattle.operations.proofs.multiply_with.Tie as tie
 

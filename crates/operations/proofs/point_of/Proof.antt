@@ -4,7 +4,7 @@ use mathlib.Core.Path.{_≡_, refl}
 use Prim.Native.Nat.{_≤_, _<_, _-_, _+_, _*_, _/_, _^_}
 use native.Mathlib.Omega.{arith}
 use borrow.Author.Needs.{needs}
-use lib.ListN.{length, getD}
+use lib.ListN.{length}
 use Rattle.ring.specs.Table.{held}
 use Rattle.operations.specs.LookUp.{stacked}
 use Rattle.operations.proofs.LookUp.{held-byte, stacked-start, stacked-more, stacked-end, bits-start, bits-more, bits-end, small-point, part-index}

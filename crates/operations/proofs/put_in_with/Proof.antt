@@ -1,10 +1,10 @@
 -- `operations::put_in_with` meets its contract: values of the condition and of each handed polynomial, looked up at every point, and back.
 -- Assumes nothing.
-use mathlib.Core.Path.{_≡_, ap, _∙_}
+use mathlib.Core.Path.{ap, _∙_}
 use native.Mathlib.Omega.{arith}
 use borrow.Author.Needs.{needs}
 use lib.ListN.{length}
-use Rattle.operations.proofs.Work.{same-is-table, values-is-table, tabulate-is-table, answers-length, answers-bits, same-bits}
+use Rattle.ring.proofs.Table.{same-is-table, values-is-table, tabulate-is-table, answers-length, answers-bits, same-bits}
 use Rattle.operations.proofs.LookUp.{substitute-done}
 use mathlib.Core.Path.{refl}
 use Rattle.operations.proofs.put_in_with.Statement.{statement}

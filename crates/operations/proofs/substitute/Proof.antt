@@ -1,13 +1,13 @@
 -- `operations::substitute` meets its contract: refused with nothing changed, or the handed polynomials put into the part that counts.
 -- Assumes nothing.
-use mathlib.Core.Path.{_≡_, sym, ap, _∙_}
+use mathlib.Core.Path.{sym, _∙_}
 use Prim.Native.Nat.{_*_, _≤_}
 use native.Mathlib.Omega.{arith}
 use borrow.Author.Needs.{needs}
 use lib.ListN.{length}
 use lib.Seq.{length-take-le}
 use Rattle.tables.proofs.Questions.{Fine, fine, first-table, second-length, second-are-bits}
-use Rattle.tables.proofs.Reply.{reply-refused, reply-accepted, after-refused, after-done}
+use Rattle.tables.proofs.Reply.{call-refused, call-done}
 use Rattle.operations.specs.Calls.{substituteRefusal}
 use Rattle.operations.proofs.Calls.{substitute-whole, length-substitute}
 use Rattle.operations.proofs.substitute.Statement.{statement}
@@ -15,10 +15,7 @@ use Rattle.operations.proofs.substitute.Tie as tie
 
 returns : tie.Need-returns
 unfolding substituteRefusal
-returns c = (
-  reply-refused _ _ (c .before .table-refusal .ensures) _ (c .if1 .taken),
-  after-refused _ _ (c .before .table-refusal .ensures) _ _ (c .if1 .taken),
-)
+returns c = call-refused _ _ (c .before .table-refusal .ensures) _ _ _ (c .if1 .taken)
 
 -- no question is answered no
 all-yes : (c : tie.Else1)
@@ -50,11 +47,9 @@ unfolding substituteRefusal
 returns-2 c =
     let worked = c .before .before in
     let known = worked .before .before .before .before in
-    let asked = known .before .before in (
-      reply-accepted _ _ (asked .table-refusal .ensures) _ (known .before .if1 .left),
-      after-done _ _ (asked .table-refusal .ensures) _ _ _ _ (known .before .if1 .left)
-          (worked .put-in .ensures ∙ substitute-whole _ _ _ _ _ (known .pow2 .ensures)) (length-substitute _ _ _ _ _ (known .pow2 .ensures)),
-    )
+    let asked = known .before .before in
+    call-done _ _ (asked .table-refusal .ensures) _ _ _ _ _ (known .before .if1 .left)
+    (worked .put-in .ensures ∙ substitute-whole _ _ _ _ _ (known .pow2 .ensures)) (length-substitute _ _ _ _ _ (known .pow2 .ensures))
 
 pub substitute-spec : {M : Type 1} → statement M
 substitute-spec =

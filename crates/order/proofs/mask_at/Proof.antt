@@ -8,7 +8,8 @@ use borrow.Author.Needs.{needs}
 use lib.ListN.{getD}
 use Rattle.order.specs.Order.{order}
 use Rattle.order.specs.Place.{choose, AreCounts}
-use Rattle.order.proofs.Lists.{listed, getD-listed}
+use Rattle.ring.specs.Lists.{listed}
+use Rattle.ring.proofs.Lists.{getD-listed}
 use Rattle.order.proofs.Places.{placed, maskAt, mask-at-place}
 use Rattle.order.proofs.Steps.{placed-here, placed-next, placed-end}
 use Rattle.order.proofs.mask_at.Statement.{statement}
@@ -16,11 +17,11 @@ use Rattle.order.proofs.mask_at.Tie as tie
 
 -- the table in the code is the list, computed, of the counts for 0 to 10 letters
 unfoldable row : ℕ → List ℕ
-row n = listed (choose n) 11
+row n = listed 11 (choose n)
 
-are-counts : AreCounts (listed row 11)
+are-counts : AreCounts (listed 11 row)
 unfolding row
-are-counts n k hn hk = ap (λ (l : List ℕ). getD l k 0) (getD-listed row 11 n [] (omega arith)) ∙ getD-listed (choose n) 11 k 0 (omega arith)
+are-counts n k hn hk = ap (λ (l : List ℕ). getD l k 0) (getD-listed 11 row n [] (omega arith)) ∙ getD-listed 11 (choose n) k 0 (omega arith)
 
 abbrev Inv-loop : tie.InvT-loop
 Inv-loop place counts rest₀ k₀ rest k = (AreCounts counts) × (k ≤ 11) × (getD (order 10) place 0 ≡ placed (11 - k) k rest)

@@ -3,7 +3,8 @@ use mathlib.Core.Path.{_≡_, refl, _∙_}
 use Prim.Native.Nat.{_≤_, _-_}
 use borrow.Author.Needs.{needs}
 use lib.ListN.{length}
-use Rattle.tables.proofs.Filled.{filled, filled-start, filled-more, filled-end, listed-tabulate}
+use Rattle.ring.proofs.Lists.{listed-tabulate}
+use Rattle.tables.proofs.Filled.{filled, filled-start, filled-more, filled-end}
 use Rattle.reader.proofs.clear.Statement.{statement}
 use Rattle.reader.proofs.clear.Tie as tie
 

@@ -8,7 +8,7 @@ use borrow.Author.Needs.{needs}
 use lib.ListN.{length}
 use lib.Seq.{length-take-le}
 use Rattle.tables.proofs.Questions.{Fine, fine, first-table, second-length, second-are-bits}
-use Rattle.tables.proofs.Reply.{reply-refused, reply-accepted, after-refused, after-done}
+use Rattle.tables.proofs.Reply.{call-refused, call-done}
 use Rattle.tables.proofs.Steps.{pow-small}
 use Rattle.solver.specs.Calls.{handedRefusal}
 use Rattle.solver.proofs.Calls.{handed-whole, length-handed}
@@ -17,7 +17,7 @@ use Rattle.solver.proofs.lowenheim_handed.Tie as tie
 
 returns : tie.Need-returns
 unfolding handedRefusal
-returns c = (reply-refused _ _ (c .before .table-refusal .ensures) _ (c .if1 .taken), after-refused _ _ (c .before .table-refusal .ensures) _ _ (c .if1 .taken))
+returns c = call-refused _ _ (c .before .table-refusal .ensures) _ _ _ (c .if1 .taken)
 
 all-yes : (c : tie.Else1)
     → let start = c .before .before .before .before .before in
@@ -56,11 +56,9 @@ unfolding handedRefusal
 returns-2 c =
     let worked = c .before .before in
     let known = worked .before .before .before .before in
-    let asked = known .before .before in (
-      reply-accepted _ _ (asked .table-refusal .ensures) _ (known .before .if1 .left),
-      after-done _ _ (asked .table-refusal .ensures) _ _ _ _ (known .before .if1 .left)
-          (worked .mix-handed .ensures ∙ handed-whole _ _ _ _ _ (known .pow2 .ensures)) (length-handed _ _ _ _ _ (known .pow2 .ensures)),
-    )
+    let asked = known .before .before in
+    call-done _ _ (asked .table-refusal .ensures) _ _ _ _ _ (known .before .if1 .left)
+    (worked .mix-handed .ensures ∙ handed-whole _ _ _ _ _ (known .pow2 .ensures)) (length-handed _ _ _ _ _ (known .pow2 .ensures))
 
 pub lowenheim-handed-spec : {M : Type 1} → statement M
 lowenheim-handed-spec =

@@ -8,8 +8,9 @@ use lib.Pow.{pow-pos}
 use lib.ListN.{length}
 use Rattle.ring.specs.Letters.{digit}
 use Rattle.tables.proofs.Filled.{filled, filled-start, filled-more, filled-read}
-use Rattle.solver.specs.Rows.{mixedBit}
-use Rattle.solver.proofs.Answers.{point-lt, unknown-lt, filled-whole, mixed-byte}
+use Rattle.elimination.proofs.Answers.{point-lt, unknown-lt, filled-whole}
+use Rattle.solver.specs.Handed.{mixedBit}
+use Rattle.solver.proofs.Handed.{mixed-byte}
 use Rattle.solver.proofs.mix.Statement.{statement}
 use Rattle.solver.proofs.mix.Tie as tie
 

@@ -4,7 +4,9 @@ use Prim.Native.Nat.{_+_, _*_, _^_, _≤_}
 use native.Mathlib.Nat.{mul-le-mul-right}
 use native.Mathlib.Omega.{arith}
 use borrow.Author.Needs.{needs}
-use Rattle.solver.proofs.Answers.{same-length, same-bits, answers-bits, answers-length, values-is-table, spread-bits, spread-length, mixed-done}
+use Rattle.ring.proofs.Table.{same-bits, answers-bits, answers-length, values-is-table}
+use Rattle.elimination.proofs.Answers.{spread-bits, spread-length}
+use Rattle.solver.proofs.Handed.{same-length, mixed-done}
 use Rattle.solver.proofs.mix_handed_with.Statement.{statement}
 use Rattle.solver.proofs.mix_handed_with.Tie as tie
 

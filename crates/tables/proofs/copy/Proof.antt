@@ -4,7 +4,8 @@ use mathlib.Core.Path.{_≡_, refl, _∙_}
 use Prim.Native.Nat.{_≤_, _-_}
 use borrow.Author.Needs.{needs}
 use lib.ListN.{length, getD}
-use Rattle.tables.proofs.Filled.{filled, filled-start, filled-more, filled-end, listed-getD}
+use Rattle.ring.proofs.Lists.{listed-getD}
+use Rattle.tables.proofs.Filled.{filled, filled-start, filled-more, filled-end}
 use Rattle.tables.proofs.copy.Statement.{statement}
 use Rattle.tables.proofs.copy.Tie as tie
 

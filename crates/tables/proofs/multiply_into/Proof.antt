@@ -4,7 +4,7 @@ use mathlib.Core.Path.{_≡_, refl}
 use Prim.Native.Nat.{_≤_, _-_}
 use borrow.Author.Needs.{needs}
 use lib.Bits.{bitAnd}
-use lib.ListN.{length, getD}
+use lib.ListN.{length}
 use Rattle.ring.specs.Table.{present}
 use Rattle.tables.proofs.Bits.{and-bytes}
 use Rattle.tables.proofs.Filled.{filled, filled-start, combined, combined-more, combined-end}

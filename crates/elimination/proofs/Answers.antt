@@ -1,0 +1,65 @@
+-- Loops over a whole answer table: byte i belongs to unknown i / 2 ^ n and point i % 2 ^ n.
+-- Then the tables that come back from the bits of the points.
+-- Assumes nothing.
+use mathlib.Core.Path.{_≡_, refl, ap, _∙_}
+use mathlib.Core.Bool.{Bool}
+use mathlib.Core.List.{List}
+use Prim.Native.Nat.{ℕ, _+_, _-_, _*_, _/_, _%_, _^_, _≤_, _<_}
+use native.Mathlib.Nat.{div-lt-iff-lt-mul, mod-lt, lt-of-lt-of-le}
+use native.Mathlib.Decide.{ℕ-discrete}
+use native.Mathlib.Omega.{arith}
+use lib.Bits.{bitAnd, and-mask}
+use lib.Pow.{pow-pos}
+use lib.ListN.{length, getD, set}
+use lib.Seq.{getD-set-same, getD-set-other}
+use Rattle.ring.specs.Letters.{digit, bit}
+use Rattle.ring.specs.Polynomial.{value}
+use Rattle.ring.specs.Table.{AreBits, tabulate, held, answerTable}
+use Rattle.ring.proofs.Value.{value-cong}
+use Rattle.ring.proofs.Table.{bits-tabulate, length-tabulate, held-answerTable, answerTable-cong}
+use Rattle.ring.proofs.Lists.{listed-tabulate}
+use Rattle.tables.proofs.Filled.{filled, filled-end}
+use Rattle.elimination.specs.Rows.{Lists, spreadBit}
+
+-- the point of byte i, as the code finds it, and its unknown
+pub point-index : (n k i : ℕ) → k ≡ 2 ^ n → bitAnd i (k - 1) ≡ i % 2 ^ n
+point-index n k i e = ap (λ (x : ℕ). bitAnd i (x - 1)) e ∙ and-mask i n
+
+pub point-lt : (n k i : ℕ) → k ≡ 2 ^ n → bitAnd i (k - 1) < 2 ^ n
+point-lt n k i e = rw (point-index n k i e) (mod-lt i (pow-pos n))
+
+pub unknown-lt : (n i size : ℕ) → i < size → size ≤ 6 * 2 ^ n → i / 2 ^ n < 6
+unknown-lt n i size l h = div-lt-iff-lt-mul (pow-pos n) .1 (lt-of-lt-of-le l h)
+
+-- such a loop once it has ended
+pub filled-whole : (h : ℕ → Bool) (xs t : List ℕ) (i : ℕ) → t ≡ filled i (λ m. digit (h m)) xs → i ≤ length xs → length xs ≤ i → t ≡ tabulate (length xs) h
+filled-whole h xs t i e l k = filled-end i (λ m. digit (h m)) xs t e l k ∙ listed-tabulate (length xs) (λ m. digit (h m)) h (λ m _. refl)
+
+pub spread-byte : (n k i v : ℕ) (points : List ℕ) → k ≡ 2 ^ n → v ≡ digit (bit (getD points (bitAnd i (k - 1)) 0) (i / 2 ^ n)) → v ≡ digit (spreadBit n points i)
+unfolding spreadBit
+spread-byte n k i v points e ev = ev ∙ ap (λ (x : ℕ). digit (bit (getD points x 0) (i / 2 ^ n))) (point-index n k i e)
+
+-- the points, found one after another
+pub listed-more : (h : ℕ → ℕ) (points : List ℕ) (p v : ℕ) → p < length points → ((m : ℕ) → m < p → getD points m 0 ≡ h m) → v ≡ h p
+    → (m : ℕ) → m < p + 1 → getD (set points p v) m 0 ≡ h m
+listed-more h points p v l before e m lm = go (ℕ-discrete m p)
+  where
+    go : Dec (m ≡ p) → getD (set points p v) m 0 ≡ h m
+    go (yes q) = rw q (getD-set-same points p v 0 l ∙ e)
+    go (no q) = getD-set-other points p m v 0 q ∙ before m (omega arith)
+
+-- the values of the answers are 0 or 1, and as many as the answers have bytes
+pub spread-bits : (k : ℕ) (h : ℕ → Bool) (t : List ℕ) → t ≡ tabulate k h → AreBits t
+spread-bits k h t e m = rw e (bits-tabulate k h m)
+
+pub spread-length : (k size : ℕ) (h : ℕ → Bool) (t : List ℕ) → t ≡ tabulate k h → k ≡ size → length t ≡ size
+spread-length k size h t e es = ap length e ∙ length-tabulate k h ∙ es
+
+pub spread-done : (u n k : ℕ) (h : ℕ → ℕ) (points a₁ a₂ : List ℕ) → Lists (2 ^ n) h points → a₁ ≡ tabulate k (spreadBit n points) → k ≡ u * 2 ^ n
+    → a₂ ≡ answerTable u n (λ j. value n (held n a₁ j)) → a₂ ≡ answerTable u n (λ j. value n (λ p. bit (h p) j))
+unfolding spreadBit answerTable
+spread-done u n k h points a₁ a₂ l e₁ ek e₂ =
+    let whole : a₁ ≡ answerTable u n (λ j p. bit (getD points p 0) j) = e₁ ∙ ap (λ (x : ℕ). tabulate x (λ i. bit (getD points (i % 2 ^ n) 0) (i / 2 ^ n))) ek in
+    e₂
+    ∙ answerTable-cong u n _ _ (λ j m hj hm. value-cong n _ _ m (λ p hp.
+    ap (λ (t : List ℕ). held n t j p) whole ∙ held-answerTable u n (λ j p. bit (getD points p 0) j) j p hj hp ∙ ap (λ (x : ℕ). bit x j) (l .at p hp)))

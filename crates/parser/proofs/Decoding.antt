@@ -1,0 +1,141 @@
+-- Decoding: the laws of `symbol` for bytes, by computed tests, and the loops over a text.
+-- Assumes nothing.
+use mathlib.Core.Path.{_≡_, refl, ap, _∙_, sym}
+use mathlib.Core.Bool.{Bool, true, false, not, _&&_, _||_, cond, Bool·beq, false≢true}
+use mathlib.Core.List.{List, [], _∷_, _++_, append-nil}
+use Prim.Native.Nat.{ℕ, _+_, _-_, _≤_, _<_}
+use native.Mathlib.Numerals.{add-one}
+use native.Mathlib.Omega.{arith}
+use borrow.Author.Tests.{eq-eqb, ne-eqb, eqb-true, lt-ltb, le-ltb, not-true, not-false}
+use lib.Dec.{eqb, ltb}
+use lib.ListN.{length, getD, take, drop, set, length-set, drop-of-length-le}
+use lib.Seq.{take-suc, take-suc-set, take-all, drop-cons}
+use Rattle.ring.specs.Polynomial.{everyBelow}
+use Rattle.ring.proofs.Bool.{and-left, and-right, same-bool}
+use Rattle.ring.proofs.Every.{every-all}
+use Rattle.grammar.specs.Symbols.{space, foreign, isUnknown, isGiven, isSingle, symbol, symbols, isSign, every, isDeclared}
+
+-- ---- one byte
+
+-- the bytes from lo on, k of them, have the symbols that g gives them
+pub by-test : (g : ℕ → ℕ) (lo k : ℕ) → everyBelow k (λ i. eqb (g (lo + i)) (symbol (lo + i))) ≡ true → (c : ℕ) → lo ≤ c → c < lo + k → g c ≡ symbol c
+by-test g lo k h c a b =
+    let e : lo + (c - lo) ≡ c = omega arith in
+    let t = every-all k (λ i. eqb (g (lo + i)) (symbol (lo + i))) h (c - lo) (omega arith) in
+    eqb-true (g c) (symbol c) (simp e at t)
+
+-- they are all foreign but for one
+pub foreign-test : (lo k sign : ℕ) → everyBelow k (λ i. eqb (lo + i) sign || eqb foreign (symbol (lo + i))) ≡ true
+    → (c : ℕ) → lo ≤ c → c < lo + k → (c ≡ sign → ⊥) → foreign ≡ symbol c
+foreign-test lo k sign h c a b n =
+    let e : lo + (c - lo) ≡ c = omega arith in
+    let t = every-all k (λ i. eqb (lo + i) sign || eqb foreign (symbol (lo + i))) h (c - lo) (omega arith) in
+    eqb-true foreign (symbol c) (simp (e, ne-eqb c sign n) at t)
+
+or-false : (a b : Bool) → a ≡ false → a || b ≡ true → b ≡ true
+or-false true b e h = absurd (false≢true (sym e))
+or-false false b e h = h
+
+pub space-sign : (c : ℕ) → c ≡ space → true ≡ isSign c
+unfolding isSign
+space-sign c e = rw (eq-eqb c space e)
+
+-- a byte that is no space is a sign exactly where it has a symbol of its own
+pub sign-symbol : (r c : ℕ) → r ≡ symbol c → c < 256 → (c ≡ space → ⊥) → not (eqb r foreign) ≡ isSign c
+unfolding everyBelow symbol isSign isUnknown isGiven isSingle
+sign-symbol r c e h n =
+    rw e (same-bool (not (eqb (symbol c) foreign)) (isSign c) (or-false (eqb c space) (Bool·beq (not (eqb (symbol c) foreign)) (isSign c)) (ne-eqb c space n)
+    (every-all 256 (λ c. eqb c space || Bool·beq (not (eqb (symbol c) foreign)) (isSign c)) refl c h)))
+
+-- the symbols below 8 are those of unknowns, those from 8 to 15 of givens
+abbrev kindsRight : ℕ → Bool
+kindsRight c = cond (ltb (symbol c) 8) (isUnknown c) (not (isUnknown c) && Bool·beq (ltb (symbol c) 16) (isGiven c))
+
+kinds-right : (c : ℕ) → c < 256 → kindsRight c ≡ true
+unfolding everyBelow symbol isUnknown isGiven isSingle
+kinds-right c h = every-all 256 kindsRight refl c h
+
+module _ (U G r c : ℕ) (e : r ≡ symbol c) (h : c < 256) where
+  pub unknown-declared : r < 8 → ltb r U ≡ isDeclared U G c
+  unfolding symbol isDeclared
+  unknown-declared l =
+      let u : isUnknown c ≡ true = rw (lt-ltb (symbol c) 8 (rw e at l)) at (kinds-right c h) in
+      rw e (rw u)
+
+  not-unknown : 8 ≤ r → (isUnknown c ≡ false) × (ltb r 16 ≡ isGiven c)
+  not-unknown a =
+      let b : (not (isUnknown c) && Bool·beq (ltb (symbol c) 16) (isGiven c)) ≡ true = rw (le-ltb (symbol c) 8 (rw e at a)) at (kinds-right c h) in
+      (not-true (isUnknown c) (and-left (not (isUnknown c)) _ b), rw e (same-bool _ _ (and-right (not (isUnknown c)) _ b)))
+
+  pub given-declared : 8 ≤ r → r < 16 → ltb (r - 8) G ≡ isDeclared U G c
+  unfolding symbol isDeclared
+  given-declared a b =
+      let n = not-unknown a in
+      let g : isGiven c ≡ true = sym (n .1) ∙ lt-ltb r 16 b in
+      let s : 8 + (c - 97) - 8 ≡ c - 97 = omega arith in
+      rw e (rw (n .0, g) (ap (λ (x : ℕ). ltb x G) s))
+
+  pub other-declared : 16 ≤ r → true ≡ isDeclared U G c
+  unfolding isDeclared
+  other-declared a =
+      let n = not-unknown (omega arith) in
+      let g : isGiven c ≡ false = sym (n .1) ∙ le-ltb r 16 a in
+      rw (n .0, g)
+
+-- ---- questions 5 and 6, a byte at a time
+module _ (test : ℕ → Bool) (text : List ℕ) (i : ℕ) (left : every test text ≡ every test (drop i text)) where
+  pub every-end : length text ≤ i → true ≡ every test text
+  unfolding every
+  every-end h = let e : drop i text ≡ [] = drop-of-length-le text h in sym (left ∙ rw e)
+
+  module _ (h : i < length text) (r : Bool) (asked : r ≡ test (getD text i 0)) where
+    next : every test text ≡ (test (getD text i 0) && every test (drop (i + 1) text))
+    unfolding every
+    next = left ∙ rw (add-one, drop-cons text i 0)
+
+    pub every-more : not r ≡ false → every test text ≡ every test (drop (i + 1) text)
+    every-more n = next ∙ rw (sym asked ∙ not-false r n)
+
+    pub every-fails : not r ≡ true → false ≡ every test text
+    every-fails n = sym (next ∙ rw (sym asked ∙ not-true r n))
+
+-- ---- the symbols of a text, a byte at a time
+pub record Decoding (text out₀ out : List ℕ) (n i : ℕ) : Type 0 where
+  pub read : i ≤ length text
+  pub fewer : n ≤ i
+  pub same : length out ≡ length out₀
+  pub written : take n out ≡ symbols (take i text)
+
+pub decoding : (text out : List ℕ) → Decoding text out out 0 0
+unfolding symbols
+decoding text out = record { read = omega arith; fewer = omega arith; same = refl; written = refl }
+
+pub decoded : (text out₀ out : List ℕ) (n i : ℕ) → Decoding text out₀ out n i → length text ≤ i → length text ≤ length out₀ → (n ≤ length out) × (take n out ≡ symbols text)
+decoded text out₀ out n i d h k = (omega (arith, d .fewer, d .read, d .same), d .written ∙ ap symbols (take-all i text h))
+
+cond-append : (b : Bool) (x : ℕ) (l m : List ℕ) → cond b (l ++ m) (x ∷ (l ++ m)) ≡ cond b l (x ∷ l) ++ m
+cond-append true x l m = refl
+cond-append false x l m = refl
+
+symbols-append : (l m : List ℕ) → symbols (l ++ m) ≡ symbols l ++ symbols m
+unfolding symbols
+symbols-append [] m = refl
+symbols-append (c ∷ l) m = rw (symbols-append l m) (cond-append (eqb c space) (symbol c) (symbols l) (symbols m))
+
+module _ (text out₀ out : List ℕ) (n i : ℕ) (d : Decoding text out₀ out n i) (h : i < length text) where
+  one-more : symbols (take (i + 1) text) ≡ symbols (take i text) ++ symbols (getD text i 0 ∷ [])
+  one-more = rw (add-one, take-suc text i 0) (symbols-append (take i text) (getD text i 0 ∷ []))
+
+  pub past-space : getD text i 0 ≡ space → Decoding text out₀ out n (i + 1)
+  unfolding symbols
+  past-space q = record { read = omega arith; fewer = omega (arith, d .fewer); same = d .same; written = d .written ∙ sym (one-more ∙ rw (eq-eqb _ _ q) (append-nil _)) }
+
+  pub past-symbol : (getD text i 0 ≡ space → ⊥) → length text ≤ length out₀ → Decoding text out₀ (set out n (symbol (getD text i 0))) (n + 1) (i + 1)
+  unfolding symbols
+  past-symbol q k =
+      record {
+        read = omega arith;
+        fewer = omega (arith, d .fewer);
+        same = simp length-set (d .same);
+        written = rw (add-one n, take-suc-set out n _ (omega (arith, d .fewer, d .same)), d .written) (sym (one-more ∙ rw (ne-eqb _ _ q)));
+      }

@@ -1,0 +1,4 @@
+pub mod Words
+mod Decoding
+mod Readers
+mod Whole
