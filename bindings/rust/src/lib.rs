@@ -1,0 +1,3 @@
+//! Safe calls into the proved library of the thirty-year route volume.
+
+pub mod raw;
