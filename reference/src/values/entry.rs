@@ -31,7 +31,7 @@ pub fn each_record(route: u8, letters: Letters, condition: &[u8], mut put: impl 
 /// Fewer letters first; the sort keeps smaller masks before larger ones.
 fn written_order(letters: Letters) -> Vec<u16> {
     let mut masks: Vec<u16> = (0..letters.table_length() as u16).collect();
-    masks.sort_by_cached_key(|mask| mask.count_ones());
+    masks.sort_by_key(|mask| mask.count_ones());
     masks
 }
 
