@@ -4,6 +4,10 @@ use std::fmt;
 
 /// No text is longer, in bytes.
 pub const LONGEST_TEXT: usize = 200;
+/// No table is longer, in bytes.
+pub const LONGEST_TABLE: usize = 1_024;
+/// No answer table is longer, in bytes.
+pub const LONGEST_ANSWERS: usize = 6_144;
 /// No entry is longer, in bytes.
 pub const LONGEST_ENTRY: usize = 27_654;
 /// The last route; the first is 1.
