@@ -32,6 +32,14 @@ impl fmt::Display for Answer {
 }
 
 /// What an entry says, beside its tables.
+///
+/// ```
+/// use layodegi::{Answer, Entry, Letters};
+///
+/// let letters = Letters { unknowns: 2, givens: 0 };
+/// let entry = Entry { route: 7, letters, answer: Answer::Solved, length: 20 };
+/// assert_eq!(entry.to_string(), "route 7, U 2, G 0, solved, 20 bytes");
+/// ```
 #[derive(Clone, Copy, Debug, PartialEq, Eq, Hash)]
 pub struct Entry {
     /// The route, 1 to 250.
@@ -44,7 +52,6 @@ pub struct Entry {
     pub length: usize,
 }
 
-/// `route 7, U 2, G 0, solved, 19 bytes`
 impl fmt::Display for Entry {
     fn fmt(&self, f: &mut fmt::Formatter) -> fmt::Result {
         let Entry { route, letters: Letters { unknowns, givens }, answer, length } = self;
@@ -53,16 +60,24 @@ impl fmt::Display for Entry {
 }
 
 /// Where a walk stopped: the refusal, and the count of entries passed before it.
+///
+/// ```
+/// use layodegi::{Question, Stopped};
+///
+/// let stopped = Stopped { refusal: Question::RisingRoute.into(), passed: 4 };
+/// let said = "refused 15 after 4 entries: Is the route above the one before?";
+/// assert_eq!(stopped.to_string(), said);
+/// ```
 #[derive(Clone, Copy, Debug, PartialEq, Eq, Hash)]
 pub struct Stopped {
     pub refusal: Refusal,
     pub passed: usize,
 }
 
-/// `refused 15: Is the route above the one before? 4 entries passed before`
 impl fmt::Display for Stopped {
     fn fmt(&self, f: &mut fmt::Formatter) -> fmt::Result {
-        write!(f, "{} {} entries passed before", self.refusal, self.passed)
+        let Stopped { refusal, passed } = self;
+        write!(f, "refused {} after {passed} entries: {}", refusal.number(), refusal.words())
     }
 }
 

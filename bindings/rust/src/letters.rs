@@ -4,6 +4,10 @@ use std::fmt;
 
 /// No text is longer, in bytes.
 pub const LONGEST_TEXT: usize = 200;
+/// No table is longer, in bytes.
+pub const LONGEST_TABLE: usize = 1_024;
+/// No answer table is longer, in bytes.
+pub const LONGEST_ANSWERS: usize = 6_144;
 /// No entry is longer, in bytes.
 pub const LONGEST_ENTRY: usize = 27_654;
 /// The last route; the first is 1.
@@ -20,7 +24,13 @@ pub struct Letters {
 }
 
 impl Letters {
-    /// Question 1: are U at most 6, G at most 8, U + G at most 10?
+    /// Question 1: are U at most 6, G at most 8, n at most 10?
+    ///
+    /// ```
+    /// # use layodegi::Letters;
+    /// assert!(Letters { unknowns: 2, givens: 8 }.are_permitted());
+    /// assert!(!Letters { unknowns: 3, givens: 8 }.are_permitted());
+    /// ```
     pub fn are_permitted(self) -> bool {
         self.unknowns <= 6 && self.givens <= 8 && self.unknowns + self.givens <= 10
     }
@@ -41,9 +51,15 @@ impl Letters {
     }
 
     /// The bytes of an answer table, or of handed polynomials: U times 2^n.
+    ///
+    /// ```
+    /// # use layodegi::Letters;
+    /// assert_eq!(Letters { unknowns: 6, givens: 4 }.answers_length(), 6144);
+    /// assert_eq!(Letters { unknowns: 0, givens: 4 }.answers_length(), 0);
+    /// ```
     pub fn answers_length(self) -> usize {
-        // U may be any number where there is no table
-        self.unknowns.saturating_mul(self.table_length())
+        // where U is too large for the product there is no table
+        self.unknowns * self.table_length()
     }
 }
 

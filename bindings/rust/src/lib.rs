@@ -44,7 +44,8 @@ mod question;
 pub mod raw;
 
 pub use answer::{Answer, Entry, Stopped};
-pub use letters::{Choice, Letters, State, LAST_ROUTE, LONGEST_ENTRY, LONGEST_TEXT};
+pub use letters::{Choice, Letters, State};
+pub use letters::{LAST_ROUTE, LONGEST_ANSWERS, LONGEST_ENTRY, LONGEST_TABLE, LONGEST_TEXT};
 pub use question::{Question, Refusal};
 
 use answer::Code;

@@ -154,6 +154,14 @@ impl Refusal {
             Refusal::Unknown(number) => number,
         }
     }
+
+    /// The paper's words for the question.
+    pub fn words(self) -> &'static str {
+        match self {
+            Refusal::No(question) => question.words(),
+            Refusal::Unknown(_) => "no question of the paper",
+        }
+    }
 }
 
 impl From<Question> for Refusal {
@@ -164,10 +172,7 @@ impl From<Question> for Refusal {
 
 impl fmt::Display for Refusal {
     fn fmt(&self, f: &mut fmt::Formatter) -> fmt::Result {
-        match self {
-            Refusal::No(question) => write!(f, "refused {}: {question}", question.number()),
-            Refusal::Unknown(number) => write!(f, "refused {number}: no question of the paper"),
-        }
+        write!(f, "refused {}: {}", self.number(), self.words())
     }
 }
 
