@@ -25,7 +25,7 @@ const FEWER_LETTERS: Effort = Effort { rounds: 51, round: Duration::from_millis(
 
 /// The calls of the plot, and what their panels say.
 const PLOTTED: [(&str, &str); 6] = [
-    ("read_text", "reading a text of 200 bytes"),
+    ("read_text", "reading a text"),
     ("product", "product of two tables"),
     ("boole", "Boole's answers"),
     ("lowenheim", "own Löwenheim answers"),
@@ -50,7 +50,7 @@ fn main() {
     let results = report.text();
     print!("{results}");
     write(&folder.join("RESULTS.md"), &results);
-    let plot = plot(NUMBERS_OF_LETTERS, &report.by_letters, &report.subtitle());
+    let plot = plot(NUMBERS_OF_LETTERS, &report.by_letters, &report.machine());
     write(&folder.join("time-by-letters.svg"), &plot);
 }
 

@@ -1,7 +1,6 @@
 //! The plot of time against the number of letters, one panel a call, as an SVG.
 
 use crate::timing::Compared;
-use std::fmt::Write;
 use std::ops::RangeInclusive;
 
 /// A call at each number of letters, from the first on.
@@ -15,208 +14,186 @@ const PANEL_WIDTH: f64 = 250.0;
 const PANEL_HEIGHT: f64 = 200.0;
 const LEFT: f64 = 78.0;
 const TOP: f64 = 112.0;
-const BETWEEN_COLUMNS: f64 = 70.0;
-const BETWEEN_ROWS: f64 = 62.0;
-const BELOW: f64 = 58.0;
 const RIGHT: f64 = 26.0;
+const BOTTOM: f64 = 58.0;
+const COLUMN_STEP: f64 = PANEL_WIDTH + 70.0;
+const ROW_STEP: f64 = PANEL_HEIGHT + 62.0;
 
-/// A way to draw a side: filled circles on a whole line, or open squares on a dashed one.
+const SUBTITLE: &str =
+    "best of the rounds, optimised builds, typical inputs (texts of 180 to 200 bytes)";
+
+const STYLE: &str = "\
+    .title { font-size: 19px; font-weight: bold } \
+    .subtitle { font-size: 13px; fill: #555555 } \
+    .panel { font-size: 14px; font-weight: bold } \
+    .axis { font-size: 13px } \
+    .tick { font-size: 12px; fill: #444444 }";
+
+/// How a side is drawn: filled circles on a whole line, or open squares on a dashed one.
 struct Mark {
     name: &'static str,
     colour: &'static str,
-    dashes: &'static str,
+    is_dashed: bool,
 }
 
-const ENGINE: Mark = Mark { name: "engine", colour: "#0b57a4", dashes: "" };
-const PLAIN: Mark =
-    Mark { name: "plain Rust", colour: "#b8480b", dashes: " stroke-dasharray=\"7 4\"" };
+const ENGINE: Mark = Mark { name: "engine", colour: "#0b57a4", is_dashed: false };
+const PLAIN: Mark = Mark { name: "plain Rust", colour: "#b8480b", is_dashed: true };
 
 /// Where a number of letters and a time stand in a panel.
 struct Axes {
     letters: RangeInclusive<usize>,
-    /// Powers of ten, in nanoseconds.
-    low: i32,
-    high: i32,
+    /// The times at the bottom and at the top, in nanoseconds.
+    low: f64,
+    high: f64,
 }
 
 impl Axes {
+    /// With a little room below and above all times.
+    fn around(letters: RangeInclusive<usize>, series: &[Series]) -> Axes {
+        let points = series.iter().flat_map(|series| &series.points);
+        let times: Vec<f64> = points.flat_map(|p| [p.engine.best, p.plain.best]).collect();
+        let least = times.iter().copied().fold(f64::INFINITY, f64::min);
+        let most = times.iter().copied().fold(0.0, f64::max);
+        let low = steps().take_while(|step| step * 1.15 <= least).last().unwrap_or(1.0);
+        let high = steps().find(|&step| step >= most * 1.15).unwrap_or(most);
+        Axes { letters, low, high }
+    }
+
     fn x(&self, letters: usize) -> f64 {
-        let steps = self.letters.end() - self.letters.start();
-        12.0 + (PANEL_WIDTH - 24.0) * (letters - self.letters.start()) as f64 / steps as f64
+        let (first, last) = (*self.letters.start(), *self.letters.end());
+        12.0 + (PANEL_WIDTH - 24.0) * (letters - first) as f64 / (last - first) as f64
     }
 
     fn y(&self, nanoseconds: f64) -> f64 {
-        let part = (nanoseconds.log10() - self.low as f64) / (self.high - self.low) as f64;
-        PANEL_HEIGHT * (1.0 - part)
+        PANEL_HEIGHT * (self.high / nanoseconds).ln() / (self.high / self.low).ln()
     }
 }
 
-pub fn plot(letters: RangeInclusive<usize>, series: &[Series], subtitle: &str) -> String {
-    let times = || {
-        series.iter().flat_map(|series| &series.points).flat_map(|p| [p.engine.best, p.plain.best])
-    };
-    let least = times().fold(f64::INFINITY, f64::min);
-    let most = times().fold(0.0, f64::max);
-    let axes =
-        Axes { letters, low: least.log10().floor() as i32, high: most.log10().ceil() as i32 };
+/// 1, 2 and 5 times each power of ten, in nanoseconds.
+fn steps() -> impl Iterator<Item = f64> {
+    (0..10).flat_map(|power| [1.0, 2.0, 5.0].map(|step| step * 10f64.powi(power)))
+}
+
+pub fn plot(letters: RangeInclusive<usize>, series: &[Series], machine: &str) -> String {
+    let axes = Axes::around(letters, series);
     let rows = series.len().div_ceil(COLUMNS);
-    let width = LEFT + COLUMNS as f64 * (PANEL_WIDTH + BETWEEN_COLUMNS) - BETWEEN_COLUMNS + RIGHT;
-    let height = TOP + rows as f64 * (PANEL_HEIGHT + BETWEEN_ROWS) - BETWEEN_ROWS + BELOW;
-    let mut svg = String::new();
-    open(&mut svg, width, height, subtitle);
-    for (place, series) in series.iter().enumerate() {
-        let x = LEFT + (place % COLUMNS) as f64 * (PANEL_WIDTH + BETWEEN_COLUMNS);
-        let y = TOP + (place / COLUMNS) as f64 * (PANEL_HEIGHT + BETWEEN_ROWS);
-        add(&mut svg, format!("<g transform=\"translate({x} {y})\">"));
-        panel(&mut svg, &axes, series);
-        add(&mut svg, "</g>".to_string());
-    }
-    let middle = TOP + (height - TOP - BELOW) / 2.0;
-    add(
-        &mut svg,
+    let right = LEFT + (COLUMNS - 1) as f64 * COLUMN_STEP + PANEL_WIDTH;
+    let bottom = TOP + (rows - 1) as f64 * ROW_STEP + PANEL_HEIGHT;
+    let (width, height) = (right + RIGHT, bottom + BOTTOM);
+    let mut svg = vec![
         format!(
-            "<text class=\"axis\" text-anchor=\"middle\" transform=\"translate(22 {middle}) rotate(-90)\">time of one call (logarithmic)</text>"
+            r##"<svg xmlns="http://www.w3.org/2000/svg" width="{width}" height="{height}" viewBox="0 0 {width} {height}" font-family="Helvetica, Arial, sans-serif" fill="#222222">"##
         ),
-    );
-    let across = LEFT + (width - LEFT - RIGHT) / 2.0;
-    let bottom = height - 14.0;
-    add(
-        &mut svg,
-        format!("<text class=\"axis\" text-anchor=\"middle\" x=\"{across}\" y=\"{bottom}\">number of letters, n = U + G</text>"),
-    );
-    add(&mut svg, "</svg>".to_string());
+        format!("<style>{STYLE}</style>"),
+        format!(r##"<rect width="{width}" height="{height}" fill="#ffffff"/>"##),
+        text("title", "start", (LEFT, 32.0), "Time of a call against the number of letters"),
+        text("subtitle", "start", (LEFT, 53.0), SUBTITLE),
+        text("subtitle", "end", (right, 78.5), machine),
+    ];
+    for (place, mark) in [ENGINE, PLAIN].iter().enumerate() {
+        svg.extend(legend(mark, LEFT + 130.0 * place as f64, 74.0));
+    }
+    for (place, series) in series.iter().enumerate() {
+        let x = LEFT + (place % COLUMNS) as f64 * COLUMN_STEP;
+        let y = TOP + (place / COLUMNS) as f64 * ROW_STEP;
+        svg.push(format!(r#"<g transform="translate({x} {y})">"#));
+        svg.extend(panel(&axes, series));
+        svg.push("</g>".to_string());
+    }
+    svg.push(format!(r#"<g transform="translate(22 {}) rotate(-90)">"#, (TOP + bottom) / 2.0));
+    svg.push(text("axis", "middle", (0.0, 0.0), "time of one call (logarithmic scale)"));
+    svg.push("</g>".to_string());
+    let below = ((LEFT + right) / 2.0, height - 14.0);
+    svg.push(text("axis", "middle", below, "number of letters, n = U + G"));
+    svg.push("</svg>\n".to_string());
+    svg.join("\n")
+}
+
+fn legend(mark: &Mark, x: f64, y: f64) -> [String; 3] {
+    [
+        line(mark, &[(x, y), (x + 46.0, y)]),
+        point(mark, (x + 23.0, y)),
+        text("axis", "start", (x + 54.0, y + 4.5), mark.name),
+    ]
+}
+
+fn panel(axes: &Axes, series: &Series) -> Vec<String> {
+    let mut svg = vec![text("panel", "start", (0.0, -10.0), series.name)];
+    svg.extend(time_axis(axes));
+    svg.extend(letters_axis(axes));
+    svg.push(format!(
+        r##"<rect width="{PANEL_WIDTH}" height="{PANEL_HEIGHT}" fill="none" stroke="#888888"/>"##
+    ));
+    let engine = series.points.iter().map(|point| point.engine.best);
+    let plain = series.points.iter().map(|point| point.plain.best);
+    for (mark, times) in [(ENGINE, engine.collect::<Vec<_>>()), (PLAIN, plain.collect())] {
+        let letters = axes.letters.clone();
+        let places: Vec<_> = letters.zip(times).map(|(n, t)| (axes.x(n), axes.y(t))).collect();
+        svg.push(line(&mark, &places));
+        svg.extend(places.iter().map(|&place| point(&mark, place)));
+    }
+    if let Some(last) = series.points.last() {
+        let ratio = format!("ratio at {}: {:.2}", axes.letters.end(), last.ratio());
+        svg.push(text("tick", "end", (PANEL_WIDTH - 9.0, PANEL_HEIGHT - 9.0), &ratio));
+    }
     svg
 }
 
-fn add(svg: &mut String, line: String) {
-    svg.push_str(&line);
-    svg.push('\n');
+/// A line for each step, and the powers of ten in words.
+fn time_axis(axes: &Axes) -> Vec<String> {
+    let mut svg = Vec::new();
+    for step in steps().filter(|step| (axes.low..=axes.high).contains(step)) {
+        let y = axes.y(step);
+        let is_power = step.log10().fract() == 0.0;
+        let colour = if is_power { "#c4c4c4" } else { "#ececec" };
+        svg.push(format!(r#"<path d="M 0 {y:.1} H {PANEL_WIDTH}" stroke="{colour}"/>"#));
+        if is_power {
+            svg.push(text("tick", "end", (-7.0, y + 4.0), &duration(step)));
+        }
+    }
+    svg
 }
 
-/// The head of the file, the title and the legend.
-fn open(svg: &mut String, width: f64, height: f64, subtitle: &str) {
-    add(
-        svg,
-        format!("<svg xmlns=\"http://www.w3.org/2000/svg\" width=\"{width}\" height=\"{height}\" viewBox=\"0 0 {width} {height}\" font-family=\"Helvetica, Arial, sans-serif\" fill=\"#222222\">"),
-    );
-    add(
-        svg,
-        "<style>.title { font-size: 19px; font-weight: bold } .subtitle { font-size: 13px; fill: #555555 } .panel { font-size: 14px; font-weight: bold } .axis { font-size: 13px } .tick { font-size: 12px; fill: #444444 }</style>"
-            .to_string(),
-    );
-    add(svg, format!("<rect width=\"{width}\" height=\"{height}\" fill=\"#ffffff\"/>"));
-    add(
-        svg,
-        format!("<text class=\"title\" x=\"{LEFT}\" y=\"32\">Time of a call against the number of letters</text>"),
-    );
-    add(svg, format!("<text class=\"subtitle\" x=\"{LEFT}\" y=\"53\">{subtitle}</text>"));
-    for (place, mark) in [ENGINE, PLAIN].iter().enumerate() {
-        let x = LEFT + 130.0 * place as f64;
-        line(svg, mark, &[(x, 74.0), (x + 46.0, 74.0)]);
-        point(svg, mark, x + 23.0, 74.0);
-        add(
-            svg,
-            format!("<text class=\"axis\" x=\"{}\" y=\"78.5\">{}</text>", x + 54.0, mark.name),
-        );
-    }
-}
-
-fn panel(svg: &mut String, axes: &Axes, series: &Series) {
-    add(svg, format!("<text class=\"panel\" y=\"-10\">{}</text>", series.name));
-    grid(svg, axes);
-    for (mark, time) in [
-        (ENGINE, (|p: &Compared| p.engine.best) as fn(&Compared) -> f64),
-        (PLAIN, |p: &Compared| p.plain.best),
-    ] {
-        let place = |(letters, p): (usize, &Compared)| (axes.x(letters), axes.y(time(p)));
-        let places: Vec<_> = axes.letters.clone().zip(&series.points).map(place).collect();
-        line(svg, &mark, &places);
-        places.iter().for_each(|&(x, y)| point(svg, &mark, x, y));
-    }
-    if let Some(last) = series.points.last() {
-        add(
-            svg,
-            format!(
-                "<text class=\"tick\" x=\"10\" y=\"19\">engine / plain Rust at {} letters: {:.2}</text>",
-                axes.letters.end(),
-                last.ratio()
-            ),
-        );
-    }
-}
-
-fn grid(svg: &mut String, axes: &Axes) {
-    for power in axes.low..=axes.high {
-        let y = axes.y(10f64.powi(power));
-        add(
-            svg,
-            format!("<path d=\"M 0 {y:.1} H {PANEL_WIDTH}\" stroke=\"#d9d9d9\" fill=\"none\"/>"),
-        );
-        add(
-            svg,
-            format!(
-                "<text class=\"tick\" text-anchor=\"end\" x=\"-7\" y=\"{:.1}\">{}</text>",
-                y + 4.0,
-                duration(power)
-            ),
-        );
-    }
+fn letters_axis(axes: &Axes) -> Vec<String> {
+    let mut svg = Vec::new();
     for letters in axes.letters.clone() {
         let x = axes.x(letters);
-        add(
-            svg,
-            format!("<path d=\"M {x:.1} {PANEL_HEIGHT} v 5\" stroke=\"#888888\" fill=\"none\"/>"),
-        );
-        add(
-            svg,
-            format!(
-                "<text class=\"tick\" text-anchor=\"middle\" x=\"{x:.1}\" y=\"{}\">{letters}</text>",
-                PANEL_HEIGHT + 19.0
-            ),
-        );
+        svg.push(format!(r##"<path d="M {x:.1} {PANEL_HEIGHT} v 5" stroke="#888888"/>"##));
+        svg.push(text("tick", "middle", (x, PANEL_HEIGHT + 19.0), &letters.to_string()));
     }
-    add(
-        svg,
-        format!("<rect width=\"{PANEL_WIDTH}\" height=\"{PANEL_HEIGHT}\" fill=\"none\" stroke=\"#888888\"/>"),
-    );
+    svg
 }
 
-/// A power of ten nanoseconds, in the unit that people say.
-fn duration(power: i32) -> String {
-    let (unit, of_unit) = match power {
-        ..=2 => ("ns", 0),
-        3..=5 => ("µs", 3),
-        _ => ("ms", 6),
-    };
-    format!("{} {unit}", 10f64.powi(power - of_unit))
-}
-
-fn line(svg: &mut String, mark: &Mark, places: &[(f64, f64)]) {
-    let mut path = String::new();
-    for (place, (x, y)) in places.iter().enumerate() {
-        let command = if place == 0 { 'M' } else { 'L' };
-        write!(path, "{command} {x:.1} {y:.1} ").expect("a string takes every byte");
+/// In the unit that people say.
+fn duration(nanoseconds: f64) -> String {
+    match nanoseconds {
+        ..1e3 => format!("{nanoseconds} ns"),
+        ..1e6 => format!("{} µs", nanoseconds / 1e3),
+        _ => format!("{} ms", nanoseconds / 1e6),
     }
-    let Mark { colour, dashes, .. } = mark;
-    add(
-        svg,
-        format!(
-            "<path d=\"{}\" stroke=\"{colour}\" stroke-width=\"2\"{dashes} fill=\"none\"/>",
-            path.trim_end()
-        ),
-    );
 }
 
-fn point(svg: &mut String, mark: &Mark, x: f64, y: f64) {
+fn text(class: &str, anchor: &str, (x, y): (f64, f64), words: &str) -> String {
+    format!(r#"<text class="{class}" text-anchor="{anchor}" x="{x:.1}" y="{y:.1}">{words}</text>"#)
+}
+
+fn line(mark: &Mark, places: &[(f64, f64)]) -> String {
+    let places: Vec<String> = places.iter().map(|(x, y)| format!("{x:.1},{y:.1}")).collect();
+    let dashes = if mark.is_dashed { r#" stroke-dasharray="7 4""# } else { "" };
+    let (places, colour) = (places.join(" "), mark.colour);
+    format!(
+        r#"<polyline points="{places}" fill="none" stroke="{colour}" stroke-width="2"{dashes}/>"#
+    )
+}
+
+fn point(mark: &Mark, (x, y): (f64, f64)) -> String {
     let colour = mark.colour;
-    let shape = if mark.dashes.is_empty() {
-        format!("<circle cx=\"{x:.1}\" cy=\"{y:.1}\" r=\"3.6\" fill=\"{colour}\"/>")
-    } else {
+    if mark.is_dashed {
+        let (x, y) = (x - 3.2, y - 3.2);
         format!(
-            "<rect x=\"{:.1}\" y=\"{:.1}\" width=\"6.4\" height=\"6.4\" fill=\"#ffffff\" stroke=\"{colour}\" stroke-width=\"1.6\"/>",
-            x - 3.2,
-            y - 3.2
+            r##"<rect x="{x:.1}" y="{y:.1}" width="6.4" height="6.4" fill="#ffffff" stroke="{colour}" stroke-width="1.6"/>"##
         )
-    };
-    add(svg, shape);
+    } else {
+        format!(r#"<circle cx="{x:.1}" cy="{y:.1}" r="3.6" fill="{colour}"/>"#)
+    }
 }

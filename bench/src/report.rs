@@ -56,9 +56,9 @@ pub struct Report {
 }
 
 impl Report {
-    pub fn subtitle(&self) -> String {
-        let Machine { date, processor, .. } = &self.machine;
-        format!("best of the rounds, optimised builds, typical inputs; {processor}; {date}")
+    /// What the plot says of the machine.
+    pub fn machine(&self) -> String {
+        format!("{}; {}", self.machine.processor, self.machine.date)
     }
 
     pub fn text(&self) -> String {
