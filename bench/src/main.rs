@@ -45,7 +45,7 @@ fn main() {
         dense: rows(&Inputs::new(letters, Kind::Dense)),
         sheet: sheet::compare_sheets(&engine_sheet, &plain_sheet),
         numbers_of_letters: NUMBERS_OF_LETTERS,
-        by_letters: PLOTTED.map(|(call, name)| by_letters(call, name)).into(),
+        by_letters: PLOTTED.map(|(call, words)| by_letters(call, words)).into(),
     };
     let results = report.text();
     print!("{results}");
@@ -63,19 +63,20 @@ fn rows(inputs: &Inputs) -> Vec<Row> {
     CALLS.iter().map(row).collect()
 }
 
-fn by_letters(call: &str, name: &'static str) -> Series {
-    let call = CALLS.iter().find(|found| found.name == call).expect("a call of the list");
+fn by_letters(name: &str, words: &'static str) -> Series {
+    let call = CALLS.iter().find(|call| call.name == name).expect("a call of the list");
     let time = |count| {
         let inputs = Inputs::new(letters_of(count), Kind::Typical);
         (call.measure)(&inputs, FEWER_LETTERS)
     };
-    Series { name, points: NUMBERS_OF_LETTERS.map(time).collect() }
+    Series { call: call.name, name: words, points: NUMBERS_OF_LETTERS.map(time).collect() }
 }
 
 /// The engine's program and the plain one, each built if it is not there or not new enough.
 fn programs(folder: &Path) -> (PathBuf, PathBuf) {
     let root = folder.join("..");
     let reference = root.join("reference");
+    eprintln!("building the two programs `sheet`; the engine's is proved first, if it is not yet");
     run(Command::new("rt").args(["check", "sheet"]).current_dir(&root));
     let cargo = std::env::var_os("CARGO").unwrap_or_else(|| "cargo".into());
     let build = ["build", "--quiet", "--offline", "--release", "--bin", "sheet"];

@@ -5,6 +5,7 @@ use std::ops::RangeInclusive;
 
 /// A call at each number of letters, from the first on.
 pub struct Series {
+    pub call: &'static str,
     pub name: &'static str,
     pub points: Vec<Compared>,
 }

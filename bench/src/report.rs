@@ -150,23 +150,35 @@ Dense inputs:
         )
     }
 
-    /// The rows in which the engine is not ahead, and what weighs there.
+    /// The calls in which the engine is not ahead, and what weighs there.
     fn not_ahead(&self) -> String {
         let mut lines = String::new();
-        for (inputs, rows) in [("typical", &self.typical), ("dense", &self.dense)] {
-            for row in rows.iter().filter(|row| row.times.ratio() >= 1.0) {
-                let ratio = row.times.ratio();
-                lines += &format!("- `{}`, {inputs}: {ratio:.2}. {}\n", row.name, row.weight);
+        for (typical, dense) in self.typical.iter().zip(&self.dense) {
+            let ratios = [
+                behind(typical.times.ratio(), "on typical inputs"),
+                behind(dense.times.ratio(), "on dense inputs"),
+                behind(self.most_with_fewer_letters(typical.name), "at most with fewer letters"),
+            ];
+            let ratios: Vec<String> = ratios.into_iter().flatten().collect();
+            if !ratios.is_empty() {
+                lines +=
+                    &format!("- `{}`: {}. {}\n", typical.name, ratios.join(", "), typical.weight);
             }
         }
-        if self.sheet.processor.ratio() >= 1.0 {
-            let ratio = self.sheet.processor.ratio();
-            lines += &format!("- the whole sheet: {ratio:.2}. {}\n", crate::sheet::WEIGHT);
+        if let Some(ratio) = behind(self.sheet.processor.ratio(), "in processor time") {
+            lines += &format!("- the whole sheet: {ratio}. {}\n", crate::sheet::WEIGHT);
         }
         if lines.is_empty() {
             lines = "Nowhere in this run, by the best of the rounds.\n".to_string();
         }
         format!("## Where the engine is not ahead\n\n{lines}")
+    }
+
+    /// The largest ratio of a call of the plot below ten letters.
+    fn most_with_fewer_letters(&self, call: &str) -> f64 {
+        let series = self.by_letters.iter().filter(|series| series.call == call);
+        let fewer = series.flat_map(|series| series.points.split_last().map(|(_, fewer)| fewer));
+        fewer.flatten().map(|point| point.ratio()).fold(0.0, f64::max)
     }
 
     fn letters(&self) -> String {
@@ -188,6 +200,11 @@ Typical inputs, best of the rounds; half of the letters and one more are unknown
 {table}"
         )
     }
+}
+
+/// A ratio that is not below 1, and where.
+fn behind(ratio: f64, place: &str) -> Option<String> {
+    (ratio >= 1.0).then(|| format!("{ratio:.2} {place}"))
 }
 
 /// In how many rows the engine is ahead.

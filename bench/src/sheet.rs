@@ -19,7 +19,7 @@ pub const ROUTES: usize = 250;
 const ROUNDS: usize = 51;
 
 /// What weighs on the engine, where it is not ahead.
-pub const WEIGHT: &str = "A third of the engine's time is the written order, worked out for each entry, every mask from counts of letters; reading the text comes next.";
+pub const WEIGHT: &str = "What weighs most is the written order, worked out for each entry, every mask from counts of letters; then the reading of the text.";
 
 pub struct Sheet {
     pub processor: Compared,
