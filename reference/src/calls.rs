@@ -111,7 +111,13 @@ fn solve(
 }
 
 /// Questions 1, 4 and 8 of two tables and the buffer for their result.
-fn ask_two_tables(u: u64, g: u64, a: &[u8], b: &[u8], result: &[u8]) -> Result<Letters, Refusal> {
+pub fn ask_two_tables(
+    u: u64,
+    g: u64,
+    a: &[u8],
+    b: &[u8],
+    result: &[u8],
+) -> Result<Letters, Refusal> {
     let letters = ask_letters(u, g)?;
     let length = letters.table_length();
     ask_length(a, length)?;
@@ -123,7 +129,7 @@ fn ask_two_tables(u: u64, g: u64, a: &[u8], b: &[u8], result: &[u8]) -> Result<L
 }
 
 /// Questions 4 and 8 of a condition and handed polynomials.
-fn ask_handed(letters: Letters, condition: &[u8], handed: &[u8]) -> Result<(), Refusal> {
+pub fn ask_handed(letters: Letters, condition: &[u8], handed: &[u8]) -> Result<(), Refusal> {
     ask_length(condition, letters.table_length())?;
     ask_length(handed, letters.answer_length())?;
     ask_bytes(condition, letters.table_length())?;

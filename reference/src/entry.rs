@@ -34,6 +34,14 @@ impl Record {
         }
     }
 
+    pub fn length(self) -> usize {
+        match self {
+            Record::Start(..) | Record::Answer(..) => 4,
+            Record::Monomial(_) => 3,
+            Record::End(_) | Record::None(_) => 2,
+        }
+    }
+
     /// The record at the start of bytes: a kind 1 to 5 and a whole body, or nothing.
     fn first(bytes: &[u8]) -> Option<Record> {
         match *bytes {
@@ -103,11 +111,10 @@ pub struct Reading {
 }
 
 /// An entry for which questions 10, 11, 1, 2 and 12 are answered yes.
-struct Entry {
-    reading: Reading,
-    letters: Letters,
-    condition: Polynomial,
-    solution: Solution,
+pub struct Entry {
+    pub reading: Reading,
+    pub letters: Letters,
+    pub records: Vec<Record>,
 }
 
 /// Reads an entry into the two buffers. Questions 10, 11, 1, 2, 12, 4.
@@ -120,8 +127,8 @@ pub fn read_entry(
     let entry = examine(bytes)?;
     ask_length(condition, entry.letters.table_length())?;
     ask_length(answers, entry.letters.answer_length())?;
-    fill(condition, entry.letters, &[entry.condition]);
-    if let Solution::Answers(polynomials) = entry.solution {
+    fill(condition, entry.letters, &[condition_of(&entry.records)]);
+    if let Solution::Answers(polynomials) = solution_of(entry.letters, &entry.records) {
         fill(answers, entry.letters, &polynomials);
     }
     Ok(entry.reading)
@@ -131,25 +138,25 @@ pub fn read_entry(
 /// Questions 10, 11, 1, 2, 12, 13.
 pub fn audit(bytes: &[u8]) -> Result<Reading, Refusal> {
     let entry = examine(bytes)?;
-    ask(13, entry.solution == solve_boole(entry.letters, &entry.condition))?;
+    let afresh = solve_boole(entry.letters, &condition_of(&entry.records));
+    ask(13, solution_of(entry.letters, &entry.records) == afresh)?;
     Ok(entry.reading)
 }
 
-/// Asks 10, 11, 1, 2 and 12 and takes the records apart.
-fn examine(bytes: &[u8]) -> Result<Entry, Refusal> {
+/// Asks 10, 11, 1, 2 and 12.
+pub fn examine(bytes: &[u8]) -> Result<Entry, Refusal> {
     let records = records_to_end(bytes).ok_or(Refusal(10))?;
-    let (route, u, g) = ask_order_of_kinds(&records)?;
-    let letters = ask_letters(u as u64, g as u64)?;
+    let (route, unknowns, givens) = ask_order_of_kinds(&records)?;
+    let letters = ask_letters(unknowns as u64, givens as u64)?;
     ask_route(route as u64)?;
     ask(12, are_numbers_right(letters, &records))?;
-    let solution = solution_of(letters, &records);
-    let contents = match solution {
-        Solution::Answers(_) => Contents::Solved,
-        Solution::None(state) => Contents::None(state),
+    let contents = match records[records.len() - 2] {
+        Record::None(state) => Contents::None(State(state as u64)),
+        _ => Contents::Solved,
     };
-    let length = records.iter().map(|record| record.bytes().len()).sum();
-    let reading = Reading { route, unknowns: u, givens: g, contents, length };
-    Ok(Entry { reading, letters, condition: condition_of(&records), solution })
+    let length = records.iter().map(|record| record.length()).sum();
+    let reading = Reading { route, unknowns, givens, contents, length };
+    Ok(Entry { reading, letters, records })
 }
 
 /// 10. The records to the first kind 4, or nothing.
@@ -158,7 +165,7 @@ fn records_to_end(bytes: &[u8]) -> Option<Vec<Record>> {
     let mut place = 0;
     loop {
         let record = Record::first(&bytes[place..])?;
-        place += record.bytes().len();
+        place += record.length();
         records.push(record);
         if let Record::End(_) = record {
             return Some(records);
@@ -245,6 +252,11 @@ pub enum Count {
 impl Walk<'_> {
     /// The count of entries from the place to the end: per entry the audit's questions, then 15.
     pub fn count(self) -> Count {
+        self.count_by(audit)
+    }
+
+    /// The same, by a way of auditing.
+    pub fn count_by(self, audit: fn(&[u8]) -> Result<Reading, Refusal>) -> Count {
         let mut rest = self.volume.get(self.place..).unwrap_or(&[]);
         let mut passed = 0;
         let mut before = 0;

@@ -2,10 +2,12 @@
 //!
 //! Written from the paper alone, to test the engine against: polynomials are
 //! sets of monomials and every step is worked out in the paper's own words.
-//! Module `values` works out the same answers a second way, by values.
+//! Module `values` works out the same answers a second way, by values; module
+//! `cases` has what test cases are made from.
 //! The public calls are the functions and types named below.
 
 mod calls;
+pub mod cases;
 mod entry;
 mod polynomial;
 mod programs;

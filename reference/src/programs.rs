@@ -30,7 +30,7 @@ pub fn sheet(input: &[u8]) -> Vec<u8> {
 }
 
 /// The last line may lack its line feed, and no line follows a last line feed.
-fn lines(input: &[u8]) -> Vec<&[u8]> {
+pub fn lines(input: &[u8]) -> Vec<&[u8]> {
     let mut lines: Vec<&[u8]> = input.split(|&byte| byte == b'\n').collect();
     if lines.last().is_some_and(|line| line.is_empty()) {
         lines.pop();
@@ -38,15 +38,15 @@ fn lines(input: &[u8]) -> Vec<&[u8]> {
     lines
 }
 
-struct Fields<'a> {
-    route: u64,
-    unknowns: u64,
-    givens: u64,
-    text: &'a [u8],
+pub struct Fields<'a> {
+    pub route: u64,
+    pub unknowns: u64,
+    pub givens: u64,
+    pub text: &'a [u8],
 }
 
 /// Route (1 to 3 digits), U, G (one digit each), text, single spaces between.
-fn read_line(line: &[u8]) -> Option<Fields<'_>> {
+pub fn read_line(line: &[u8]) -> Option<Fields<'_>> {
     if line.len() > LONGEST_LINE {
         return None;
     }

@@ -1,39 +1,9 @@
-//! The demands on small random conditions, by brute force, and the two ways
-//! of working out an answer against each other.
+//! The demands on small random conditions, by brute force.
 
-use reference::values;
+mod common;
+
+use common::{all_letters, Random};
 use reference::*;
-
-struct Random(u64);
-
-impl Random {
-    fn below(&mut self, bound: usize) -> usize {
-        self.0 ^= self.0 << 13;
-        self.0 ^= self.0 >> 7;
-        self.0 ^= self.0 << 17;
-        ((self.0 >> 11) % bound as u64) as usize
-    }
-
-    fn table(&mut self, length: usize) -> Vec<u8> {
-        let many = [2, 2, 3, 1 + length / 3][self.below(4)];
-        (0..length).map(|_| (self.below(many) == 0) as u8).collect()
-    }
-
-    /// A condition with a solution in each state.
-    fn solvable(&mut self, letters: Letters) -> Vec<u8> {
-        let mut values = self.table(letters.table_length());
-        for state in 0..1 << letters.givens {
-            values[state << letters.unknowns | self.below(1 << letters.unknowns)] = 0;
-        }
-        values::transform(&values)
-    }
-}
-
-fn all_letters(most: usize) -> Vec<Letters> {
-    let pairs =
-        (0..=6).flat_map(|unknowns| (0..=8).map(move |givens| Letters { unknowns, givens }));
-    pairs.filter(|letters| letters.unknowns + letters.givens <= most).collect()
-}
 
 type Method = fn(u64, u64, &[u8], &mut [u8]) -> Result<Solved, Refusal>;
 
@@ -167,43 +137,6 @@ fn answers_are_reproductive() {
                 outer.chunks(length).flat_map(|table| put_into(table, inner)).collect();
             assert_eq!(&again, inner);
         }
-    }
-}
-
-/// By monomials and by values.
-fn assert_two_ways_agree(letters: Letters, random: &mut Random) {
-    let length = letters.table_length();
-    let (u, g) = (letters.unknowns as u64, letters.givens as u64);
-    let (a, b, handed) =
-        (random.table(length), random.table(length), random.table(letters.answer_length()));
-    let mut result = vec![7; length];
-    assert_eq!(sum(u, g, &a, &b, &mut result), Ok(()));
-    assert_eq!(result, values::sum(&a, &b));
-    assert_eq!(product(u, g, &a, &b, &mut result), Ok(()));
-    assert_eq!(result, values::product(&a, &b));
-    assert_eq!(substitute(u, g, &a, &handed, &mut result), Ok(()));
-    assert_eq!(result, values::substitute(letters, &a, &handed));
-    let mut answers = vec![7; letters.answer_length()];
-    assert_eq!(lowenheim_handed(u, g, &a, &handed, &mut answers), Ok(()));
-    assert_eq!(answers, values::lowenheim_handed(letters, &a, &handed));
-    for condition in [a, random.solvable(letters)] {
-        assert_eq!(solved(letters, &condition, boole), values::boole(letters, &condition));
-        assert_eq!(
-            solved(letters, &condition, particular),
-            values::particular(letters, &condition)
-        );
-        assert_eq!(solved(letters, &condition, lowenheim), values::lowenheim(letters, &condition));
-    }
-}
-
-#[test]
-fn two_ways_agree() {
-    let mut random = Random(99);
-    for letters in all_letters(6) {
-        (0..10).for_each(|_| assert_two_ways_agree(letters, &mut random));
-    }
-    for (unknowns, givens) in [(0, 8), (1, 8), (2, 8), (3, 6), (4, 4), (5, 5), (6, 4)] {
-        assert_two_ways_agree(Letters { unknowns, givens }, &mut random);
     }
 }
 

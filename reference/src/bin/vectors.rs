@@ -2,8 +2,6 @@
 //! Arguments: the input file, the output file, the letters of the calls wanted.
 //! Each call has its own seed, so its lines do not depend on the others asked for.
 
-#[path = "vectors/cases.rs"]
-mod cases;
 #[path = "vectors/entry.rs"]
 mod entry;
 #[path = "vectors/lines.rs"]

@@ -1,7 +1,7 @@
 //! Cases for value, sum, product and handed polynomials put into a condition.
 
-use crate::cases::{bench_tables, pairs, Random, TOO_LARGE};
 use crate::lines::Lines;
+use reference::cases::{bench_tables, pairs, Random, TOO_LARGE};
 
 pub fn add_values(lines: &mut Lines) {
     let random = &mut Random::new('v');

@@ -1,8 +1,8 @@
 //! Cases for Boole's answer, the particular solution and Löwenheim's formula.
 
-use crate::cases::{bench_tables, pairs, Random, TOO_LARGE};
 use crate::lines::Lines;
 use crate::operations::{add_any_tables, add_wrong_tables};
+use reference::cases::{bench_tables, pairs, Random, TOO_LARGE};
 
 /// Boole (`b`), the particular solution (`p`) or the own Löwenheim (`l`).
 pub fn add_solutions(lines: &mut Lines, call: char) {

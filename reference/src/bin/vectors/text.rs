@@ -1,7 +1,8 @@
 //! Cases for reading a text.
 
-use crate::cases::{pairs, Random, BENCH, TOO_LARGE};
 use crate::lines::Lines;
+use reference::cases::texts::{any_signs, derived_text};
+use reference::cases::{pairs, Random, BENCH, TOO_LARGE};
 
 /// Every sign of the notation over one unknown and one given, and the space.
 const SIGNS: &[u8] = b"ua01+|*!() ";
@@ -25,7 +26,7 @@ pub fn add_texts(lines: &mut Lines) {
             add_derived_text(lines, random, u, g);
         }
         for _ in 0..12 {
-            add_any_signs(lines, random, u, g);
+            lines.text(u, g, &any_signs(random), 1 << (u + g));
         }
     }
     for (u, g) in pairs(5, 10) {
@@ -224,67 +225,11 @@ fn add_meanings(lines: &mut Lines) {
     }
 }
 
-/// A text derived from the grammar, with spaces here and there.
 fn add_derived_text(lines: &mut Lines, random: &mut Random, u: u64, g: u64) {
-    let mut text = Vec::new();
-    derive_sum(random, u as u8, g as u8, 3, &mut text);
-    let spaces = random.pick(&[0, 0, 2, 4]);
-    let mut spaced = Vec::new();
-    for byte in text {
-        while spaces > 0 && random.once_in(1 + spaces) {
-            spaced.push(b' ');
-        }
-        spaced.push(byte);
-    }
-    spaced.truncate(200);
+    let text = derived_text(random, u, g);
     let exact = 1 << (u + g);
     let size = if u + g > 4 { exact } else { random.size(exact) };
-    lines.text(u, g, &spaced, size);
-}
-
-fn derive_sum(random: &mut Random, u: u8, g: u8, depth: usize, text: &mut Vec<u8>) {
-    derive_product(random, u, g, depth, text);
-    while random.below(5) < 2 {
-        text.push(random.pick(b"+|"));
-        derive_product(random, u, g, depth, text);
-    }
-}
-
-fn derive_product(random: &mut Random, u: u8, g: u8, depth: usize, text: &mut Vec<u8>) {
-    derive_factor(random, u, g, depth, text);
-    while random.once_in(3) {
-        text.push(b'*');
-        derive_factor(random, u, g, depth, text);
-    }
-}
-
-fn derive_factor(random: &mut Random, u: u8, g: u8, depth: usize, text: &mut Vec<u8>) {
-    let letters: Vec<u8> = (b'u'..b'u' + u).chain(b'a'..b'a' + g).collect();
-    match random.below(if depth == 0 { 7 } else { 12 }) {
-        0 => text.push(random.pick(b"01")),
-        1..=6 if letters.is_empty() => text.push(random.pick(b"01")),
-        1..=6 => text.push(random.pick(&letters)),
-        7..=8 => {
-            text.push(b'!');
-            derive_factor(random, u, g, depth - 1, text);
-        }
-        _ => {
-            text.push(b'(');
-            derive_sum(random, u, g, depth - 1, text);
-            text.push(b')');
-        }
-    }
-}
-
-/// Signs in any order: mostly no text of the grammar.
-fn add_any_signs(lines: &mut Lines, random: &mut Random, u: u64, g: u64) {
-    let length = 4 + random.below(9);
-    let signs: &[u8] = if random.once_in(3) { b"uvab01+|*!() " } else { b"01+|*!()()" };
-    let mut text: Vec<u8> = (0..length).map(|_| random.pick(signs)).collect();
-    if random.once_in(8) {
-        text[length / 2] = random.pick(b"#iz\0\x80\xff~");
-    }
-    lines.text(u, g, &text, 1 << (u + g));
+    lines.text(u, g, &text, size);
 }
 
 /// Conditions over eight, nine and ten letters.

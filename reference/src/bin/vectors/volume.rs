@@ -1,8 +1,9 @@
 //! Cases for the audit and the walk.
 
-use crate::cases::{bench_tables, pairs, Random};
-use crate::entry::{any_entry, damaged_entries, entry, split, table_for_line};
+use crate::entry::table_for_line;
 use crate::lines::Lines;
+use reference::cases::entries::{any_entry, built, built_none, damaged_entries, entry, split};
+use reference::cases::{bench_tables, pairs, Random};
 
 pub fn add_audits(lines: &mut Lines) {
     let random = &mut Random::new('a');
@@ -67,38 +68,6 @@ fn add_other_answers(lines: &mut Lines, u: u64, g: u64, table: &[u8]) {
     for state in 0..=1u8 << g {
         lines.audit(&built_none(5, u, g, table, state));
     }
-}
-
-/// An entry of a condition and any answers, in written order.
-fn built(route: u8, u: u64, g: u64, table: &[u8], answers: &[u8]) -> Vec<u8> {
-    let mut bytes = begun(route, u, g, table);
-    for (j, answer) in answers.chunks(table.len()).enumerate() {
-        for mask in written(answer) {
-            bytes.extend([3, j as u8, mask as u8, (mask >> 8) as u8]);
-        }
-    }
-    bytes.extend([4, route]);
-    bytes
-}
-
-fn built_none(route: u8, u: u64, g: u64, table: &[u8], state: u8) -> Vec<u8> {
-    [&begun(route, u, g, table)[..], &[5, state, 4, route]].concat()
-}
-
-/// Kind 1 and the kind 2 records.
-fn begun(route: u8, u: u64, g: u64, table: &[u8]) -> Vec<u8> {
-    let mut bytes = vec![1, route, u as u8, g as u8];
-    for mask in written(table) {
-        bytes.extend([2, mask as u8, (mask >> 8) as u8]);
-    }
-    bytes
-}
-
-/// The present masks, fewer letters first, then the smaller.
-fn written(table: &[u8]) -> Vec<usize> {
-    let mut masks: Vec<usize> = (0..table.len()).filter(|&mask| table[mask] == 1).collect();
-    masks.sort_by_key(|mask| (mask.count_ones(), *mask));
-    masks
 }
 
 pub fn add_walks(lines: &mut Lines) {

@@ -1,6 +1,9 @@
-//! What the cases are made from: random numbers, tables, bounds and bench rows.
+//! What test cases are made from: random numbers, tables, bounds and bench rows.
 
-use reference::values::transform;
+pub mod entries;
+pub mod texts;
+
+use crate::values::transform;
 
 /// A small xorshift.
 pub struct Random(u64);
@@ -10,7 +13,7 @@ impl Random {
         Random(0x9e37_79b9_7f4a_7c15 ^ (call as u64) << 20)
     }
 
-    pub fn next(&mut self) -> u64 {
+    pub fn number(&mut self) -> u64 {
         self.0 ^= self.0 << 13;
         self.0 ^= self.0 >> 7;
         self.0 ^= self.0 << 17;
@@ -18,7 +21,7 @@ impl Random {
     }
 
     pub fn below(&mut self, bound: usize) -> usize {
-        (self.next() % bound as u64) as usize
+        (self.number() % bound as u64) as usize
     }
 
     /// True once in so many.
@@ -155,7 +158,7 @@ pub fn bench_tables() -> Vec<(u64, u64, Vec<u8>)> {
     let mut rows = Vec::new();
     for (u, g, text) in BENCH.into_iter().chain(slips) {
         let mut table = vec![0; 1 << (u + g)];
-        if reference::read_text(u, g, text.as_bytes(), &mut table).is_ok() {
+        if crate::read_text(u, g, text.as_bytes(), &mut table).is_ok() {
             rows.push((u, g, table));
         }
     }

@@ -1,0 +1,239 @@
+//! The thirteen calls, the engine's beside the plain one. Both get the same lent inputs, and
+//! write over the same buffers of their own again and again: none is cleared first.
+
+use crate::inputs::{counts, Inputs, LONGEST_ENTRY};
+use crate::timing::{compare, Compared, Effort};
+use layodegi::Answer;
+use reference::values::calls as plain;
+use reference::{Choice, Contents, Count, Letters, Reading, Solved, State};
+use std::hint::black_box;
+
+pub struct Call {
+    pub name: &'static str,
+    /// What weighs on the engine, where it is not ahead.
+    pub weight: &'static str,
+    pub measure: fn(&Inputs, Effort) -> Compared,
+}
+
+pub const CALLS: [Call; 13] = [
+    Call { name: "read_text", weight: READING, measure: read_text },
+    Call { name: "value", weight: "", measure: value },
+    Call { name: "sum", weight: "", measure: sum },
+    Call { name: "product", weight: "", measure: product },
+    Call { name: "substitute", weight: "", measure: substitute },
+    Call { name: "boole", weight: "", measure: boole },
+    Call { name: "particular", weight: "", measure: particular },
+    Call { name: "lowenheim", weight: "", measure: lowenheim },
+    Call { name: "lowenheim_handed", weight: "", measure: lowenheim_handed },
+    Call { name: "write_entry", weight: WRITING, measure: write_entry },
+    Call { name: "read_entry", weight: RECORDS, measure: read_entry },
+    Call { name: "audit", weight: RECORDS, measure: audit },
+    Call { name: "walk", weight: RECORDS, measure: walk },
+];
+
+const READING: &str = "The readers go over the text once for each 256 points, for few letters too, and once more for question 7.";
+const WRITING: &str = "The written order is worked out for each entry, every mask from counts of letters; for fewer than ten letters the masks of the ten-letter order that are too large are worked out too, and skipped.";
+const RECORDS: &str = "Records are decoded anew for each question and for each table, and none is kept; plain Rust decodes them once, into a list.";
+
+/// Asserts on every input that results and lent bytes are the same, then takes the times.
+fn measure<I, E, P>(
+    effort: Effort,
+    inputs: &[I],
+    room: usize,
+    engine: impl Fn(&I, &mut [u8]) -> E,
+    plain: impl Fn(&I, &mut [u8]) -> P,
+    same: impl Fn(E, P) -> bool,
+) -> Compared {
+    let (mut engine_out, mut plain_out) = (vec![7; room], vec![7; room]);
+    for input in inputs {
+        let results = (engine(input, &mut engine_out), plain(input, &mut plain_out));
+        assert!(same(results.0, results.1), "the engine and plain Rust answer the same");
+        assert!(engine_out == plain_out, "the engine and plain Rust write the same");
+    }
+    compare(
+        effort,
+        inputs,
+        |input| engine(input, black_box(&mut engine_out)),
+        |input| plain(input, black_box(&mut plain_out)),
+    )
+}
+
+fn engine_letters(letters: Letters) -> layodegi::Letters {
+    layodegi::Letters { unknowns: letters.unknowns, givens: letters.givens }
+}
+
+fn both_done<E, P>(engine: Result<(), E>, plain: Result<(), P>) -> bool {
+    engine.is_ok() && plain.is_ok()
+}
+
+fn both_solved<E, P>(engine: Result<Answer, E>, plain: Result<Solved, P>) -> bool {
+    matches!((engine, plain), (Ok(Answer::Solved), Ok(Solved::Done)))
+}
+
+fn same_entry<E, P>(engine: Result<layodegi::Entry, E>, plain: Result<Reading, P>) -> bool {
+    match (engine, plain) {
+        (Ok(engine), Ok(plain)) => {
+            (engine.route, engine.length) == (plain.route, plain.length)
+                && (engine.answer, plain.contents) == (Answer::Solved, Contents::Solved)
+        }
+        _ => false,
+    }
+}
+
+fn read_text(inputs: &Inputs, effort: Effort) -> Compared {
+    let (letters, (u, g)) = (engine_letters(inputs.letters), counts(inputs.letters));
+    measure(
+        effort,
+        &inputs.texts,
+        inputs.letters.table_length(),
+        |text, out| layodegi::read_text(letters, text, out),
+        |text, out| plain::read_text(u, g, text, out),
+        both_done,
+    )
+}
+
+fn value(inputs: &Inputs, effort: Effort) -> Compared {
+    let (letters, (u, g)) = (engine_letters(inputs.letters), counts(inputs.letters));
+    // all letters but unknown 0 and given 0
+    let state = inputs.letters.states() - 2;
+    let choice = inputs.letters.choices() - 2;
+    let engine_point = (layodegi::State(state as usize), layodegi::Choice(choice as usize));
+    measure(
+        effort,
+        &inputs.conditions,
+        0,
+        |table, _| layodegi::value(letters, table, engine_point.0, engine_point.1),
+        |table, _| plain::value(u, g, table, State(state), Choice(choice)),
+        |engine, plain| engine.is_ok() && engine.ok() == plain.ok(),
+    )
+}
+
+fn sum(inputs: &Inputs, effort: Effort) -> Compared {
+    let (letters, (u, g)) = (engine_letters(inputs.letters), counts(inputs.letters));
+    measure(
+        effort,
+        &inputs.pairs,
+        inputs.letters.table_length(),
+        |(a, b), out| layodegi::sum(letters, a, b, out),
+        |(a, b), out| plain::sum(u, g, a, b, out),
+        both_done,
+    )
+}
+
+fn product(inputs: &Inputs, effort: Effort) -> Compared {
+    let (letters, (u, g)) = (engine_letters(inputs.letters), counts(inputs.letters));
+    measure(
+        effort,
+        &inputs.pairs,
+        inputs.letters.table_length(),
+        |(a, b), out| layodegi::product(letters, a, b, out),
+        |(a, b), out| plain::product(u, g, a, b, out),
+        both_done,
+    )
+}
+
+fn substitute(inputs: &Inputs, effort: Effort) -> Compared {
+    let (letters, (u, g)) = (engine_letters(inputs.letters), counts(inputs.letters));
+    measure(
+        effort,
+        &inputs.handed,
+        inputs.letters.table_length(),
+        |(condition, handed), out| layodegi::substitute(letters, condition, handed, out),
+        |(condition, handed), out| plain::substitute(u, g, condition, handed, out),
+        both_done,
+    )
+}
+
+fn boole(inputs: &Inputs, effort: Effort) -> Compared {
+    let (letters, (u, g)) = (engine_letters(inputs.letters), counts(inputs.letters));
+    measure(
+        effort,
+        &inputs.conditions,
+        inputs.letters.answer_length(),
+        |condition, out| layodegi::boole(letters, condition, out),
+        |condition, out| plain::boole(u, g, condition, out),
+        both_solved,
+    )
+}
+
+fn particular(inputs: &Inputs, effort: Effort) -> Compared {
+    let (letters, (u, g)) = (engine_letters(inputs.letters), counts(inputs.letters));
+    measure(
+        effort,
+        &inputs.conditions,
+        inputs.letters.answer_length(),
+        |condition, out| layodegi::particular(letters, condition, out),
+        |condition, out| plain::particular(u, g, condition, out),
+        both_solved,
+    )
+}
+
+fn lowenheim(inputs: &Inputs, effort: Effort) -> Compared {
+    let (letters, (u, g)) = (engine_letters(inputs.letters), counts(inputs.letters));
+    measure(
+        effort,
+        &inputs.conditions,
+        inputs.letters.answer_length(),
+        |condition, out| layodegi::lowenheim(letters, condition, out),
+        |condition, out| plain::lowenheim(u, g, condition, out),
+        both_solved,
+    )
+}
+
+fn lowenheim_handed(inputs: &Inputs, effort: Effort) -> Compared {
+    let (letters, (u, g)) = (engine_letters(inputs.letters), counts(inputs.letters));
+    measure(
+        effort,
+        &inputs.handed,
+        inputs.letters.answer_length(),
+        |(condition, handed), out| layodegi::lowenheim_handed(letters, condition, handed, out),
+        |(condition, handed), out| plain::lowenheim_handed(u, g, condition, handed, out),
+        both_done,
+    )
+}
+
+fn write_entry(inputs: &Inputs, effort: Effort) -> Compared {
+    let (letters, (u, g)) = (engine_letters(inputs.letters), counts(inputs.letters));
+    measure(
+        effort,
+        &inputs.conditions,
+        LONGEST_ENTRY,
+        |condition, out| layodegi::write_entry(7, letters, condition, out),
+        |condition, out| plain::write_entry(7, u, g, condition, out),
+        |engine, plain| engine.is_ok() && engine.ok() == plain.ok(),
+    )
+}
+
+fn read_entry(inputs: &Inputs, effort: Effort) -> Compared {
+    let length = inputs.letters.table_length();
+    measure(
+        effort,
+        &inputs.entries,
+        length + inputs.letters.answer_length(),
+        |entry, out| {
+            let (condition, answers) = out.split_at_mut(length);
+            layodegi::read_entry(entry, condition, answers)
+        },
+        |entry, out| {
+            let (condition, answers) = out.split_at_mut(length);
+            plain::read_entry(entry, condition, answers)
+        },
+        same_entry,
+    )
+}
+
+fn audit(inputs: &Inputs, effort: Effort) -> Compared {
+    let engine = |entry: &Vec<u8>, _: &mut [u8]| layodegi::audit(entry);
+    measure(effort, &inputs.entries, 0, engine, |entry, _| plain::audit(entry), same_entry)
+}
+
+fn walk(inputs: &Inputs, effort: Effort) -> Compared {
+    measure(
+        effort,
+        &inputs.volumes,
+        0,
+        |volume, _| layodegi::walk(volume, 0),
+        |volume, _| plain::walk(volume, 0),
+        |engine, plain| engine.is_ok_and(|count| plain == Count::Whole(count)),
+    )
+}

@@ -1,0 +1,178 @@
+//! What the calls are measured on: texts, tables, entries and a volume, from a fixed seed.
+
+use reference::values::{self, calls};
+use reference::{Letters, Solved};
+
+/// So many of each.
+const COUNT: usize = 8;
+
+pub const LONGEST_TEXT: usize = 200;
+pub const LONGEST_ENTRY: usize = 27_654;
+
+/// A small xorshift.
+pub struct Random(u64);
+
+impl Random {
+    pub fn new(seed: u64) -> Random {
+        Random(0x9e37_79b9_7f4a_7c15 ^ seed << 20)
+    }
+
+    pub fn below(&mut self, bound: usize) -> usize {
+        self.0 ^= self.0 << 13;
+        self.0 ^= self.0 >> 7;
+        self.0 ^= self.0 << 17;
+        ((self.0 >> 11) % bound as u64) as usize
+    }
+
+    fn table(&mut self, length: usize) -> Vec<u8> {
+        (0..length).map(|_| self.below(2) as u8).collect()
+    }
+}
+
+#[derive(Clone, Copy, PartialEq)]
+pub enum Kind {
+    /// Texts as a designer writes them, and the conditions that they are read into.
+    Typical,
+    /// Texts of as many letters as fit; tables in which every second monomial is present.
+    Dense,
+}
+
+pub struct Inputs {
+    pub letters: Letters,
+    pub texts: Vec<Vec<u8>>,
+    /// Conditions that have a solution.
+    pub conditions: Vec<Vec<u8>>,
+    /// Two tables each.
+    pub pairs: Vec<(Vec<u8>, Vec<u8>)>,
+    /// A condition and polynomials to be handed over.
+    pub handed: Vec<(Vec<u8>, Vec<u8>)>,
+    pub entries: Vec<Vec<u8>>,
+    /// The entries end to end.
+    pub volumes: Vec<Vec<u8>>,
+}
+
+impl Inputs {
+    pub fn new(letters: Letters, kind: Kind) -> Inputs {
+        let mut random = Random::new(letters.table_length() as u64);
+        let texts = (0..COUNT).map(|_| text(letters, kind, &mut random)).collect();
+        let conditions: Vec<_> = (0..COUNT).map(|_| solvable(letters, kind, &mut random)).collect();
+        let next = |place: usize| conditions[(place + 1) % COUNT].clone();
+        let pairs = (0..COUNT).map(|place| (conditions[place].clone(), next(place))).collect();
+        let handed =
+            (0..COUNT).map(|place| (conditions[place].clone(), answers(letters, &next(place))));
+        let handed = handed.collect();
+        let entries: Vec<_> = conditions
+            .iter()
+            .enumerate()
+            .map(|(place, condition)| entry(1 + place as u64, letters, condition))
+            .collect();
+        let volumes = vec![entries.concat()];
+        Inputs { letters, texts, conditions, pairs, handed, entries, volumes }
+    }
+}
+
+/// U and G for a number of letters: half of them and one more are unknowns, six of ten.
+pub fn letters_of(count: usize) -> Letters {
+    let unknowns = count / 2 + 1;
+    Letters { unknowns, givens: count - unknowns }
+}
+
+/// The counts as the calls take them.
+pub fn counts(letters: Letters) -> (u64, u64) {
+    (letters.unknowns as u64, letters.givens as u64)
+}
+
+fn text(letters: Letters, kind: Kind, random: &mut Random) -> Vec<u8> {
+    match kind {
+        Kind::Typical => route_condition(letters, random),
+        Kind::Dense => crowded_text(letters, random),
+    }
+}
+
+/// Products of a few letters, some of them negated or in brackets, joined mostly by `|`, as far
+/// as 200 bytes go.
+pub fn route_condition(letters: Letters, random: &mut Random) -> Vec<u8> {
+    let mut text = Vec::new();
+    loop {
+        let mut term = Vec::new();
+        if !text.is_empty() {
+            term.push(b"||+"[random.below(3)]);
+        }
+        for factor in 0..2 + random.below(3) {
+            if factor > 0 {
+                term.push(b'*');
+            }
+            push_factor(letters, factor == 0, random, &mut term);
+        }
+        if text.len() + term.len() > LONGEST_TEXT {
+            return text;
+        }
+        text.extend(term);
+    }
+}
+
+fn push_factor(letters: Letters, of_unknown: bool, random: &mut Random, term: &mut Vec<u8>) {
+    if random.below(3) == 0 {
+        term.push(b'!');
+    }
+    if of_unknown {
+        term.push(b'u' + random.below(letters.unknowns) as u8);
+    } else if random.below(4) > 0 {
+        term.push(any_letter(letters, random));
+    } else {
+        let join = b"+|"[random.below(2)];
+        term.extend([b'(', any_letter(letters, random), join, any_letter(letters, random), b')']);
+    }
+}
+
+fn any_letter(letters: Letters, random: &mut Random) -> u8 {
+    let letter = random.below(letters.unknowns + letters.givens);
+    match letter < letters.unknowns {
+        true => b'u' + letter as u8,
+        false => b'a' + (letter - letters.unknowns) as u8,
+    }
+}
+
+/// A letter, then a sign and a letter over and over: 199 bytes.
+fn crowded_text(letters: Letters, random: &mut Random) -> Vec<u8> {
+    let mut text = vec![any_letter(letters, random)];
+    while text.len() + 2 <= LONGEST_TEXT {
+        text.extend([b"+|*"[random.below(3)], any_letter(letters, random)]);
+    }
+    text
+}
+
+fn solvable(letters: Letters, kind: Kind, random: &mut Random) -> Vec<u8> {
+    let (u, g) = counts(letters);
+    if kind == Kind::Dense {
+        let mut values = random.table(letters.table_length());
+        for state in values.chunks_exact_mut(1 << letters.unknowns) {
+            state[random.below(1 << letters.unknowns)] = 0;
+        }
+        return values::transform(&values);
+    }
+    loop {
+        let mut condition = vec![0; letters.table_length()];
+        let text = route_condition(letters, random);
+        calls::read_text(u, g, &text, &mut condition).expect("a text of the grammar");
+        let mut answers = vec![0; letters.answer_length()];
+        if calls::boole(u, g, &condition, &mut answers) == Ok(Solved::Done) {
+            return condition;
+        }
+    }
+}
+
+fn answers(letters: Letters, condition: &[u8]) -> Vec<u8> {
+    let (u, g) = counts(letters);
+    let mut answers = vec![0; letters.answer_length()];
+    assert_eq!(calls::boole(u, g, condition, &mut answers), Ok(Solved::Done));
+    answers
+}
+
+fn entry(route: u64, letters: Letters, condition: &[u8]) -> Vec<u8> {
+    let (u, g) = counts(letters);
+    let mut entry = vec![0; LONGEST_ENTRY];
+    let length = calls::write_entry(route, u, g, condition, &mut entry).expect("an entry");
+    entry.truncate(length);
+    entry
+}

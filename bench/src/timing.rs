@@ -1,0 +1,87 @@
+//! Times of the engine and of plain Rust, measured in turns within one run.
+
+use crate::processor_time;
+use std::hint::black_box;
+use std::time::Duration;
+
+/// Of all rounds, in nanoseconds for one call.
+#[derive(Clone, Copy)]
+pub struct Times {
+    pub best: f64,
+    pub median: f64,
+}
+
+#[derive(Clone, Copy)]
+pub struct Compared {
+    pub engine: Times,
+    pub plain: Times,
+}
+
+impl Compared {
+    /// Below 1 the engine is ahead.
+    pub fn ratio(self) -> f64 {
+        self.engine.best / self.plain.best
+    }
+
+    pub fn median_ratio(self) -> f64 {
+        self.engine.median / self.plain.median
+    }
+}
+
+/// How many rounds, and how long the calls of one side in one round take.
+#[derive(Clone, Copy)]
+pub struct Effort {
+    pub rounds: usize,
+    pub round: Duration,
+}
+
+/// Calls each side on every input, so often that a round takes its time. The first round of each
+/// side is a warm-up; the side that goes first changes from round to round.
+pub fn compare<I, E, P>(
+    effort: Effort,
+    inputs: &[I],
+    mut engine: impl FnMut(&I) -> E,
+    mut plain: impl FnMut(&I) -> P,
+) -> Compared {
+    let engine_passes = passes(effort, inputs, &mut engine);
+    let plain_passes = passes(effort, inputs, &mut plain);
+    let (mut engine_times, mut plain_times) = (Vec::new(), Vec::new());
+    for round in 0..effort.rounds {
+        if round % 2 == 0 {
+            engine_times.push(time_round(engine_passes, inputs, &mut engine));
+            plain_times.push(time_round(plain_passes, inputs, &mut plain));
+        } else {
+            plain_times.push(time_round(plain_passes, inputs, &mut plain));
+            engine_times.push(time_round(engine_passes, inputs, &mut engine));
+        }
+    }
+    Compared { engine: of_rounds(engine_times), plain: of_rounds(plain_times) }
+}
+
+/// The best and the median of times.
+pub fn of_rounds(mut times: Vec<f64>) -> Times {
+    times.sort_by(f64::total_cmp);
+    Times { best: times[0], median: times[times.len() / 2] }
+}
+
+/// The number of passes over all inputs that a round takes.
+fn passes<I, R>(effort: Effort, inputs: &[I], call: &mut impl FnMut(&I) -> R) -> usize {
+    let end = processor_time::of_this_thread() + effort.round.as_nanos() as f64;
+    let mut passes = 0;
+    while processor_time::of_this_thread() < end {
+        time_round(1, inputs, call);
+        passes += 1;
+    }
+    passes
+}
+
+/// The processor time of one call, in nanoseconds.
+fn time_round<I, R>(passes: usize, inputs: &[I], call: &mut impl FnMut(&I) -> R) -> f64 {
+    let start = processor_time::of_this_thread();
+    for _ in 0..passes {
+        for input in inputs {
+            black_box(call(black_box(input)));
+        }
+    }
+    (processor_time::of_this_thread() - start) / (passes * inputs.len()) as f64
+}

@@ -1,0 +1,153 @@
+/*
+ * Reads a text, writes its entry, reads the entry back and prints it.
+ *
+ *     example [ROUTE U G TEXT]
+ *
+ * Without arguments: the row (2,0) `u+v+1` of the paper's bench table, as route 7. Prints the condition and the
+ * answers as polynomials, or 'none' and the state. Exit status: 0 if the entry is written and read back, 1 if a call
+ * refuses, 2 if the arguments are not three numbers and a text.
+ */
+#include "layodegi.h"
+
+#include <errno.h>
+#include <stdio.h>
+#include <stdlib.h>
+#include <string.h>
+
+struct route_condition {
+    size_t route;
+    size_t unknowns;
+    size_t givens;
+    const char *text;
+};
+
+/* An entry as it is read back; the tables are as long as any can be. */
+struct entry {
+    uint64_t code;
+    uint8_t condition[LAYODEGI_LONGEST_TABLE];
+    uint8_t answers[LAYODEGI_LONGEST_ANSWERS];
+};
+
+/* A decimal number, digits alone. */
+static int read_number(const char *word, size_t *number)
+{
+    if (*word == '\0' || word[strspn(word, "0123456789")] != '\0')
+        return 0;
+    errno = 0;
+    unsigned long long value = strtoull(word, NULL, 10);
+    if (errno != 0 || value > SIZE_MAX)
+        return 0;
+    *number = (size_t)value;
+    return 1;
+}
+
+static int read_arguments(int count, char **words, struct route_condition *asked)
+{
+    if (count == 1)
+        return 1;
+    if (count != 5)
+        return 0;
+    asked->text = words[4];
+    return read_number(words[1], &asked->route) && read_number(words[2], &asked->unknowns)
+           && read_number(words[3], &asked->givens);
+}
+
+/* From the text to the entry and back. Answers the first code with a no, else that of reading back. */
+static uint64_t write_and_read_back(const struct route_condition *asked, struct entry *entry)
+{
+    static uint8_t bytes[LAYODEGI_LONGEST_ENTRY];
+    uint64_t code = layodegi_read_text(asked->unknowns, asked->givens, (const uint8_t *)asked->text,
+                                       strlen(asked->text), entry->condition, sizeof entry->condition);
+    if (layodegi_code_question(code) != LAYODEGI_YES)
+        return code;
+    code = layodegi_write_entry(asked->route, asked->unknowns, asked->givens, entry->condition,
+                                sizeof entry->condition, bytes, sizeof bytes);
+    if (layodegi_code_question(code) != LAYODEGI_YES)
+        return code;
+    return layodegi_read_entry(bytes, layodegi_code_number(code), entry->condition, sizeof entry->condition,
+                               entry->answers, sizeof entry->answers);
+}
+
+static unsigned count_letters(size_t mask)
+{
+    unsigned count = 0;
+    for (; mask != 0; mask >>= 1)
+        count += (unsigned)(mask & 1);
+    return count;
+}
+
+/* A monomial: 1, or its letters with * between. */
+static void print_monomial(size_t mask, size_t unknowns)
+{
+    const char *between = "";
+    if (mask == 0)
+        fputs("1", stdout);
+    for (size_t bit = 0; mask >> bit != 0; bit++) {
+        if ((mask >> bit & 1) == 0)
+            continue;
+        printf("%s%c", between, bit < unknowns ? "uvwxyz"[bit] : "abcdefgh"[bit - unknowns]);
+        between = "*";
+    }
+}
+
+/* A polynomial in the written order: fewer letters first, then the smaller mask. */
+static void print_polynomial(const uint8_t *table, size_t unknowns, size_t givens)
+{
+    const char *between = "";
+    size_t length = layodegi_table_length(unknowns, givens);
+    for (unsigned letters = 0; letters <= unknowns + givens; letters++) {
+        for (size_t mask = 0; mask < length; mask++) {
+            if (table[mask] != 1 || count_letters(mask) != letters)
+                continue;
+            fputs(between, stdout);
+            print_monomial(mask, unknowns);
+            between = " + ";
+        }
+    }
+    puts(*between == '\0' ? "0" : "");
+}
+
+/* A state, as a number and as the values of the givens. */
+static void print_state(unsigned state, size_t givens)
+{
+    printf("none: state %u", state);
+    for (size_t given = 0; given < givens; given++)
+        printf(", %c = %u", "abcdefgh"[given], state >> given & 1);
+    puts("");
+}
+
+static void print_entry(const struct entry *entry)
+{
+    size_t unknowns = layodegi_entry_unknowns(entry->code);
+    size_t givens = layodegi_entry_givens(entry->code);
+    printf("route %u, U %zu, G %zu, %zu bytes\n", layodegi_entry_route(entry->code), unknowns, givens,
+           layodegi_entry_length(entry->code));
+    fputs("condition: ", stdout);
+    print_polynomial(entry->condition, unknowns, givens);
+    if (layodegi_entry_is_none(entry->code)) {
+        print_state(layodegi_entry_state(entry->code), givens);
+        return;
+    }
+    for (size_t unknown = 0; unknown < unknowns; unknown++) {
+        printf("%c = ", "uvwxyz"[unknown]);
+        print_polynomial(entry->answers + unknown * layodegi_table_length(unknowns, givens), unknowns, givens);
+    }
+}
+
+int main(int count, char **words)
+{
+    static struct entry entry;
+    struct route_condition asked = {7, 2, 0, "u+v+1"};
+    if (!read_arguments(count, words, &asked)) {
+        fputs("usage: example [ROUTE U G TEXT]\n", stderr);
+        return 2;
+    }
+    entry.code = write_and_read_back(&asked, &entry);
+    unsigned question = layodegi_code_question(entry.code);
+    if (question != LAYODEGI_YES) {
+        printf("refused %u: %s\n", question, layodegi_question_words(question));
+        return 1;
+    }
+    print_entry(&entry);
+    return 0;
+}

@@ -1,0 +1,273 @@
+/*
+ * The proved library of the thirty-year route volume, for C and C++.
+ *
+ * A route condition is a Boolean expression over givens (a to h) and unknowns (u to z). The library reads it as
+ * text, brings it to polynomial normal form, solves 'condition = 0', and writes, reads and audits archive entries.
+ * Build the archive with `rt staticlib layodegi`, in the repository's root, and link target/staticlib/liblayodegi.a.
+ *
+ * U counts the unknowns, G the givens, and n = U + G.
+ * A state is a number below 2^G: bit i is the value of given i.
+ * A choice is a number below 2^U: bit j is the value of unknown j.
+ * A table is a polynomial as 2^n bytes: byte m is 1 if the monomial with the mask m is present, else 0. Bit j of a
+ * mask is unknown j, bit U + i is given i; mask 0 is the monomial 1.
+ * An answer table is U tables one after another, unknown 0 first: U * 2^n bytes.
+ *
+ * What each function shares:
+ * - A buffer passes as a pointer, then its length in bytes. It may be longer than it has to be; the bytes behind
+ *   are neither read nor changed. A function allocates nothing and keeps no pointer.
+ * - It asks its questions in the order named with it. The first no is its answer, and then no byte is changed.
+ *   So every number and every byte may be passed: the function tests them itself.
+ * - It returns a code of 64 bits: in the low byte the number of the first no, 0 if there is none; above it what
+ *   the comment names, else 0. The inline functions below take a code apart.
+ * - The caller owes this much: each pointer is not null, even where the length is 0, and points to that many bytes;
+ *   a buffer that is written overlaps no other buffer of the call; and nothing else changes them meanwhile.
+ */
+#ifndef LAYODEGI_H
+#define LAYODEGI_H
+
+#include <stddef.h>
+#include <stdint.h>
+
+#ifdef __cplusplus
+extern "C" {
+#endif
+
+/* Bounds of the paper, to declare buffers with. */
+#define LAYODEGI_MOST_UNKNOWNS 6
+#define LAYODEGI_MOST_GIVENS 8
+#define LAYODEGI_MOST_LETTERS 10
+#define LAYODEGI_LAST_ROUTE 250
+#define LAYODEGI_LONGEST_TEXT 200
+#define LAYODEGI_LONGEST_TABLE 1024
+#define LAYODEGI_LONGEST_ANSWERS 6144
+#define LAYODEGI_LONGEST_ENTRY 27654
+
+/* The questions, and the number if the answer is no. */
+enum layodegi_question {
+    LAYODEGI_YES = 0,               /* no question is answered no */
+    LAYODEGI_LETTERS = 1,           /* Are U at most 6, G at most 8, n at most 10? */
+    LAYODEGI_ROUTE = 2,             /* Is the route 1 to 250? */
+    LAYODEGI_TEXT_LENGTH = 3,       /* Has the text 1 to 200 bytes? */
+    LAYODEGI_BUFFER_LENGTH = 4,     /* Has each condition buffer 2^n bytes or more, and each answer or handed
+                                       buffer U times 2^n or more? */
+    LAYODEGI_SIGNS = 5,             /* Is every byte a sign of the notation or a space? */
+    LAYODEGI_DECLARED = 6,          /* Is every letter declared? */
+    LAYODEGI_GRAMMAR = 7,           /* Does the grammar read the whole text? */
+    LAYODEGI_TABLE_BYTES = 8,       /* Is each byte of a table lent to be read, as far as question 4's length,
+                                       0 or 1? */
+    LAYODEGI_SOLUTION = 9,          /* Has the condition a solution? (a no also gives the state) */
+    LAYODEGI_RECORDS = 10,          /* Does every record, to the first kind 4, have kind 1 to 5 and a whole body,
+                                       and is there a kind 4? */
+    LAYODEGI_KINDS = 11,            /* Are the kinds in the entry's order, both routes equal? */
+    LAYODEGI_NUMBERS = 12,          /* Are masks below 2^n, unknowns below U, the state below 2^G, all in order,
+                                       none twice? */
+    LAYODEGI_ANSWERS = 13,          /* Do the answers, or the state, equal those solved afresh? */
+    LAYODEGI_OUTPUT_LENGTH = 14,    /* Is the output at least as long as what is to be written? */
+    LAYODEGI_RISING_ROUTE = 15,     /* Is the route above the one before? */
+    LAYODEGI_STATE_AND_CHOICE = 16  /* Is the state below 2^G and the choice below 2^U? */
+};
+
+/*
+ * Reads a text into the table of its polynomial. Questions 1, 3, 4, 5, 6, 7.
+ * condition, written: 2^n bytes.
+ */
+uint64_t layodegi_read_text(size_t unknowns, size_t givens, const uint8_t *text, size_t text_length,
+                            uint8_t *condition, size_t condition_length);
+
+/*
+ * The value of a table at a state and a choice. Questions 1, 4, 8, 16.
+ * table: 2^n bytes. The code holds the value, 0 or 1 (layodegi_code_number).
+ */
+uint64_t layodegi_value(size_t unknowns, size_t givens, const uint8_t *table, size_t table_length,
+                        size_t state, size_t choice);
+
+/*
+ * The sum of two tables. Questions 1, 4, 8.
+ * a and b: 2^n bytes each; out, written: 2^n bytes.
+ */
+uint64_t layodegi_sum(size_t unknowns, size_t givens, const uint8_t *a, size_t a_length,
+                      const uint8_t *b, size_t b_length, uint8_t *out, size_t out_length);
+
+/*
+ * The product of two tables. Questions 1, 4, 8.
+ * a and b: 2^n bytes each; out, written: 2^n bytes.
+ */
+uint64_t layodegi_product(size_t unknowns, size_t givens, const uint8_t *a, size_t a_length,
+                          const uint8_t *b, size_t b_length, uint8_t *out, size_t out_length);
+
+/*
+ * A condition with the handed polynomials put for its unknowns, all at once. Questions 1, 4, 8.
+ * condition: 2^n bytes; handed: U * 2^n bytes; out, written: 2^n bytes.
+ */
+uint64_t layodegi_substitute(size_t unknowns, size_t givens, const uint8_t *condition, size_t condition_length,
+                             const uint8_t *handed, size_t handed_length, uint8_t *out, size_t out_length);
+
+/*
+ * Boole's answers: the general solution, each unknown itself being the parameter. Questions 1, 4, 8, 9.
+ * condition: 2^n bytes; answers, written: U * 2^n bytes. With a no to 9 the code holds the smallest state in which
+ * every choice gives the condition the value 1 (layodegi_code_number).
+ */
+uint64_t layodegi_boole(size_t unknowns, size_t givens, const uint8_t *condition, size_t condition_length,
+                        uint8_t *answers, size_t answers_length);
+
+/*
+ * The particular solution: Boole's answers with 0 put for all parameters. Questions 1, 4, 8, 9.
+ * Buffers and code as for layodegi_boole.
+ */
+uint64_t layodegi_particular(size_t unknowns, size_t givens, const uint8_t *condition, size_t condition_length,
+                             uint8_t *answers, size_t answers_length);
+
+/*
+ * Loewenheim's answers, from the particular solution. Questions 1, 4, 8, 9.
+ * Buffers and code as for layodegi_boole.
+ */
+uint64_t layodegi_lowenheim(size_t unknowns, size_t givens, const uint8_t *condition, size_t condition_length,
+                            uint8_t *answers, size_t answers_length);
+
+/*
+ * Loewenheim's formula on handed polynomials, whether or not they solve the condition. Questions 1, 4, 8.
+ * condition: 2^n bytes; handed: U * 2^n bytes; answers, written: U * 2^n bytes.
+ */
+uint64_t layodegi_lowenheim_handed(size_t unknowns, size_t givens,
+                                   const uint8_t *condition, size_t condition_length,
+                                   const uint8_t *handed, size_t handed_length,
+                                   uint8_t *answers, size_t answers_length);
+
+/*
+ * Writes the entry of a condition, with Boole's answers or 'none'. Questions 1, 2, 4, 8, 14.
+ * condition: 2^n bytes; out, written: as long as the entry, LAYODEGI_LONGEST_ENTRY is always enough. The code holds
+ * the entry's length (layodegi_code_number).
+ */
+uint64_t layodegi_write_entry(size_t route, size_t unknowns, size_t givens,
+                              const uint8_t *condition, size_t condition_length,
+                              uint8_t *out, size_t out_length);
+
+/*
+ * Reads the entry at the start of the bytes; later bytes play no part. Questions 10, 11, 1, 2, 12, 4.
+ * condition, written: 2^n bytes; answers, written if the entry is solved: U * 2^n bytes. The code holds what the
+ * entry says (layodegi_entry_ functions).
+ */
+uint64_t layodegi_read_entry(const uint8_t *bytes, size_t bytes_length,
+                             uint8_t *condition, size_t condition_length,
+                             uint8_t *answers, size_t answers_length);
+
+/*
+ * Reads the entry at the start of the bytes, solves its condition afresh and compares. Questions 10, 11, 1, 2, 12,
+ * 13. The code holds what the entry says (layodegi_entry_ functions).
+ */
+uint64_t layodegi_audit(const uint8_t *bytes, size_t bytes_length);
+
+/*
+ * Audits the entries of a volume from a place to its end; a place at or past the end gives 0 entries. Questions 10,
+ * 11, 1, 2, 12, 13, 15, per entry. The code holds the count of entries, after a no the count that passed before it
+ * (layodegi_code_number).
+ */
+uint64_t layodegi_walk(const uint8_t *volume, size_t volume_length, size_t place);
+
+/* The bytes of a table, 2^n, and of an answer table, U * 2^n; 0 where question 1 is answered no. */
+static inline size_t layodegi_table_length(size_t unknowns, size_t givens)
+{
+    int permitted = unknowns <= LAYODEGI_MOST_UNKNOWNS && givens <= LAYODEGI_MOST_GIVENS
+                    && unknowns + givens <= LAYODEGI_MOST_LETTERS;
+    return permitted ? (size_t)1 << (unknowns + givens) : 0;
+}
+
+static inline size_t layodegi_answers_length(size_t unknowns, size_t givens)
+{
+    return unknowns * layodegi_table_length(unknowns, givens);
+}
+
+/* Of any code: the number of the first no, LAYODEGI_YES if there is none. */
+static inline unsigned layodegi_code_question(uint64_t code)
+{
+    return (unsigned)(code & 0xff);
+}
+
+/* Of the code of layodegi_value, _boole, _particular, _lowenheim, _write_entry, _walk: what it holds. */
+static inline uint32_t layodegi_code_number(uint64_t code)
+{
+    return (uint32_t)(code >> 8 & 0xffffffff);
+}
+
+/* Of the code of layodegi_read_entry or layodegi_audit, where there is no no: what the entry says. */
+static inline unsigned layodegi_entry_route(uint64_t code)
+{
+    return (unsigned)(code >> 8 & 0xff);
+}
+
+static inline size_t layodegi_entry_unknowns(uint64_t code)
+{
+    return (size_t)(code >> 16 & 0xff);
+}
+
+static inline size_t layodegi_entry_givens(uint64_t code)
+{
+    return (size_t)(code >> 24 & 0xff);
+}
+
+/* The bytes up to the end of the entry. */
+static inline size_t layodegi_entry_length(uint64_t code)
+{
+    return (size_t)(code >> 32 & 0xffff);
+}
+
+/* 1 if the entry says 'none', 0 if it is solved. */
+static inline int layodegi_entry_is_none(uint64_t code)
+{
+    return code >> 48 != 0;
+}
+
+/* The state of a 'none' entry. */
+static inline unsigned layodegi_entry_state(uint64_t code)
+{
+    return layodegi_entry_is_none(code) ? (unsigned)((code >> 48) - 1) : 0;
+}
+
+/* The paper's words for a question. */
+static inline const char *layodegi_question_words(unsigned question)
+{
+    switch (question) {
+    case LAYODEGI_LETTERS:
+        return "Are U at most 6, G at most 8, n at most 10?";
+    case LAYODEGI_ROUTE:
+        return "Is the route 1 to 250?";
+    case LAYODEGI_TEXT_LENGTH:
+        return "Has the text 1 to 200 bytes?";
+    case LAYODEGI_BUFFER_LENGTH:
+        return "Has each condition buffer 2^n bytes or more, "
+               "and each answer or handed buffer U times 2^n or more?";
+    case LAYODEGI_SIGNS:
+        return "Is every byte a sign of the notation or a space?";
+    case LAYODEGI_DECLARED:
+        return "Is every letter declared?";
+    case LAYODEGI_GRAMMAR:
+        return "Does the grammar read the whole text?";
+    case LAYODEGI_TABLE_BYTES:
+        return "Is each byte of a table lent to be read, as far as question 4's length, 0 or 1?";
+    case LAYODEGI_SOLUTION:
+        return "Has the condition a solution?";
+    case LAYODEGI_RECORDS:
+        return "Does every record, to the first kind 4, have kind 1 to 5 and a whole body, "
+               "and is there a kind 4?";
+    case LAYODEGI_KINDS:
+        return "Are the kinds in the entry's order, both routes equal?";
+    case LAYODEGI_NUMBERS:
+        return "Are masks below 2^n, unknowns below U, the state below 2^G, all in order, none twice?";
+    case LAYODEGI_ANSWERS:
+        return "Do the answers, or the state, equal those solved afresh?";
+    case LAYODEGI_OUTPUT_LENGTH:
+        return "Is the output at least as long as what is to be written?";
+    case LAYODEGI_RISING_ROUTE:
+        return "Is the route above the one before?";
+    case LAYODEGI_STATE_AND_CHOICE:
+        return "Is the state below 2^G and the choice below 2^U?";
+    default:
+        return "no question of the paper";
+    }
+}
+
+#ifdef __cplusplus
+}
+#endif
+
+#endif

@@ -1,0 +1,395 @@
+//! Safe calls into the proved library of the thirty-year route volume.
+//!
+//! A route condition is a Boolean expression over givens (`a` to `h`: track clear, points
+//! detected) and unknowns (`u` to `z`: circuits that the designer may still choose). The library
+//! reads it as text, brings it to polynomial normal form, solves 'condition = 0', and writes,
+//! reads and audits entries of the archive. Every call is proved on every input; these functions
+//! add nothing but types.
+//!
+//! A **table** is a polynomial over n = U + G letters as 2^n bytes: byte m is 1 if the monomial
+//! with the mask m is present, else 0; bit j of a mask is unknown j, bit U + i is given i, and
+//! mask 0 is the monomial 1. An **answer table** is U tables one after another, unknown 0 first.
+//!
+//! Each call asks its questions in the order named with it. The first no is the [`Refusal`], and
+//! a call that refuses has changed no byte. Buffers may be longer than they have to be: bytes
+//! behind the length that the call needs are neither read nor changed.
+//!
+//! ```
+//! use layodegi::{audit, read_entry, read_text, walk, write_entry};
+//! use layodegi::{Answer, Letters, LONGEST_ENTRY};
+//!
+//! // One unknown must be the opposite of the other: u + v + 1 = 0.
+//! let letters = Letters { unknowns: 2, givens: 0 };
+//! let mut condition = vec![0; letters.table_length()];
+//! read_text(letters, b"u+v+1", &mut condition)?;
+//! assert_eq!(condition, [1, 1, 1, 0]); // the monomials 1, u, v
+//!
+//! let mut volume = vec![0; LONGEST_ENTRY];
+//! let length = write_entry(7, letters, &condition, &mut volume)?;
+//! volume.truncate(length);
+//!
+//! let mut answers = vec![0; letters.answers_length()];
+//! let entry = read_entry(&volume, &mut condition, &mut answers)?;
+//! assert_eq!((entry.route, entry.answer), (7, Answer::Solved));
+//! assert_eq!(answers, [1, 0, 1, 0, 0, 0, 1, 0]); // u = 1 + v, v = v
+//!
+//! assert_eq!(audit(&volume), Ok(entry));
+//! assert_eq!(walk(&volume, 0), Ok(1));
+//! # Ok::<(), layodegi::Refusal>(())
+//! ```
+
+mod answer;
+mod letters;
+mod question;
+pub mod raw;
+
+pub use answer::{Answer, Entry, Stopped};
+pub use letters::{Choice, Letters, State};
+pub use letters::{LAST_ROUTE, LONGEST_ANSWERS, LONGEST_ENTRY, LONGEST_TABLE, LONGEST_TEXT};
+pub use question::{Question, Refusal};
+
+use answer::Code;
+
+// Each `unsafe` below is sound for one reason: every slice is lent for the call as its own pointer
+// and its own length, and Rust's borrows keep a written one apart from all others.
+
+/// Reads a text into the table of its polynomial, 2^n bytes. Questions 1, 3, 4, 5, 6, 7.
+///
+/// ```
+/// # use layodegi::{read_text, Letters, Question};
+/// let letters = Letters { unknowns: 1, givens: 1 };
+/// let mut condition = [0; 4];
+/// read_text(letters, b"u | a", &mut condition)?;
+/// assert_eq!(condition, [0, 1, 1, 1]); // u + a + u*a
+///
+/// let undeclared = read_text(letters, b"u | b", &mut condition);
+/// assert_eq!(undeclared, Err(Question::Declared.into()));
+/// # Ok::<(), layodegi::Refusal>(())
+/// ```
+pub fn read_text(letters: Letters, text: &[u8], condition: &mut [u8]) -> Result<(), Refusal> {
+    let Letters { unknowns, givens } = letters;
+    let code = unsafe {
+        raw::layodegi_read_text(
+            unknowns,
+            givens,
+            text.as_ptr(),
+            text.len(),
+            condition.as_mut_ptr(),
+            condition.len(),
+        )
+    };
+    Code(code).done()
+}
+
+/// The value, 0 or 1, of a table at a state and a choice. Questions 1, 4, 8, 16.
+///
+/// ```
+/// # use layodegi::{value, Choice, Letters, State};
+/// let letters = Letters { unknowns: 1, givens: 1 };
+/// let table = [0, 1, 1, 0]; // u + a
+/// assert_eq!(value(letters, &table, State(1), Choice(0)), Ok(1));
+/// assert_eq!(value(letters, &table, State(1), Choice(1)), Ok(0));
+/// ```
+pub fn value(letters: Letters, table: &[u8], state: State, choice: Choice) -> Result<u8, Refusal> {
+    let Letters { unknowns, givens } = letters;
+    let code = unsafe {
+        raw::layodegi_value(unknowns, givens, table.as_ptr(), table.len(), state.0, choice.0)
+    };
+    Code(code).number().map(|value| value as u8)
+}
+
+/// The sum of two tables, put into `out`. Questions 1, 4, 8.
+///
+/// ```
+/// # use layodegi::{sum, Letters};
+/// let mut out = [7; 4];
+/// sum(Letters { unknowns: 2, givens: 0 }, &[0, 1, 1, 0], &[1, 1, 0, 0], &mut out)?;
+/// assert_eq!(out, [1, 0, 1, 0]); // (u + v) + (1 + u) = 1 + v
+/// # Ok::<(), layodegi::Refusal>(())
+/// ```
+pub fn sum(letters: Letters, a: &[u8], b: &[u8], out: &mut [u8]) -> Result<(), Refusal> {
+    let Letters { unknowns, givens } = letters;
+    let code = unsafe {
+        raw::layodegi_sum(
+            unknowns,
+            givens,
+            a.as_ptr(),
+            a.len(),
+            b.as_ptr(),
+            b.len(),
+            out.as_mut_ptr(),
+            out.len(),
+        )
+    };
+    Code(code).done()
+}
+
+/// The product of two tables, put into `out`. Questions 1, 4, 8.
+///
+/// ```
+/// # use layodegi::{product, Letters};
+/// let mut out = [7; 4];
+/// product(Letters { unknowns: 2, givens: 0 }, &[0, 1, 1, 0], &[0, 1, 0, 0], &mut out)?;
+/// assert_eq!(out, [0, 1, 0, 1]); // (u + v)*u = u + u*v
+/// # Ok::<(), layodegi::Refusal>(())
+/// ```
+pub fn product(letters: Letters, a: &[u8], b: &[u8], out: &mut [u8]) -> Result<(), Refusal> {
+    let Letters { unknowns, givens } = letters;
+    let code = unsafe {
+        raw::layodegi_product(
+            unknowns,
+            givens,
+            a.as_ptr(),
+            a.len(),
+            b.as_ptr(),
+            b.len(),
+            out.as_mut_ptr(),
+            out.len(),
+        )
+    };
+    Code(code).done()
+}
+
+/// The condition with the handed polynomials (an answer table) put for its unknowns, all at once.
+/// Questions 1, 4, 8.
+///
+/// ```
+/// # use layodegi::{substitute, Letters};
+/// let letters = Letters { unknowns: 2, givens: 0 };
+/// let mut out = [7; 4];
+/// // u = v, v = v makes u + v zero
+/// substitute(letters, &[0, 1, 1, 0], &[0, 0, 1, 0, 0, 0, 1, 0], &mut out)?;
+/// assert_eq!(out, [0; 4]);
+/// # Ok::<(), layodegi::Refusal>(())
+/// ```
+pub fn substitute(
+    letters: Letters,
+    condition: &[u8],
+    handed: &[u8],
+    out: &mut [u8],
+) -> Result<(), Refusal> {
+    let Letters { unknowns, givens } = letters;
+    let code = unsafe {
+        raw::layodegi_substitute(
+            unknowns,
+            givens,
+            condition.as_ptr(),
+            condition.len(),
+            handed.as_ptr(),
+            handed.len(),
+            out.as_mut_ptr(),
+            out.len(),
+        )
+    };
+    Code(code).done()
+}
+
+/// Boole's answers: the general solution, each unknown itself being the parameter.
+/// Questions 1, 4, 8, 9.
+///
+/// ```
+/// # use layodegi::{boole, Answer, Letters, State};
+/// let letters = Letters { unknowns: 2, givens: 0 };
+/// let mut answers = [7; 8];
+/// assert_eq!(boole(letters, &[0, 0, 0, 1], &mut answers), Ok(Answer::Solved)); // u*v
+/// assert_eq!(answers, [0, 1, 0, 1, 0, 0, 1, 0]); // u = u + u*v, v = v
+///
+/// let letters = Letters { unknowns: 1, givens: 1 };
+/// assert_eq!(boole(letters, &[0, 0, 1, 0], &mut answers), Ok(Answer::None(State(1)))); // a
+/// ```
+pub fn boole(letters: Letters, condition: &[u8], answers: &mut [u8]) -> Result<Answer, Refusal> {
+    let Letters { unknowns, givens } = letters;
+    let code = unsafe {
+        raw::layodegi_boole(
+            unknowns,
+            givens,
+            condition.as_ptr(),
+            condition.len(),
+            answers.as_mut_ptr(),
+            answers.len(),
+        )
+    };
+    Code(code).answer()
+}
+
+/// The particular solution: Boole's answers with 0 put for all parameters.
+/// Questions 1, 4, 8, 9.
+///
+/// ```
+/// # use layodegi::{particular, Answer, Letters};
+/// let letters = Letters { unknowns: 2, givens: 0 };
+/// let mut answers = [7; 8];
+/// assert_eq!(particular(letters, &[1, 1, 1, 0], &mut answers), Ok(Answer::Solved)); // u + v + 1
+/// assert_eq!(answers, [1, 0, 0, 0, 0, 0, 0, 0]); // u = 1, v = 0
+/// ```
+pub fn particular(
+    letters: Letters,
+    condition: &[u8],
+    answers: &mut [u8],
+) -> Result<Answer, Refusal> {
+    let Letters { unknowns, givens } = letters;
+    let code = unsafe {
+        raw::layodegi_particular(
+            unknowns,
+            givens,
+            condition.as_ptr(),
+            condition.len(),
+            answers.as_mut_ptr(),
+            answers.len(),
+        )
+    };
+    Code(code).answer()
+}
+
+/// Löwenheim's answers, from the particular solution. Questions 1, 4, 8, 9.
+///
+/// ```
+/// # use layodegi::{lowenheim, Answer, Letters};
+/// let letters = Letters { unknowns: 2, givens: 0 };
+/// let mut answers = [7; 8];
+/// assert_eq!(lowenheim(letters, &[0, 1, 1, 0], &mut answers), Ok(Answer::Solved)); // u + v
+/// assert_eq!(answers, [0, 0, 0, 1, 0, 0, 0, 1]); // u = u*v, v = u*v
+/// ```
+pub fn lowenheim(
+    letters: Letters,
+    condition: &[u8],
+    answers: &mut [u8],
+) -> Result<Answer, Refusal> {
+    let Letters { unknowns, givens } = letters;
+    let code = unsafe {
+        raw::layodegi_lowenheim(
+            unknowns,
+            givens,
+            condition.as_ptr(),
+            condition.len(),
+            answers.as_mut_ptr(),
+            answers.len(),
+        )
+    };
+    Code(code).answer()
+}
+
+/// Löwenheim's formula on handed polynomials (an answer table), whether or not they solve the
+/// condition. Questions 1, 4, 8.
+///
+/// ```
+/// # use layodegi::{lowenheim_handed, Letters};
+/// let letters = Letters { unknowns: 1, givens: 1 };
+/// let mut answers = [7; 4];
+/// lowenheim_handed(letters, &[0, 1, 1, 0], &[0, 0, 1, 0], &mut answers)?; // u + a; a
+/// assert_eq!(answers, [0, 0, 1, 0]); // u = a
+/// # Ok::<(), layodegi::Refusal>(())
+/// ```
+pub fn lowenheim_handed(
+    letters: Letters,
+    condition: &[u8],
+    handed: &[u8],
+    answers: &mut [u8],
+) -> Result<(), Refusal> {
+    let Letters { unknowns, givens } = letters;
+    let code = unsafe {
+        raw::layodegi_lowenheim_handed(
+            unknowns,
+            givens,
+            condition.as_ptr(),
+            condition.len(),
+            handed.as_ptr(),
+            handed.len(),
+            answers.as_mut_ptr(),
+            answers.len(),
+        )
+    };
+    Code(code).done()
+}
+
+/// Writes the entry of a condition, with Boole's answers or 'none', and gives its length, at most
+/// [`LONGEST_ENTRY`]. Questions 1, 2, 4, 8, 14.
+///
+/// ```
+/// # use layodegi::{write_entry, Letters};
+/// let mut out = [0; 20];
+/// let length = write_entry(8, Letters { unknowns: 1, givens: 1 }, &[0, 0, 1, 0], &mut out)?; // a
+/// assert_eq!(out[..length], [1, 8, 1, 1, 2, 2, 0, 5, 1, 4, 8]); // 'none' at state 1
+/// # Ok::<(), layodegi::Refusal>(())
+/// ```
+pub fn write_entry(
+    route: usize,
+    letters: Letters,
+    condition: &[u8],
+    out: &mut [u8],
+) -> Result<usize, Refusal> {
+    let Letters { unknowns, givens } = letters;
+    let code = unsafe {
+        raw::layodegi_write_entry(
+            route,
+            unknowns,
+            givens,
+            condition.as_ptr(),
+            condition.len(),
+            out.as_mut_ptr(),
+            out.len(),
+        )
+    };
+    Code(code).number()
+}
+
+/// Reads the entry at the start of the bytes into a condition table and an answer table. A 'none'
+/// entry leaves the answer table as it was. Questions 10, 11, 1, 2, 12, 4.
+///
+/// ```
+/// # use layodegi::{read_entry, Answer, Letters, State};
+/// let (mut condition, mut answers) = ([7; 4], [7; 4]);
+/// let bytes = [1, 8, 1, 1, 2, 2, 0, 5, 1, 4, 8];
+/// let entry = read_entry(&bytes, &mut condition, &mut answers)?;
+/// assert_eq!((entry.route, entry.letters), (8, Letters { unknowns: 1, givens: 1 }));
+/// assert_eq!((entry.answer, entry.length), (Answer::None(State(1)), 11));
+/// assert_eq!((condition, answers), ([0, 0, 1, 0], [7; 4]));
+/// # Ok::<(), layodegi::Refusal>(())
+/// ```
+pub fn read_entry(
+    bytes: &[u8],
+    condition: &mut [u8],
+    answers: &mut [u8],
+) -> Result<Entry, Refusal> {
+    let code = unsafe {
+        raw::layodegi_read_entry(
+            bytes.as_ptr(),
+            bytes.len(),
+            condition.as_mut_ptr(),
+            condition.len(),
+            answers.as_mut_ptr(),
+            answers.len(),
+        )
+    };
+    Code(code).entry()
+}
+
+/// Reads the entry at the start of the bytes, solves its condition afresh and compares.
+/// Questions 10, 11, 1, 2, 12, 13.
+///
+/// ```
+/// # use layodegi::{audit, Question};
+/// assert_eq!(audit(&[1, 8, 1, 1, 2, 2, 0, 5, 1, 4, 8])?.length, 11);
+/// // 'none' at the wrong state
+/// let wrong = [1, 8, 1, 1, 2, 2, 0, 5, 0, 4, 8];
+/// assert_eq!(audit(&wrong), Err(Question::Answers.into()));
+/// # Ok::<(), layodegi::Refusal>(())
+/// ```
+pub fn audit(bytes: &[u8]) -> Result<Entry, Refusal> {
+    Code(unsafe { raw::layodegi_audit(bytes.as_ptr(), bytes.len()) }).entry()
+}
+
+/// Audits the entries of a volume from a place to its end and gives their count; a place at or
+/// past the end gives 0. The audit's questions, then 15, per entry.
+///
+/// ```
+/// # use layodegi::{walk, Question, Stopped};
+/// let entry = [1, 8, 1, 1, 2, 2, 0, 5, 1, 4, 8];
+/// assert_eq!(walk(&entry, 0), Ok(1));
+/// // the same route again
+/// let stopped = Stopped { refusal: Question::RisingRoute.into(), passed: 1 };
+/// assert_eq!(walk(&[entry, entry].concat(), 0), Err(stopped));
+/// ```
+pub fn walk(volume: &[u8], place: usize) -> Result<usize, Stopped> {
+    Code(unsafe { raw::layodegi_walk(volume.as_ptr(), volume.len(), place) }).count()
+}

@@ -1,0 +1,120 @@
+//! The functions of the archive as they stand. A slice passes as a pointer and
+//! then a length. The code that each returns is taken apart by the safe calls.
+//!
+//! A caller lends each pointer for its length: to be read where it is `*const`,
+//! to be read and written where it is `*mut`, then overlapping no other. None is
+//! null, even where the length is 0.
+
+extern "C" {
+    pub fn layodegi_read_text(
+        unknowns: usize,
+        givens: usize,
+        text: *const u8,
+        text_length: usize,
+        condition: *mut u8,
+        condition_length: usize,
+    ) -> u64;
+
+    pub fn layodegi_value(
+        unknowns: usize,
+        givens: usize,
+        table: *const u8,
+        table_length: usize,
+        state: usize,
+        choice: usize,
+    ) -> u64;
+
+    pub fn layodegi_sum(
+        unknowns: usize,
+        givens: usize,
+        a: *const u8,
+        a_length: usize,
+        b: *const u8,
+        b_length: usize,
+        out: *mut u8,
+        out_length: usize,
+    ) -> u64;
+
+    pub fn layodegi_product(
+        unknowns: usize,
+        givens: usize,
+        a: *const u8,
+        a_length: usize,
+        b: *const u8,
+        b_length: usize,
+        out: *mut u8,
+        out_length: usize,
+    ) -> u64;
+
+    pub fn layodegi_substitute(
+        unknowns: usize,
+        givens: usize,
+        condition: *const u8,
+        condition_length: usize,
+        handed: *const u8,
+        handed_length: usize,
+        out: *mut u8,
+        out_length: usize,
+    ) -> u64;
+
+    pub fn layodegi_boole(
+        unknowns: usize,
+        givens: usize,
+        condition: *const u8,
+        condition_length: usize,
+        answers: *mut u8,
+        answers_length: usize,
+    ) -> u64;
+
+    pub fn layodegi_particular(
+        unknowns: usize,
+        givens: usize,
+        condition: *const u8,
+        condition_length: usize,
+        answers: *mut u8,
+        answers_length: usize,
+    ) -> u64;
+
+    pub fn layodegi_lowenheim(
+        unknowns: usize,
+        givens: usize,
+        condition: *const u8,
+        condition_length: usize,
+        answers: *mut u8,
+        answers_length: usize,
+    ) -> u64;
+
+    pub fn layodegi_lowenheim_handed(
+        unknowns: usize,
+        givens: usize,
+        condition: *const u8,
+        condition_length: usize,
+        handed: *const u8,
+        handed_length: usize,
+        answers: *mut u8,
+        answers_length: usize,
+    ) -> u64;
+
+    pub fn layodegi_write_entry(
+        route: usize,
+        unknowns: usize,
+        givens: usize,
+        condition: *const u8,
+        condition_length: usize,
+        out: *mut u8,
+        out_length: usize,
+    ) -> u64;
+
+    pub fn layodegi_read_entry(
+        bytes: *const u8,
+        bytes_length: usize,
+        condition: *mut u8,
+        condition_length: usize,
+        answers: *mut u8,
+        answers_length: usize,
+    ) -> u64;
+
+    pub fn layodegi_audit(bytes: *const u8, bytes_length: usize) -> u64;
+
+    pub fn layodegi_walk(volume: *const u8, volume_length: usize, place: usize) -> u64;
+}

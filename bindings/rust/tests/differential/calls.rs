@@ -1,0 +1,322 @@
+//! Each call three ways: the reference, the archive's function and the safe
+//! wrapper. What the reference answers gives the code and the wrapper's answer.
+
+use crate::lent::{Case, Lent};
+use crate::tally::Tally;
+use layodegi::{raw, Answer, Choice, Entry, Letters, Refusal, State, Stopped};
+use reference::cases::Random;
+use reference::{Contents, Count, Reading, Solved, Walk};
+use std::fmt::Debug;
+
+/// The cases made so far, and the numbers that place their buffers.
+pub struct Calls {
+    placing: Random,
+    pub tally: Tally,
+}
+
+/// A call on letters and some tables, as the archive, the wrapper and the reference have it.
+type RawPair =
+    unsafe extern "C" fn(usize, usize, *const u8, usize, *const u8, usize, *mut u8, usize) -> u64;
+type SafePair = fn(Letters, &[u8], &[u8], &mut [u8]) -> Result<(), Refusal>;
+type ReferencePair = fn(u64, u64, &[u8], &[u8], &mut [u8]) -> Result<(), reference::Refusal>;
+type RawSolving = unsafe extern "C" fn(usize, usize, *const u8, usize, *mut u8, usize) -> u64;
+type SafeSolving = fn(Letters, &[u8], &mut [u8]) -> Result<Answer, Refusal>;
+type ReferenceSolving = fn(u64, u64, &[u8], &mut [u8]) -> Result<Solved, reference::Refusal>;
+
+/// A call that reads two tables and writes a third.
+#[derive(Clone, Copy)]
+pub struct PairCall {
+    pub name: &'static str,
+    raw: RawPair,
+    safe: SafePair,
+    reference: ReferencePair,
+}
+
+pub const SUM: PairCall = PairCall {
+    name: "sum",
+    raw: raw::layodegi_sum,
+    safe: layodegi::sum,
+    reference: reference::sum,
+};
+
+pub const PRODUCT: PairCall = PairCall {
+    name: "product",
+    raw: raw::layodegi_product,
+    safe: layodegi::product,
+    reference: reference::product,
+};
+
+pub const SUBSTITUTE: PairCall = PairCall {
+    name: "substitute",
+    raw: raw::layodegi_substitute,
+    safe: layodegi::substitute,
+    reference: reference::substitute,
+};
+
+pub const LOWENHEIM_HANDED: PairCall = PairCall {
+    name: "lowenheim_handed",
+    raw: raw::layodegi_lowenheim_handed,
+    safe: layodegi::lowenheim_handed,
+    reference: reference::lowenheim_handed,
+};
+
+/// A call that solves a condition.
+#[derive(Clone, Copy)]
+pub struct SolvingCall {
+    pub name: &'static str,
+    raw: RawSolving,
+    safe: SafeSolving,
+    reference: ReferenceSolving,
+}
+
+pub const BOOLE: SolvingCall = SolvingCall {
+    name: "boole",
+    raw: raw::layodegi_boole,
+    safe: layodegi::boole,
+    reference: reference::boole,
+};
+
+pub const PARTICULAR: SolvingCall = SolvingCall {
+    name: "particular",
+    raw: raw::layodegi_particular,
+    safe: layodegi::particular,
+    reference: reference::particular,
+};
+
+pub const LOWENHEIM: SolvingCall = SolvingCall {
+    name: "lowenheim",
+    raw: raw::layodegi_lowenheim,
+    safe: layodegi::lowenheim,
+    reference: reference::lowenheim,
+};
+
+impl Calls {
+    pub fn new(seed: char) -> Calls {
+        Calls { placing: Random::new(seed), tally: Tally::default() }
+    }
+
+    pub fn read_text(&mut self, u: u64, g: u64, text: &[u8], condition: &[u8]) {
+        self.case(
+            ("read_text", &[u, g]),
+            [text],
+            [condition],
+            |[text], [condition]| done(reference::read_text(u, g, text, condition)),
+            |[text], [condition]| unsafe {
+                raw::layodegi_read_text(
+                    u as usize,
+                    g as usize,
+                    text.as_ptr(),
+                    text.len(),
+                    condition.as_mut_ptr(),
+                    condition.len(),
+                )
+            },
+            |[text], [condition]| layodegi::read_text(letters(u, g), text, condition),
+        );
+    }
+
+    pub fn value(&mut self, u: u64, g: u64, table: &[u8], state: u64, choice: u64) {
+        self.case(
+            ("value", &[u, g, state, choice]),
+            [table],
+            [],
+            |[table], []| {
+                let (state, choice) = (reference::State(state), reference::Choice(choice));
+                number(reference::value(u, g, table, state, choice))
+            },
+            |[table], []| unsafe {
+                raw::layodegi_value(
+                    u as usize,
+                    g as usize,
+                    table.as_ptr(),
+                    table.len(),
+                    state as usize,
+                    choice as usize,
+                )
+            },
+            |[table], []| {
+                let (state, choice) = (State(state as usize), Choice(choice as usize));
+                layodegi::value(letters(u, g), table, state, choice)
+            },
+        );
+    }
+
+    pub fn pair(&mut self, call: PairCall, u: u64, g: u64, a: &[u8], b: &[u8], out: &[u8]) {
+        self.case(
+            (call.name, &[u, g]),
+            [a, b],
+            [out],
+            |[a, b], [out]| done((call.reference)(u, g, a, b, out)),
+            |[a, b], [out]| unsafe {
+                (call.raw)(
+                    u as usize,
+                    g as usize,
+                    a.as_ptr(),
+                    a.len(),
+                    b.as_ptr(),
+                    b.len(),
+                    out.as_mut_ptr(),
+                    out.len(),
+                )
+            },
+            |[a, b], [out]| (call.safe)(letters(u, g), a, b, out),
+        );
+    }
+
+    pub fn solve(&mut self, call: SolvingCall, u: u64, g: u64, condition: &[u8], answers: &[u8]) {
+        self.case(
+            (call.name, &[u, g]),
+            [condition],
+            [answers],
+            |[condition], [answers]| solved((call.reference)(u, g, condition, answers)),
+            |[condition], [answers]| unsafe {
+                (call.raw)(
+                    u as usize,
+                    g as usize,
+                    condition.as_ptr(),
+                    condition.len(),
+                    answers.as_mut_ptr(),
+                    answers.len(),
+                )
+            },
+            |[condition], [answers]| (call.safe)(letters(u, g), condition, answers),
+        );
+    }
+
+    pub fn write_entry(&mut self, route: u64, u: u64, g: u64, condition: &[u8], out: &[u8]) {
+        self.case(
+            ("write_entry", &[route, u, g]),
+            [condition],
+            [out],
+            |[condition], [out]| number(reference::write_entry(route, u, g, condition, out)),
+            |[condition], [out]| unsafe {
+                raw::layodegi_write_entry(
+                    route as usize,
+                    u as usize,
+                    g as usize,
+                    condition.as_ptr(),
+                    condition.len(),
+                    out.as_mut_ptr(),
+                    out.len(),
+                )
+            },
+            |[condition], [out]| {
+                layodegi::write_entry(route as usize, letters(u, g), condition, out)
+            },
+        );
+    }
+
+    pub fn read_entry(&mut self, bytes: &[u8], condition: &[u8], answers: &[u8]) {
+        self.case(
+            ("read_entry", &[]),
+            [bytes],
+            [condition, answers],
+            |[bytes], [condition, answers]| entry(reference::read_entry(bytes, condition, answers)),
+            |[bytes], [condition, answers]| unsafe {
+                raw::layodegi_read_entry(
+                    bytes.as_ptr(),
+                    bytes.len(),
+                    condition.as_mut_ptr(),
+                    condition.len(),
+                    answers.as_mut_ptr(),
+                    answers.len(),
+                )
+            },
+            |[bytes], [condition, answers]| layodegi::read_entry(bytes, condition, answers),
+        );
+    }
+
+    pub fn audit(&mut self, bytes: &[u8]) {
+        self.case(
+            ("audit", &[]),
+            [bytes],
+            [],
+            |[bytes], []| entry(reference::audit(bytes)),
+            |[bytes], []| unsafe { raw::layodegi_audit(bytes.as_ptr(), bytes.len()) },
+            |[bytes], []| layodegi::audit(bytes),
+        );
+    }
+
+    pub fn walk(&mut self, volume: &[u8], place: usize) {
+        self.case(
+            ("walk", &[place as u64]),
+            [volume],
+            [],
+            |[volume], []| count(Walk { volume, place }.count()),
+            |[volume], []| unsafe { raw::layodegi_walk(volume.as_ptr(), volume.len(), place) },
+            |[volume], []| layodegi::walk(volume, place),
+        );
+    }
+
+    /// One case of a call, with the numbers that it passes.
+    fn case<T: PartialEq + Debug, const R: usize, const W: usize>(
+        &mut self,
+        (call, numbers): (&'static str, &[u64]),
+        read: [&[u8]; R],
+        written: [&[u8]; W],
+        reference: impl FnOnce([&[u8]; R], [&mut [u8]; W]) -> (u64, T),
+        archive: impl FnOnce([&[u8]; R], [&mut [u8]; W]) -> u64,
+        wrapper: impl FnOnce([&[u8]; R], [&mut [u8]; W]) -> T,
+    ) {
+        let case = Case {
+            read: read.map(|bytes| Lent::new(&mut self.placing, bytes)),
+            written: written.map(|bytes| Lent::new(&mut self.placing, bytes)),
+        };
+        match case.compare(reference, archive, wrapper) {
+            Ok(code) => self.tally.add(call, code as u8),
+            Err(difference) => {
+                let lengths = written.map(<[u8]>::len);
+                panic!("{call} {numbers:?} on {read:?}, buffers of {lengths:?}: {difference}")
+            }
+        }
+    }
+}
+
+fn letters(u: u64, g: u64) -> Letters {
+    Letters { unknowns: u as usize, givens: g as usize }
+}
+
+fn refused<T>(reference::Refusal(number): reference::Refusal) -> (u64, Result<T, Refusal>) {
+    (number.into(), Err(Refusal::with_number(number)))
+}
+
+fn done(answer: Result<(), reference::Refusal>) -> (u64, Result<(), Refusal>) {
+    answer.map_or_else(refused, |()| (0, Ok(())))
+}
+
+/// A value or a length.
+fn number<T: Copy + TryInto<u64, Error: Debug>>(
+    answer: Result<T, reference::Refusal>,
+) -> (u64, Result<T, Refusal>) {
+    answer.map_or_else(refused, |number| (256 * number.try_into().unwrap(), Ok(number)))
+}
+
+fn solved(answer: Result<Solved, reference::Refusal>) -> (u64, Result<Answer, Refusal>) {
+    answer.map_or_else(refused, |solved| match solved {
+        Solved::Done => (0, Ok(Answer::Solved)),
+        Solved::None(state) => (9 + 256 * state.0, Ok(Answer::None(State(state.0 as usize)))),
+    })
+}
+
+fn entry(answer: Result<Reading, reference::Refusal>) -> (u64, Result<Entry, Refusal>) {
+    answer.map_or_else(refused, |reading| {
+        let Reading { route, unknowns, givens, contents, length } = reading;
+        let (none, answer) = match contents {
+            Contents::Solved => (0, Answer::Solved),
+            Contents::None(state) => (1 + state.0, Answer::None(State(state.0 as usize))),
+        };
+        let heading = u64::from(route) << 8 | u64::from(unknowns) << 16 | u64::from(givens) << 24;
+        let letters = letters(unknowns.into(), givens.into());
+        (heading | (length as u64) << 32 | none << 48, Ok(Entry { route, letters, answer, length }))
+    })
+}
+
+fn count(answer: Count) -> (u64, Result<usize, Stopped>) {
+    match answer {
+        Count::Whole(count) => (256 * count as u64, Ok(count)),
+        Count::Refused(reference::Refusal(number), passed) => {
+            let refusal = Refusal::with_number(number);
+            (u64::from(number) + 256 * passed as u64, Err(Stopped { refusal, passed }))
+        }
+    }
+}

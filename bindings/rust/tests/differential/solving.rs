@@ -1,0 +1,62 @@
+//! Cases for Boole's answers, the particular solution and the own Löwenheim.
+
+use crate::calls::{Calls, SolvingCall, BOOLE, LOWENHEIM, PARTICULAR};
+use crate::making::{condition, damage, garbage, result, wrong_letters};
+use reference::cases::{bench_tables, pairs, Random, TOO_LARGE};
+
+pub fn run_boole() -> Calls {
+    run(BOOLE)
+}
+
+pub fn run_particular() -> Calls {
+    run(PARTICULAR)
+}
+
+pub fn run_lowenheim() -> Calls {
+    run(LOWENHEIM)
+}
+
+fn run(call: SolvingCall) -> Calls {
+    let mut calls = Calls::new('S');
+    let random = &mut Random::new(call.name.as_bytes()[0] as char);
+    let letters = TOO_LARGE.into_iter().chain((0..200).map(|_| wrong_letters(random)));
+    for (u, g) in letters.collect::<Vec<_>>() {
+        calls.solve(call, u, g, &random.table(16, 2), &garbage(random, 64));
+        calls.solve(call, u, g, &[7], &[]);
+    }
+    for (u, g, table) in bench_tables() {
+        for _ in 0..10 {
+            calls.solve(call, u, g, &table, &result(random, u as usize * table.len()));
+        }
+    }
+    every_condition(&mut calls, call, random);
+    for (u, g) in pairs(0, 10) {
+        let answers = u as usize * (1 << (u + g));
+        for _ in 0..80 {
+            let mut table = condition(random, u, g);
+            damage(random, &mut table);
+            calls.solve(call, u, g, &table, &result(random, answers));
+        }
+        for _ in 0..12 {
+            // about half the values 1: blocked states are rare, or many unknowns make them so
+            let table = random.table(1 << (u + g), 2);
+            calls.solve(call, u, g, &table, &result(random, answers));
+        }
+        for state in [0, (1 << g) / 2, (1 << g) - 1] {
+            let table = random.blocked(u, g, state);
+            calls.solve(call, u, g, &table, &garbage(random, answers));
+        }
+    }
+    calls
+}
+
+/// Every condition over at most three letters.
+fn every_condition(calls: &mut Calls, call: SolvingCall, random: &mut Random) {
+    for (u, g) in pairs(0, 3) {
+        let length = 1 << (u + g);
+        for bits in 0..1 << length {
+            let table: Vec<u8> = (0..length).map(|mask| (bits >> mask & 1) as u8).collect();
+            calls.solve(call, u, g, &table, &garbage(random, u as usize * length));
+        }
+    }
+}

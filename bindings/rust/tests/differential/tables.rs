@@ -1,0 +1,120 @@
+//! Cases for value, sum, product, substitution and the formula on handed
+//! polynomials.
+
+use crate::calls::{Calls, PairCall, LOWENHEIM_HANDED, PRODUCT, SUBSTITUTE, SUM};
+use crate::making::{condition, damage, garbage, large, result, wrong_letters};
+use reference::cases::{bench_tables, pairs, Random, TOO_LARGE};
+
+pub fn run_values() -> Calls {
+    let mut calls = Calls::new('V');
+    let random = &mut Random::new('v');
+    let letters = TOO_LARGE.into_iter().chain((0..200).map(|_| wrong_letters(random)));
+    for (u, g) in letters.collect::<Vec<_>>() {
+        calls.value(u, g, &garbage(random, 16), large(random), 0);
+        calls.value(u, g, &[], 0, 0);
+    }
+    for (u, g) in pairs(0, 10) {
+        let table = condition(random, u, g);
+        for point in 0..table.len() as u64 {
+            // every point of small tables, some of large ones
+            if table.len() <= 64 || random.once_in(table.len() / 64) {
+                calls.value(u, g, &table, point >> u, point & ((1 << u) - 1));
+            }
+        }
+        for _ in 0..60 {
+            let mut table = condition(random, u, g);
+            damage(random, &mut table);
+            let state = around(random, 1 << g);
+            let choice = around(random, 1 << u);
+            calls.value(u, g, &table, state, choice);
+        }
+    }
+    calls
+}
+
+/// A number mostly below the bound, else at it or over it.
+fn around(random: &mut Random, bound: usize) -> u64 {
+    match random.below(12) {
+        0 => bound as u64 + random.below(3) as u64,
+        1 => (random.below(bound) as u64) | 1 << (8 + random.below(56)),
+        2 => u64::MAX - random.below(bound) as u64,
+        _ => random.below(bound) as u64,
+    }
+}
+
+pub fn run_sums() -> Calls {
+    run_pairs(SUM, 120)
+}
+
+pub fn run_products() -> Calls {
+    run_pairs(PRODUCT, 90)
+}
+
+pub fn run_substitutions() -> Calls {
+    run_pairs(SUBSTITUTE, 80)
+}
+
+pub fn run_handed() -> Calls {
+    run_pairs(LOWENHEIM_HANDED, 80)
+}
+
+/// Cases for a call on two tables, of which the second and the result may be answer tables.
+fn run_pairs(call: PairCall, many: usize) -> Calls {
+    let mut calls = Calls::new('P');
+    let random = &mut Random::new(call.name.as_bytes()[0] as char);
+    let length = |u: u64, g: u64| 1usize << (u + g);
+    let second = |u: u64, g: u64| match call.name {
+        "sum" | "product" => length(u, g),
+        _ => u as usize * length(u, g),
+    };
+    let third = |u: u64, g: u64| match call.name {
+        "lowenheim_handed" => u as usize * length(u, g),
+        _ => length(u, g),
+    };
+    let letters = TOO_LARGE.into_iter().chain((0..200).map(|_| wrong_letters(random)));
+    for (u, g) in letters.collect::<Vec<_>>() {
+        calls.pair(call, u, g, &random.table(16, 2), &random.table(64, 2), &garbage(random, 64));
+        calls.pair(call, u, g, &[7], &[], &[]);
+    }
+    for (u, g, table) in bench_tables() {
+        let other = random.table(second(u, g), 2);
+        calls.pair(call, u, g, &table, &other, &result(random, third(u, g)));
+    }
+    for (u, g) in pairs(0, 10) {
+        for _ in 0..many {
+            let mut a = condition(random, u, g);
+            let mut b = random.any_table(second(u, g));
+            damage(random, &mut a);
+            damage(random, &mut b);
+            calls.pair(call, u, g, &a, &b, &result(random, third(u, g)));
+        }
+        one_short(&mut calls, call, random, (u, g), second(u, g), third(u, g));
+    }
+    calls
+}
+
+/// Each buffer in turn one byte short, and each table in turn with its last byte over 1.
+fn one_short(
+    calls: &mut Calls,
+    call: PairCall,
+    random: &mut Random,
+    (u, g): (u64, u64),
+    second: usize,
+    third: usize,
+) {
+    let (a, b) = (condition(random, u, g), random.table(second, 2));
+    let out = garbage(random, third);
+    let spoiled = |table: &[u8]| {
+        let mut table = table.to_vec();
+        if let Some(last) = table.last_mut() {
+            *last = 2;
+        }
+        table
+    };
+    calls.pair(call, u, g, &a[1..], &b, &out);
+    calls.pair(call, u, g, &a, &b[second.min(1)..], &out);
+    calls.pair(call, u, g, &a, &b, &out[third.min(1)..]);
+    calls.pair(call, u, g, &spoiled(&a), &b, &out);
+    calls.pair(call, u, g, &a, &spoiled(&b), &out);
+    calls.pair(call, u, g, &a, &a, &out);
+}

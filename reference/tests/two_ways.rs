@@ -1,0 +1,279 @@
+//! Every call and the sheet, by monomials and by values, against each other:
+//! results and lent bytes, refusals too.
+
+mod common;
+
+use common::{all_letters, Random};
+use reference::values::calls;
+use reference::*;
+use std::fmt::Debug;
+
+/// Holds a call by values against the call by monomials, on a lent buffer of 7s.
+fn assert_agree<R: PartialEq + Debug>(
+    length: usize,
+    by_monomials: impl FnOnce(&mut [u8]) -> R,
+    by_values: impl FnOnce(&mut [u8]) -> R,
+) {
+    let (mut first, mut second) = (vec![7; length], vec![7; length]);
+    let expected = by_monomials(&mut first);
+    assert_eq!(by_values(&mut second), expected);
+    assert_eq!(first, second, "{expected:?}");
+}
+
+/// Mostly as it is; else longer, shorter, or with a byte that is no value.
+fn perhaps_damaged(mut table: Vec<u8>, random: &mut Random) -> Vec<u8> {
+    match random.below(12) {
+        0 => table.push(9),
+        1 => drop(table.pop()),
+        2 if !table.is_empty() => {
+            let place = random.below(table.len());
+            table[place] = 2 + random.below(254) as u8;
+        }
+        _ => {}
+    }
+    table
+}
+
+/// Mostly the needed length; else longer or shorter.
+fn room(needed: usize, random: &mut Random) -> usize {
+    [needed, needed, needed + 3, needed.saturating_sub(1)][random.below(4)]
+}
+
+fn assert_operations_agree(letters: Letters, random: &mut Random) {
+    let (u, g) = (letters.unknowns as u64, letters.givens as u64);
+    let length = letters.table_length();
+    let a = perhaps_damaged(random.table(length), random);
+    let b = perhaps_damaged(random.table(length), random);
+    let handed = perhaps_damaged(random.table(letters.answer_length()), random);
+    let result = room(length, random);
+    assert_agree(result, |out| sum(u, g, &a, &b, out), |out| calls::sum(u, g, &a, &b, out));
+    assert_agree(result, |out| product(u, g, &a, &b, out), |out| calls::product(u, g, &a, &b, out));
+    assert_agree(
+        result,
+        |out| substitute(u, g, &a, &handed, out),
+        |out| calls::substitute(u, g, &a, &handed, out),
+    );
+    assert_agree(
+        room(letters.answer_length(), random),
+        |out| lowenheim_handed(u, g, &a, &handed, out),
+        |out| calls::lowenheim_handed(u, g, &a, &handed, out),
+    );
+    let state = State(random.below(1 + letters.states() as usize) as u64);
+    let choice = Choice(random.below(1 + letters.choices() as usize) as u64);
+    assert_eq!(value(u, g, &a, state, choice), calls::value(u, g, &a, state, choice));
+}
+
+fn assert_solving_agrees(letters: Letters, random: &mut Random) {
+    let (u, g) = (letters.unknowns as u64, letters.givens as u64);
+    for condition in [random.table(letters.table_length()), random.solvable(letters)] {
+        let condition = perhaps_damaged(condition, random);
+        let answers = room(letters.answer_length(), random);
+        assert_agree(
+            answers,
+            |out| boole(u, g, &condition, out),
+            |out| calls::boole(u, g, &condition, out),
+        );
+        assert_agree(
+            answers,
+            |out| particular(u, g, &condition, out),
+            |out| calls::particular(u, g, &condition, out),
+        );
+        assert_agree(
+            answers,
+            |out| lowenheim(u, g, &condition, out),
+            |out| calls::lowenheim(u, g, &condition, out),
+        );
+    }
+}
+
+fn assert_read_agrees(bytes: &[u8], condition: usize, answers: usize) {
+    assert_agree(
+        condition + answers,
+        |out| {
+            let (condition, answers) = out.split_at_mut(condition);
+            read_entry(bytes, condition, answers)
+        },
+        |out| {
+            let (condition, answers) = out.split_at_mut(condition);
+            calls::read_entry(bytes, condition, answers)
+        },
+    );
+    assert_eq!(audit(bytes), calls::audit(bytes));
+}
+
+/// An entry as it is written, cut, with a byte changed, and with its answers left out.
+fn assert_entries_agree(letters: Letters, random: &mut Random) {
+    let (u, g) = (letters.unknowns as u64, letters.givens as u64);
+    for condition in [random.table(letters.table_length()), random.solvable(letters)] {
+        let route = random.below(256) as u64;
+        let mut entry = vec![7; 27_654];
+        let length = write_entry(1 + route % 250, u, g, &condition, &mut entry).expect("an entry");
+        entry.truncate(length);
+        let lent = perhaps_damaged(condition, random);
+        assert_agree(
+            room(length, random),
+            |out| write_entry(route, u, g, &lent, out),
+            |out| calls::write_entry(route, u, g, &lent, out),
+        );
+        let rooms = (room(letters.table_length(), random), room(letters.answer_length(), random));
+        assert_read_agrees(&entry, rooms.0, rooms.1);
+        assert_read_agrees(&entry[..random.below(length)], rooms.0, rooms.1);
+        for _ in 0..20 {
+            let mut changed = entry.clone();
+            let place = random.below(length);
+            changed[place] =
+                [changed[place] ^ 1 << random.below(8), random.below(8) as u8][random.below(2)];
+            assert_read_agrees(&changed, rooms.0, rooms.1);
+        }
+    }
+}
+
+#[test]
+fn calls_agree() {
+    let mut random = Random(99);
+    for letters in all_letters(6) {
+        for _ in 0..10 {
+            assert_operations_agree(letters, &mut random);
+            assert_solving_agrees(letters, &mut random);
+            assert_entries_agree(letters, &mut random);
+        }
+    }
+    for (unknowns, givens) in [(0, 8), (1, 8), (2, 8), (3, 6), (4, 4), (5, 5), (6, 4)] {
+        let letters = Letters { unknowns, givens };
+        assert_operations_agree(letters, &mut random);
+        assert_solving_agrees(letters, &mut random);
+        assert_entries_agree(letters, &mut random);
+    }
+}
+
+#[test]
+fn too_many_letters_agree() {
+    let mut buffer = [7; 2048];
+    for (u, g) in [(7, 0), (0, 9), (6, 5), (u64::MAX, 1), (3, u64::MAX)] {
+        let table = [0; 2048];
+        assert_eq!(calls::read_text(u, g, b"u", &mut buffer), Err(Refusal(1)));
+        assert_eq!(calls::sum(u, g, &table, &table, &mut buffer), Err(Refusal(1)));
+        assert_eq!(calls::boole(u, g, &table, &mut buffer), Err(Refusal(1)));
+        assert_eq!(calls::write_entry(0, u, g, &table, &mut buffer), Err(Refusal(1)));
+        assert_eq!(buffer, [7; 2048]);
+    }
+}
+
+/// A text from the grammar, in which each sign may be another.
+fn text(random: &mut Random, depth: usize, text: &mut Vec<u8>) {
+    for part in 0..1 + random.below(4) {
+        if part > 0 {
+            text.push(b"+|**"[random.below(4)]);
+        }
+        match random.below(8) {
+            0 => text.push(b'!'),
+            1 => text.push(b' '),
+            _ => {}
+        }
+        if depth > 0 && random.below(3) == 0 {
+            text.push(b'(');
+            self::text(random, depth - 1, text);
+            text.push(b')');
+        } else {
+            text.push(b"uuvvwxabbcd01"[random.below(13)]);
+        }
+    }
+}
+
+fn random_text(random: &mut Random) -> Vec<u8> {
+    let mut bytes = Vec::new();
+    text(random, 4, &mut bytes);
+    if random.below(3) == 0 {
+        let place = random.below(bytes.len());
+        bytes[place] =
+            [random.below(256) as u8, b"+|*!()01 uvab"[random.below(13)]][random.below(2)];
+    }
+    bytes
+}
+
+#[test]
+fn texts_agree() {
+    let mut random = Random(2026);
+    let mut accepted = 0;
+    for _ in 0..4000 {
+        let bytes = random_text(&mut random);
+        let letters = Letters { unknowns: random.below(6), givens: random.below(5) };
+        let (u, g) = (letters.unknowns as u64, letters.givens as u64);
+        let length = room(letters.table_length(), &mut random);
+        accepted += read_text(u, g, &bytes, &mut vec![0; length]).is_ok() as usize;
+        assert_agree(
+            length,
+            |out| read_text(u, g, &bytes, out),
+            |out| calls::read_text(u, g, &bytes, out),
+        );
+    }
+    assert!(accepted > 400, "{accepted}");
+}
+
+/// A sheet of random lines: routes mostly rising, some damaged.
+fn random_sheet(random: &mut Random) -> Vec<u8> {
+    let mut sheet = Vec::new();
+    for number in 0..random.below(40) {
+        let route = if random.below(6) == 0 { random.below(300) } else { 6 * number };
+        let (unknowns, givens) = (1 + random.below(6), 1 + random.below(5));
+        let mut line = format!("{route} {unknowns} {givens} ").into_bytes();
+        line.extend(random_text(random));
+        if random.below(8) == 0 {
+            let place = random.below(line.len());
+            line[place] = b"\n 9\r"[random.below(4)];
+        }
+        sheet.extend(line);
+        sheet.push(b'\n');
+    }
+    if random.below(2) == 0 {
+        sheet.pop();
+    }
+    sheet
+}
+
+/// By values, through the function that the program prints with.
+fn sheet_by_values(input: &[u8]) -> Vec<u8> {
+    let mut output = Vec::new();
+    values::print_sheet(input, &mut output).expect("memory takes every byte");
+    output
+}
+
+#[test]
+fn sheets_agree() {
+    let mut random = Random(7);
+    for _ in 0..100 {
+        let input = random_sheet(&mut random);
+        assert_eq!(sheet_by_values(&input), sheet(&input));
+    }
+    for input in [&b""[..], b"\n", b"7 2 0 u+v\n8 1 1 a", b"7 2 0", &[b'7'; 301], &[0, 255, 10]] {
+        assert_eq!(sheet_by_values(input), sheet(input));
+    }
+}
+
+/// A volume of entries with rising routes, walked from every kind of place, and damaged.
+#[test]
+fn walks_agree() {
+    let mut random = Random(31);
+    for _ in 0..20 {
+        let (mut volume, mut places) = (Vec::new(), vec![0, usize::MAX]);
+        for route in 1..=random.below(12) as u64 {
+            let letters = Letters { unknowns: random.below(4), givens: random.below(3) };
+            let (u, g) = (letters.unknowns as u64, letters.givens as u64);
+            let mut entry = vec![0; 27_654];
+            let condition = random.table(letters.table_length());
+            let length = write_entry(route, u, g, &condition, &mut entry).expect("an entry");
+            volume.extend(&entry[..length]);
+            places.extend([volume.len(), volume.len() - 1]);
+        }
+        let mut damaged = volume.clone();
+        if !damaged.is_empty() {
+            let place = random.below(damaged.len());
+            damaged[place] ^= 1;
+        }
+        for volume in [&volume, &damaged] {
+            for &place in &places {
+                assert_eq!(calls::walk(volume, place), Walk { volume, place }.count());
+            }
+        }
+    }
+}
