@@ -16,7 +16,7 @@ pub fn run_writing() -> Calls {
         calls.write_entry(route, u, g, &random.table(16, 2), &garbage(random, 64));
         calls.write_entry(route, u, g, &[], &[]);
     }
-    for route in (0..=260).chain((0..200).map(|_| 251 + large(random)).collect::<Vec<_>>()) {
+    for route in (0..=260).chain((0..200).map(|_| large(random).max(251)).collect::<Vec<_>>()) {
         let table = condition(random, 1, 1);
         calls.write_entry(route, 1, 1, &table, &garbage(random, 40));
         calls.write_entry(route, 1, 1, &table[1..], &garbage(random, 2));
