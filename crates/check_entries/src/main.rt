@@ -39,10 +39,9 @@ fn show_read(r: Read, condition: &[u8], answers: &[u8]) {
     cases::show_line_end();
 }
 
-// One call on buffers of the stated lengths. A route is a byte.
+// One call on buffers of the stated lengths.
 fn write(f: cases::Fields, condition: &[u8], out: &mut [u8]) {
-    let route = (f.x % 256) as u8;
-    let r = writer::write_entry(route, f.unknowns, f.givens, condition, out);
+    let r = writer::write_entry(f.x, f.unknowns, f.givens, condition, out);
     show_written(r, out);
 }
 

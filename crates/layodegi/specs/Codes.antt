@@ -2,15 +2,32 @@
 -- Assumes nothing.
 use mathlib.Core.List.{List, [], _∷_}
 use Prim.Native.Nat.{ℕ, _+_, _*_, _%_}
+use lib.ListN.{getD, drop}
 use Rattle.tables.specs.Reply.{Reply, accepted, refused}
 
 -- a value as 32 bits; every value that a call gives is smaller
 abbrev pub narrow : ℕ → ℕ
 narrow v = v % 4294967296
 
--- the number of the first no, 0 if there is none, in the low byte; above it the value that the call gives, or the state that question 9 names
+-- the number of the first no, 0 if there is none, in the low byte; above it the first value that the call gives: a value of a table, the state
+-- that question 9 names, the length written, the count of entries
 abbrev pub code : Reply → ℕ
 code (accepted []) = 0
 code (accepted (v ∷ vs)) = 256 * narrow v
 code (refused number []) = number
 code (refused number (v ∷ vs)) = number + 256 * narrow v
+
+-- what an entry says: 0 if it is solved, 1 above the state if it says 'none'
+abbrev pub stateCode : List ℕ → ℕ
+stateCode [] = 0
+stateCode (state ∷ _) = 1 + state % 256
+
+-- a byte each, from the second on, for the route, U and G, and two bytes for the length used. Every value fits: an entry has at most 27,654 bytes
+abbrev pub headingCode : ℕ → ℕ → ℕ → ℕ → ℕ
+headingCode route U G used = 256 * route + 65536 * (U % 256) + 16777216 * (G % 256) + 4294967296 * (used % 65536)
+
+-- for reading and the audit: the number of the first no, or the heading and, in the highest two bytes, what the entry says
+abbrev pub entryCode : Reply → ℕ
+entryCode (accepted values) =
+    headingCode (getD values 0 0) (getD values 1 0) (getD values 2 0) (getD values 3 0) + 281474976710656 * stateCode (drop 4 values)
+entryCode (refused number _) = number

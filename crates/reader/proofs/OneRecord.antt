@@ -14,7 +14,7 @@ use Rattle.entry.specs.declared.Record.{Record}
 use Rattle.entry.specs.declared.Record.the-variants.{Start, Condition, Answer, End, None, Broken}
 use Rattle.entry.specs.Record.{kind, isMonomial, maskIn, tableIn}
 use Rattle.entry.specs.Held.{next}
-use Rattle.entry.specs.Questions.{routeFits, mayFollow, inBounds}
+use Rattle.entry.specs.Questions.{mayFollow, inBounds}
 use Rattle.entry.specs.Places.{place, placeOf, standsBehind}
 use Rattle.entry.proofs.Places.{rank-small}
 
@@ -75,15 +75,6 @@ module _ (r : Record) {k : ℕ} (e : k ≡ kind r) where
 
 pub table-answer : {r : Record} {i j m : ℕ} → r ≡ Answer j m → i ≡ j + 1 → i ≡ tableIn r
 table-answer e f = f ∙ rw (e, add-one)
-
--- ---- question 2
-pub route-small : (route : ℕ) → route < 1 → false ≡ routeFits route
-unfolding routeFits
-route-small route h = rw (lt-leb 1 route h)
-
-pub route-other : (route : ℕ) → 1 ≤ route → leb route 250 ≡ routeFits route
-unfolding routeFits
-route-other route h = rw (le-leb 1 route h)
 
 -- ---- which kinds may follow which
 module _ (p k : ℕ) where

@@ -9,7 +9,7 @@ ghost use Rattle.tables.specs.Questions.{firstNo};
 ghost use Rattle.tables.specs.Reply.{reply, after};
 ghost use Rattle.entry.specs.Record.{size, kind, isMonomial, maskIn, tableIn, routeIn, unknownsIn, givensIn, stateIn};
 ghost use Rattle.entry.specs.Held.{next, records, conditionIn, answersIn, heldCondition, heldVerdict};
-ghost use Rattle.entry.specs.Questions.{routeFits, mayFollow, kindsFollow, inBounds, entryQuestions};
+ghost use Rattle.entry.specs.Questions.{mayFollow, kindsFollow, inBounds, entryQuestions};
 ghost use Rattle.entry.specs.Places.{placeOf, standsBehind, fitsBehind};
 ghost use Rattle.reader.specs.Reading.{reading, readRefusal, readValues, heldAnswers};
 ghost use Rattle.reader.specs.Steps.{lengthUsed, headingOf, said, putMonomial, filled, zeros, Fitting, Reads};
@@ -229,16 +229,6 @@ fn used_length(s: &[u8]) -> usize
     0
 }
 
-// Question 2.
-pub fn route_fits(route: u8) -> bool
-    ensures { λ r. ⌜ r ≡ routeFits route ⌝ }
-{
-    if route < 1 {
-        return false;
-    }
-    route <= 250
-}
-
 fn may_follow(p: usize, k: usize) -> bool
     ensures { λ b. ⌜ b ≡ mayFollow p k ⌝ }
 {
@@ -364,7 +354,7 @@ pub fn entry_refusal(s: &[u8]) -> u8
     if !tables::letters_fit(u, g) {
         return tables::LETTERS;
     }
-    if !route_fits(route) {
+    if !entry::route_fits(route as usize) {
         return tables::ROUTE;
     }
     if !numbers_fit(s, u, g) {

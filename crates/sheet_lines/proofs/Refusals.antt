@@ -5,18 +5,17 @@ use mathlib.Core.Bool.{Bool, true, false, cond, not}
 use mathlib.Core.List.{List, []}
 use Prim.Native.Nat.{ℕ, zero, suc, _+_, _^_, _≤_, _<_}
 use native.Mathlib.Omega.{arith}
-use lib.Dec.{leb, ltb}
+use lib.Dec.{ltb}
 use lib.Pow.{pow-mono}
 use lib.ListN.{length, take, drop, length-append}
 use lib.Seq.{take-at}
-use borrow.Author.Tests.{le-leb, lt-leb, leb-true, lt-ltb, le-ltb}
+use borrow.Author.Tests.{le-leb, lt-ltb, le-ltb}
 use Rattle.ring.specs.Table.{IsTable, table}
 use Rattle.ring.proofs.Table.{is-table}
 use Rattle.tables.specs.declared.Outcome.{Outcome}
 use Rattle.tables.specs.declared.Outcome.the-variants.{Done, Refused}
 use Rattle.tables.specs.Questions.{firstNo, lettersFit, hasRoom}
 use Rattle.tables.specs.Reply.{accepted, refused, reply, after, outcome}
-use Rattle.tables.proofs.Bits.{both-right}
 use Rattle.tables.proofs.Questions.{failed, letters-small}
 use Rattle.grammar.specs.Symbols.{allSigns, allDeclared}
 use Rattle.grammar.specs.Reader.{grammarReads}
@@ -27,18 +26,6 @@ use Rattle.entry.specs.Questions.{routeFits}
 use Rattle.sheet_lines.specs.Print.{recordLines, refusedLine}
 use Rattle.sheet_lines.specs.Sheet.{lineQuestions, lineRefusal, archivedRecords, answerLines, routeBehind}
 use Rattle.sheet_lines.specs.Work.{Put, Answers}
-
-pub route-low : (route : ℕ) → route < 1 → false ≡ routeFits route
-unfolding routeFits
-route-low route h = rw (lt-leb 1 route h)
-
-pub route-high : (route : ℕ) → 1 ≤ route → leb route 250 ≡ routeFits route
-unfolding routeFits
-route-high route h = rw (le-leb 1 route h)
-
-pub route-small : (route : ℕ) → routeFits route ≡ true → route ≤ 250
-unfolding routeFits
-route-small route h = leb-true route 250 (both-right (leb 1 route) (leb route 250) h)
 
 -- ---- what a reply tells
 accepted-zero : (x : ℕ) → accepted [] ≡ reply x [] → x ≡ 0

@@ -266,15 +266,6 @@ fn put_refused(out: &mut [u8], at: usize, number: u8) -> usize
     end + 1
 }
 
-fn route_fits(route: usize) -> bool
-    ensures { λ r. ⌜ r ≡ routeFits route ⌝ }
-{
-    if route < 1 {
-        return false;
-    }
-    route <= 250
-}
-
 // The first no of 1, 2, 3, 5, 6, 7 and 15, or 0, where the text's table then stands at the front of `condition`. Question 4 is passed:
 // a table has at most 1,024 bytes.
 fn line_refusal(
@@ -292,7 +283,7 @@ fn line_refusal(
     if !tables::letters_fit(unknowns, givens) {
         return tables::LETTERS;
     }
-    if !route_fits(route) {
+    if !entry::route_fits(route) {
         return tables::ROUTE;
     }
     match notation::read_text(unknowns, givens, text, condition) {
@@ -323,7 +314,7 @@ fn entry_room() -> [u8; 27654]
 fn put_entry(
     out: &mut [u8],
     at: usize,
-    route: u8,
+    route: usize,
     unknowns: usize,
     givens: usize,
     condition: &[u8],
@@ -331,9 +322,9 @@ fn put_entry(
     requires { ⌜ (lettersFit unknowns givens ≡ true) × (routeFits route ≡ true) × IsTable (unknowns + givens) (now condition) × (at + lineRoom ≤ length (now out)) ⌝ }
     ensures { λ r. ⌜ Put (now (out .entry)) at (recordLines (archivedRecords route unknowns givens (now (condition .entry)))) r (now (out .exit)) ⌝ }
 {
-    let mut entry = entry_room();
-    match writer::write_entry(route, unknowns, givens, condition, &mut entry) {
-        Written::Done(length) => put_records(out, at, &entry[..length]),
+    let mut written = entry_room();
+    match writer::write_entry(route, unknowns, givens, condition, &mut written) {
+        Written::Done(length) => put_records(out, at, &written[..length]),
         Written::Refused(_) => at,
     }
 }
@@ -362,7 +353,7 @@ fn answer_line(
         };
     }
     let k = tables::pow2(unknowns + givens);
-    let next = put_entry(out, at, route as u8, unknowns, givens, &condition[..k]);
+    let next = put_entry(out, at, route, unknowns, givens, &condition[..k]);
     Printed {
         count: 0,
         last: route,

@@ -74,6 +74,10 @@ module _ (route U G : ℕ) (t : List ℕ) where
     pub fine-small : U + G ≤ 10
     fine-small = letters-small U G (all-yes .letters)
 
+    pub fine-route : route ≤ 250
+    unfolding routeFits
+    fine-route = leb-true route 250 (both-right (leb 1 route) (leb route 250) (all-yes .route-fits))
+
     pub fine-room : {k : ℕ} → k ≡ 2 ^ (U + G) → k ≤ length t
     fine-room ek = rw ek (all-yes .room)
 

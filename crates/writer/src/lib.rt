@@ -192,13 +192,13 @@ fn write_ready(
 }
 
 // The first no of 1, 2, 4 and 8, or 0.
-fn table_refusal(route: u8, unknowns: usize, givens: usize, condition: &[u8]) -> u8
+fn table_refusal(route: usize, unknowns: usize, givens: usize, condition: &[u8]) -> u8
     ensures { λ r. ⌜ r ≡ tableRefusal route unknowns givens (now (condition .entry)) ⌝ }
 {
     if !tables::letters_fit(unknowns, givens) {
         return tables::LETTERS;
     }
-    if !reader::route_fits(route) {
+    if !entry::route_fits(route) {
         return tables::ROUTE;
     }
     let k = tables::pow2(unknowns + givens);
@@ -213,7 +213,7 @@ fn table_refusal(route: u8, unknowns: usize, givens: usize, condition: &[u8]) ->
 
 // Writes the entry of a condition table to the front of `out`.
 pub fn write_entry(
-    route: u8,
+    route: usize,
     unknowns: usize,
     givens: usize,
     condition: &[u8],
@@ -228,5 +228,12 @@ pub fn write_entry(
     }
     let k = tables::pow2(unknowns + givens);
     let mut scratch = [0u8; 27654];
-    write_ready(route, unknowns, givens, &condition[..k], &mut scratch, out)
+    write_ready(
+        route as u8,
+        unknowns,
+        givens,
+        &condition[..k],
+        &mut scratch,
+        out,
+    )
 }

@@ -19,6 +19,7 @@ entry-refusal-spec =
     (λ c κs. search needs)
     (λ c κs. search needs)
     (λ c. search (refused-letters, failed, passed))
+    (λ c. search needs)
     (λ c κs. search needs)
     (λ c. search (refused-route, failed, passed))
     (λ c κs. search (letters-small, passed))

@@ -4,7 +4,7 @@ use native.Mathlib.Omega.{arith}
 use borrow.Author.Needs.{needs}
 use lib.Seq.{length-take-le}
 use Rattle.tables.proofs.Questions.{letters-small}
-use Rattle.sheet_lines.proofs.Refusals.{Passes, passes, route-small, answers-refused, answers-done, front-table, front-room, front-is-table}
+use Rattle.sheet_lines.proofs.Refusals.{Passes, passes, answers-refused, answers-done, front-table, front-room, front-is-table}
 use Rattle.sheet_lines.proofs.answer_line.Statement.{statement}
 use Rattle.sheet_lines.proofs.answer_line.Tie as tie
 
@@ -44,7 +44,6 @@ answer-line-spec =
     returns
     (λ c. omega (arith, letters-small _ _ (yes c .letters)))
     (λ c κs. letters-small _ _ (yes c .letters))
-    (λ c. omega (arith, route-small _ (yes (c .before .before) .fits)))
     room
     (λ c. sym (length-take-le _ _ (room (c .before))))
     put-entry-requires

@@ -7,7 +7,7 @@ use Rattle.sheet_lines.proofs.Entries.{never-refused, entry-written, wr
 use Rattle.sheet_lines.proofs.put_entry.Statement.{statement}
 use Rattle.sheet_lines.proofs.put_entry.Tie as tie
 
-room : tie.Need-array-share-prefix-entry
+room : tie.Need-array-share-prefix-written
 room c =
     let wrote = c .before .before .before .before .before in
     let p = wrote .before .before .before .before .before .pre in

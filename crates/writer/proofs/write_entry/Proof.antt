@@ -3,7 +3,7 @@ use mathlib.Core.Path.{sym}
 use native.Mathlib.Omega.{arith}
 use lib.Seq.{length-take-le}
 use borrow.Author.Needs.{needs}
-use Rattle.writer.proofs.Asked.{fine-small, fine-room, fine-ready, write-refused, write-done}
+use Rattle.writer.proofs.Asked.{fine-small, fine-route, fine-room, fine-ready, write-refused, write-done}
 use Rattle.writer.proofs.write_entry.Statement.{statement}
 use Rattle.writer.proofs.write_entry.Tie as tie
 
@@ -36,6 +36,7 @@ write-entry-spec =
     (λ c. write-refused _ _ _ _ _ (c .before .table-refusal .ensures) (c .if1 .taken))
     (λ c. omega (arith, fine-small _ _ _ _ (c .before .table-refusal .ensures) (c .if1 .left)))
     pow2-requires
+    (λ c. omega (arith, fine-route _ _ _ _ (c .before .before .table-refusal .ensures) (c .before .if1 .left)))
     slice-aggregate-write-ready
     (λ c. search needs)
     write-ready-requires
