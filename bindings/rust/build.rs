@@ -54,6 +54,6 @@ fn build(root: &Path) {
         Err(error) => format!("rt: {error}"),
     };
     eprintln!("{problem}");
-    eprintln!("{ARCHIVE} is not there: run `rt staticlib layodegi` in the repository's root");
+    eprintln!("{ARCHIVE} is missing or old, and `rt staticlib layodegi` could not build it");
     exit(1);
 }

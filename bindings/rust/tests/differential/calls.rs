@@ -23,10 +23,12 @@ type RawSolving = unsafe extern "C" fn(usize, usize, *const u8, usize, *mut u8, 
 type SafeSolving = fn(Letters, &[u8], &mut [u8]) -> Result<Answer, Refusal>;
 type ReferenceSolving = fn(u64, u64, &[u8], &mut [u8]) -> Result<Solved, reference::Refusal>;
 
-/// A call that reads two tables and writes a third.
+/// A call that reads a table and then a table or an answer table, and writes one of them.
 #[derive(Clone, Copy)]
 pub struct PairCall {
     pub name: &'static str,
+    pub reads_answers: bool,
+    pub writes_answers: bool,
     raw: RawPair,
     safe: SafePair,
     reference: ReferencePair,
@@ -34,6 +36,8 @@ pub struct PairCall {
 
 pub const SUM: PairCall = PairCall {
     name: "sum",
+    reads_answers: false,
+    writes_answers: false,
     raw: raw::layodegi_sum,
     safe: layodegi::sum,
     reference: reference::sum,
@@ -41,6 +45,8 @@ pub const SUM: PairCall = PairCall {
 
 pub const PRODUCT: PairCall = PairCall {
     name: "product",
+    reads_answers: false,
+    writes_answers: false,
     raw: raw::layodegi_product,
     safe: layodegi::product,
     reference: reference::product,
@@ -48,6 +54,8 @@ pub const PRODUCT: PairCall = PairCall {
 
 pub const SUBSTITUTE: PairCall = PairCall {
     name: "substitute",
+    reads_answers: true,
+    writes_answers: false,
     raw: raw::layodegi_substitute,
     safe: layodegi::substitute,
     reference: reference::substitute,
@@ -55,6 +63,8 @@ pub const SUBSTITUTE: PairCall = PairCall {
 
 pub const LOWENHEIM_HANDED: PairCall = PairCall {
     name: "lowenheim_handed",
+    reads_answers: true,
+    writes_answers: true,
     raw: raw::layodegi_lowenheim_handed,
     safe: layodegi::lowenheim_handed,
     reference: reference::lowenheim_handed,

@@ -4,19 +4,18 @@ use crate::calls::Calls;
 use crate::making::{condition, damage, garbage, large, result, wrong_letters};
 use layodegi::LONGEST_ENTRY;
 use reference::cases::entries::{any_entry, built, built_none, damaged_entries, entry, split};
-use reference::cases::{bench_tables, pairs, Random, TOO_LARGE};
+use reference::cases::{bench_tables, pairs, Random};
 use reference::values::transform;
 
 pub fn run_writing() -> Calls {
     let mut calls = Calls::new('W');
     let random = &mut Random::new('w');
-    let letters = TOO_LARGE.into_iter().chain((0..100).map(|_| wrong_letters(random)));
-    for (u, g) in letters.collect::<Vec<_>>() {
+    for (u, g) in wrong_letters(random) {
         let route = random.below(256) as u64;
         calls.write_entry(route, u, g, &random.table(16, 2), &garbage(random, 64));
         calls.write_entry(route, u, g, &[], &[]);
     }
-    for route in (0..=260).chain((0..200).map(|_| 251 + large(random)).collect::<Vec<_>>()) {
+    for route in (0..=260).chain((0..200).map(|_| large(random).max(251)).collect::<Vec<_>>()) {
         let table = condition(random, 1, 1);
         calls.write_entry(route, 1, 1, &table, &garbage(random, 40));
         calls.write_entry(route, 1, 1, &table[1..], &garbage(random, 2));

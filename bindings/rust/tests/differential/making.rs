@@ -1,6 +1,6 @@
 //! What the cases of several calls are made from.
 
-use reference::cases::Random;
+use reference::cases::{Random, TOO_LARGE};
 
 /// Any bytes.
 pub fn garbage(random: &mut Random, length: usize) -> Vec<u8> {
@@ -20,15 +20,18 @@ pub fn large(random: &mut Random) -> u64 {
 }
 
 /// Counts of letters for which question 1 is answered no.
-pub fn wrong_letters(random: &mut Random) -> (u64, u64) {
-    let (small, other) = (random.below(9) as u64, random.below(7) as u64);
-    match random.below(5) {
-        0 => (7 + other, small),
-        1 => (other, 9 + small),
-        2 => (6, 5 + random.below(4) as u64),
-        3 => (large(random), random.pick(&[0, 1, 4, 8])),
-        _ => (large(random), large(random)),
-    }
+pub fn wrong_letters(random: &mut Random) -> Vec<(u64, u64)> {
+    let others = (0..200).map(|_| {
+        let (small, other) = (random.below(9) as u64, random.below(7) as u64);
+        match random.below(5) {
+            0 => (7 + other, small),
+            1 => (other, 9 + small),
+            2 => (6, 5 + random.below(4) as u64),
+            3 => (large(random), random.pick(&[0, 1, 4, 8])),
+            _ => (large(random), large(random)),
+        }
+    });
+    TOO_LARGE.into_iter().chain(others).collect()
 }
 
 /// A condition: sparse or dense, solvable or not, at the bounds.

@@ -2,7 +2,7 @@
 
 use crate::calls::{Calls, SolvingCall, BOOLE, LOWENHEIM, PARTICULAR};
 use crate::making::{condition, damage, garbage, result, wrong_letters};
-use reference::cases::{bench_tables, pairs, Random, TOO_LARGE};
+use reference::cases::{bench_tables, pairs, Random};
 
 pub fn run_boole() -> Calls {
     run(BOOLE)
@@ -19,8 +19,7 @@ pub fn run_lowenheim() -> Calls {
 fn run(call: SolvingCall) -> Calls {
     let mut calls = Calls::new('S');
     let random = &mut Random::new(call.name.as_bytes()[0] as char);
-    let letters = TOO_LARGE.into_iter().chain((0..200).map(|_| wrong_letters(random)));
-    for (u, g) in letters.collect::<Vec<_>>() {
+    for (u, g) in wrong_letters(random) {
         calls.solve(call, u, g, &random.table(16, 2), &garbage(random, 64));
         calls.solve(call, u, g, &[7], &[]);
     }

@@ -3,13 +3,12 @@
 
 use crate::calls::{Calls, PairCall, LOWENHEIM_HANDED, PRODUCT, SUBSTITUTE, SUM};
 use crate::making::{condition, damage, garbage, large, result, wrong_letters};
-use reference::cases::{bench_tables, pairs, Random, TOO_LARGE};
+use reference::cases::{bench_tables, pairs, Random};
 
 pub fn run_values() -> Calls {
     let mut calls = Calls::new('V');
     let random = &mut Random::new('v');
-    let letters = TOO_LARGE.into_iter().chain((0..200).map(|_| wrong_letters(random)));
-    for (u, g) in letters.collect::<Vec<_>>() {
+    for (u, g) in wrong_letters(random) {
         calls.value(u, g, &garbage(random, 16), large(random), 0);
         calls.value(u, g, &[], 0, 0);
     }
@@ -62,17 +61,11 @@ pub fn run_handed() -> Calls {
 fn run_pairs(call: PairCall, many: usize) -> Calls {
     let mut calls = Calls::new('P');
     let random = &mut Random::new(call.name.as_bytes()[0] as char);
-    let length = |u: u64, g: u64| 1usize << (u + g);
-    let second = |u: u64, g: u64| match call.name {
-        "sum" | "product" => length(u, g),
-        _ => u as usize * length(u, g),
-    };
-    let third = |u: u64, g: u64| match call.name {
-        "lowenheim_handed" => u as usize * length(u, g),
-        _ => length(u, g),
-    };
-    let letters = TOO_LARGE.into_iter().chain((0..200).map(|_| wrong_letters(random)));
-    for (u, g) in letters.collect::<Vec<_>>() {
+    let length =
+        |answers: bool, u: u64, g: u64| (1 << (u + g)) * if answers { u as usize } else { 1 };
+    let second = |u: u64, g: u64| length(call.reads_answers, u, g);
+    let third = |u: u64, g: u64| length(call.writes_answers, u, g);
+    for (u, g) in wrong_letters(random) {
         calls.pair(call, u, g, &random.table(16, 2), &random.table(64, 2), &garbage(random, 64));
         calls.pair(call, u, g, &[7], &[], &[]);
     }

@@ -3,13 +3,12 @@
 use crate::calls::Calls;
 use crate::making::{garbage, result, wrong_letters};
 use reference::cases::texts::{any_signs, derived_text};
-use reference::cases::{pairs, Random, BENCH, TOO_LARGE};
+use reference::cases::{pairs, Random, BENCH};
 
 pub fn run() -> Calls {
     let mut calls = Calls::new('T');
     let random = &mut Random::new('t');
-    let letters = TOO_LARGE.into_iter().chain((0..200).map(|_| wrong_letters(random)));
-    for (u, g) in letters.collect::<Vec<_>>() {
+    for (u, g) in wrong_letters(random) {
         let (text, table) = (derived_text(random, 2, 2), result(random, 16));
         calls.read_text(u, g, &text, &table);
         calls.read_text(u, g, &[], &[]);
