@@ -12,7 +12,8 @@ pub fn add_writings(lines: &mut Lines) {
             lines.writing(7, u, g, &table, size);
         }
     }
-    for route in [0, 1, 2, 249, 250, 251, 252, 255] {
+    // 257 and 263 would be 1 and 7 if they were cut to a byte.
+    for route in [0, 1, 2, 249, 250, 251, 252, 255, 256, 257, 263, 65_543] {
         lines.writing(route, 2, 0, &[0, 1, 1, 0], 20);
         lines.writing(route, 1, 1, &[0, 0, 1, 0], 11);
         lines.writing(route, 7, 0, &[0, 1], 30);
