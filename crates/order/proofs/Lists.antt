@@ -2,14 +2,12 @@
 -- Assumes nothing.
 use mathlib.Core.Path.{_≡_, refl, sym, ap, _∙_}
 use mathlib.Core.Bool.{Bool, true, false, cond, _&&_, _||_, and-false, or-false}
-use mathlib.Core.List.{List, [], _∷_, _++_, append-nil}
+use mathlib.Core.List.{List, [], _∷_, _++_}
 use mathlib.Core.Logic.{_⊎_, inl, inr}
-use Prim.Native.Nat.{ℕ, zero, suc, _+_, _≤_, _<_}
-use native.Mathlib.Numerals.{add-one}
+use Prim.Native.Nat.{ℕ, zero, suc, _≤_, _<_}
 use native.Mathlib.Omega.{arith}
 use lib.Dec.{eqb, ltb}
-use lib.ListN.{length, getD, take, length-append}
-use lib.Seq.{take-suc}
+use lib.ListN.{length, length-append}
 use borrow.Author.Tests.{lt-ltb, le-ltb, ltb-true, eqb-true, eqb-false, eq-eqb}
 use Rattle.ring.proofs.Bool.{bool-iff, or-cases, or-right, bool-cases}
 use Rattle.ring.proofs.Lists.{has-append}
@@ -36,16 +34,6 @@ keep-append t (x ∷ xs) ys = go (t x) (keep-append t xs ys)
     go : (b : Bool) → keep t (xs ++ ys) ≡ keep t xs ++ keep t ys → cond b (x ∷ keep t (xs ++ ys)) (keep t (xs ++ ys)) ≡ cond b (x ∷ keep t xs) (keep t xs) ++ keep t ys
     go true e = ap (λ (l : List ℕ). x ∷ l) e
     go false e = e
-
--- one place more of a list: its element is kept, or not
-module _ (t : ℕ → Bool) (xs : List ℕ) (p : ℕ) (l : p < length xs) where
-  pub keep-next-yes : t (getD xs p 0) ≡ true → keep t (take (p + 1) xs) ≡ keep t (take p xs) ++ (getD xs p 0 ∷ [])
-  unfolding keep
-  keep-next-yes e = rw (add-one, take-suc xs p 0 l, keep-append, e)
-
-  pub keep-next-no : t (getD xs p 0) ≡ false → keep t (take (p + 1) xs) ≡ keep t (take p xs)
-  unfolding keep
-  keep-next-no e = rw (add-one, take-suc xs p 0 l, keep-append, e, append-nil)
 
 -- everything passes
 pub keep-every : (t : ℕ → Bool) (xs : List ℕ) → ((m : ℕ) → has m xs ≡ true → t m ≡ true) → keep t xs ≡ xs

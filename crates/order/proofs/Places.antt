@@ -1,35 +1,30 @@
--- The masks at the 1,024 places are the ten-letter order. One computed test: each of them is below 1,024, and their ranks rise.
--- The law that turns it into the rule holds for every n: a rising list of 2 ^ n masks below 2 ^ n is the order.
+-- The masks worked out from counts of letters are the order. One computed test: for n letters there are 2 ^ n of them, each is below
+-- 2 ^ n, and their ranks rise. The law that turns it into the rule holds for every n: a rising list of 2 ^ n masks below 2 ^ n is the order.
 -- Assumes nothing.
-use mathlib.Core.Path.{_≡_, refl, sym, ap, _∙_}
-use mathlib.Core.Bool.{Bool, true, cond, _&&_}
-use mathlib.Core.List.{List, [], _∷_}
+use mathlib.Core.Path.{_≡_, refl, ap, _∙_}
+use mathlib.Core.Bool.{Bool, true, _&&_}
+use mathlib.Core.List.{List, [], _∷_, _++_}
 use mathlib.Core.Logic.{_⊎_, inl, inr}
-use Prim.Native.Nat.{ℕ, zero, suc, _+_, _*_, _-_, _^_, _≤_, _<_}
+use Prim.Native.Nat.{ℕ, zero, suc, _+_, _*_, _^_, _≤_, _<_}
 use native.Mathlib.Omega.{arith}
-use lib.Dec.{ltb, leb}
-use lib.ListN.{length, getD}
-use borrow.Author.Tests.{lt-ltb, ltb-true, leb-true}
+use lib.Dec.{eqb, ltb, leb}
+use lib.ListN.{length}
+use borrow.Author.Tests.{lt-ltb, ltb-true, leb-true, eqb-true}
 use Rattle.order.specs.Order.{before, order, rises}
 use Rattle.order.specs.Place.{choose, nth, rank}
 use Rattle.ring.proofs.Bool.{and-left, and-right, never}
-use Rattle.ring.proofs.Lists.{length-listed, getD-listed, has-cases}
+use Rattle.ring.proofs.Every.{every-all}
+use Rattle.ring.proofs.Lists.{has-cases}
 use Rattle.ring.specs.Lists.{listed, has}
+use Rattle.ring.specs.Polynomial.{everyBelow}
 use Rattle.order.proofs.Letters.{lettersIn, letters-in}
 use Rattle.order.proofs.Relation.{before-rank}
 use Rattle.order.proofs.Order.{rises-cons, rising-whole}
 
--- the mask number r of those for ten letters that have k or more, `more` numbers of letters from k on being left
-unfoldable pub placed : ℕ → ℕ → ℕ → ℕ
-placed zero k r = 0
-placed (suc more) k r =
-    let here = nth 10 k r in
-    let later = placed more (suc k) (r - choose 10 k) in
-    cond (ltb r (choose 10 k)) here later
-
--- the mask at place p of the ten-letter order
-unfoldable pub maskAt : ℕ → ℕ
-maskAt p = placed 11 0 p
+-- the masks for n letters that have fewer than k, from counts: of the ten-letter order's masks with as many the first, which are below 2 ^ n
+unfoldable pub counted : ℕ → ℕ → List ℕ
+counted n zero = []
+counted n (suc k) = counted n k ++ listed (choose n k) (nth 10 k)
 
 -- the rank with the letters counted by halving
 unfoldable pub rankIn : ℕ → ℕ → ℕ
@@ -82,13 +77,13 @@ climbs-rises n low (m ∷ ms) c = rises-cons m ms next (climbs-rises n (suc (ran
 pub climbs-order : (n : ℕ) (ms : List ℕ) → climbs n 0 ms ≡ true → length ms ≡ 2 ^ n → ms ≡ order n
 climbs-order n ms c l = rising-whole n ms (climbs-rises n 0 ms c) (λ k i. climbs-has n 0 ms c k i .0) l
 
--- the one test
-test : climbs 10 0 (listed 1024 maskAt) ≡ true
-unfolding climbs rankIn lettersIn listed maskAt placed nth choose
+-- the one test, for each n up to ten
+test : everyBelow 11 (λ n. climbs n 0 (counted n (suc n)) && eqb (length (counted n (suc n))) (2 ^ n)) ≡ true
+unfolding everyBelow climbs rankIn lettersIn listed counted nth choose
 test = refl
 
--- the mask at a place, from counts of letters, is the one that stands there in the ten-letter order
-pub mask-at-place : (p : ℕ) → p < 1024 → maskAt p ≡ getD (order 10) p 0
-mask-at-place p h =
-    sym (getD-listed 1024 maskAt p 0 h)
-    ∙ ap (λ (l : List ℕ). getD l p 0) (climbs-order 10 (listed 1024 maskAt) test (length-listed 1024 maskAt))
+-- the masks from counts of letters are the order
+pub counted-order : (n : ℕ) → n ≤ 10 → counted n (suc n) ≡ order n
+counted-order n h =
+    let t : (climbs n 0 (counted n (suc n)) && eqb (length (counted n (suc n))) (2 ^ n)) ≡ true = every-all 11 _ test n (omega arith) in
+    climbs-order n (counted n (suc n)) (and-left _ _ t) (eqb-true _ _ (and-right (climbs n 0 (counted n (suc n))) _ t))

@@ -1,30 +1,55 @@
 -- One turn of each loop, as the definitions have it.
 -- Assumes nothing.
 use mathlib.Core.Path.{_≡_, refl, sym, ap, ap₂, subst, _∙_}
+use mathlib.Core.Bool.{Bool, true, false, cond, _||_}
 use mathlib.Core.List.{List, [], _∷_, _++_, append-nil, append-assoc}
+use mathlib.Core.Logic.{_⊎_, inl, inr}
 use Prim.Native.Nat.{ℕ, zero, suc, _+_, _-_, _/_, _%_, _^_, _≤_, _<_}
-use native.Mathlib.Nat.{pow-suc}
+use native.Mathlib.Nat.{pow-suc, add-zero, add-suc}
 use native.Mathlib.Numerals.{add-one}
 use native.Mathlib.Omega.{arith}
-use lib.Dec.{ltb}
-use lib.ListN.{length, getD, take, drop, set, length-append, length-set, take-append-drop}
-use lib.Seq.{take-all, drop-cons, set-at}
-use lib.Pow.{pow-mono}
-use borrow.Author.Tests.{lt-ltb, le-ltb}
-use Rattle.order.specs.Order.{keep, order}
+use lib.Dec.{eqb, ltb, leb}
+use lib.ListN.{length, getD, drop, set, length-append, length-set}
+use lib.Seq.{drop-cons, set-at}
+use borrow.Author.Tests.{lt-ltb, le-ltb, leb-true, eqb-true}
+use Rattle.ring.specs.Lists.{listed}
+use Rattle.ring.specs.Polynomial.{everyBelow}
+use Rattle.ring.proofs.Bool.{or-cases}
+use Rattle.ring.proofs.Every.{every-all}
+use Rattle.ring.proofs.Lists.{length-listed, listed-last}
+use Rattle.order.specs.Order.{order}
 use Rattle.order.specs.Place.{choose, nth}
-use Rattle.order.proofs.Lists.{keep-append, keep-next-yes, keep-next-no}
 use Rattle.order.proofs.Letters.{lettersIn}
-use Rattle.order.proofs.Places.{placed}
-use Rattle.order.proofs.Order.{order-fewer, length-order}
+use Rattle.order.proofs.Places.{counted, counted-order}
+use Rattle.order.proofs.Order.{length-order}
 
--- ---- `nth_mask`: m and the mask number `rest` of those for n letters that have `left` make up the answer
+-- ---- `mask_at`: m and the mask number `rest` of those for n letters that have `left` make up the answer
 pub record SoFar (k r m left rest n : ℕ) : Type 0 where
   pub small : n ≤ 10
   pub few : left ≤ 10
   pub inside : rest < choose n left
-  pub room : m + 2 ^ n ≤ 1024
   pub same : m + nth n left rest ≡ nth 10 k r
+
+pub nth-below : (n k r : ℕ) → nth n k r < 2 ^ n
+unfolding nth
+nth-below zero k r = omega arith
+nth-below (suc n) k r = go (ltb r (choose n k)) (nth-below n k r) (nth-below n (k - 1) (r - choose n k))
+  where
+    go : (b : Bool) {x y : ℕ} → x < 2 ^ n → y < 2 ^ n → cond b x (2 ^ n + y) < 2 ^ suc n
+    go true hx hy = omega (arith, pow-suc 2 n)
+    go false hx hy = omega (arith, pow-suc 2 n)
+
+-- mask number 0 has the first letters: computed
+first : everyBelow 11 (λ n. everyBelow 11 (λ k. leb (choose n k) 0 || eqb (nth n k 0 + 1) (2 ^ k))) ≡ true
+unfolding everyBelow nth choose
+first = refl
+
+nth-first : (n k : ℕ) → n ≤ 10 → k ≤ 10 → 0 < choose n k → nth n k 0 + 1 ≡ 2 ^ k
+nth-first n k hn hk h = go (or-cases (leb (choose n k) 0) (eqb (nth n k 0 + 1) (2 ^ k)) (every-all 11 _ (every-all 11 _ first n (omega arith)) k (omega arith)))
+  where
+    go : (leb (choose n k) 0 ≡ true) ⊎ (eqb (nth n k 0 + 1) (2 ^ k) ≡ true) → nth n k 0 + 1 ≡ 2 ^ k
+    go (inl e) = absurd (omega (arith, leb-true (choose n k) 0 e))
+    go (inr e) = eqb-true (nth n k 0 + 1) (2 ^ k) e
 
 less : (n left rest : ℕ) → rest < choose (suc n) left → choose n left ≤ rest → (0 < left) × (rest - choose n left < choose n (left - 1))
 unfolding choose
@@ -41,31 +66,31 @@ module _ {k r m left rest : ℕ} where
         small = omega (arith, g .small);
         few = g .few;
         inside = h;
-        room = omega (arith, g .room, pow-suc 2 n);
         same = let s : m + nth (suc n) left rest ≡ nth 10 k r = g .same in simp (lt-ltb rest (choose n left) h) at s;
       }
 
-  with-letter : (n : ℕ) → SoFar k r m left rest (suc n) → choose n left ≤ rest → (0 < left) × (m + 2 ^ n ≤ 1024) × SoFar k r (m + 2 ^ n) (left - 1) (rest - choose n left) n
+  with-letter : (n : ℕ) → SoFar k r m left rest (suc n) → choose n left ≤ rest → (0 < left) × SoFar k r (m + 2 ^ n) (left - 1) (rest - choose n left) n
   unfolding nth
   with-letter n g h =
       let w = less n left rest (g .inside) h in
       let s : m + nth (suc n) left rest ≡ nth 10 k r = g .same in
-      let t = simp (le-ltb rest (choose n left) h) at s in (
-        w .0,
-        omega (arith, g .room, pow-suc 2 n),
-        record {
-          small = omega (arith, g .small);
-          few = omega (arith, g .few);
-          inside = w .1;
-          room = omega (arith, g .room, pow-suc 2 n);
-          same = omega arith;
-        },
-      )
+      let t = simp (le-ltb rest (choose n left) h) at s in
+      (w .0, record { small = omega (arith, g .small); few = omega (arith, g .few); inside = w .1; same = omega arith })
+
+-- while a mask comes before, there are letters
+pub letter-more : {k r m left rest n : ℕ} → SoFar k r m left rest n → 0 < rest → 0 < n
+unfolding choose
+letter-more {left = left} {rest = rest} {n = n} g p = go n left (g .inside)
+  where
+    go : (n left : ℕ) → rest < choose n left → 0 < n
+    go zero zero h = absurd (omega arith)
+    go zero (suc left) h = absurd (omega arith)
+    go (suc n) left h = omega arith
 
 -- the same at the numbers that the code holds: c the count, w the power
-module _ {k r m left rest n c : ℕ} (g : SoFar k r m left rest n) (p : 0 < n) (ec : c ≡ choose (n - 1) left) where
+module _ {k r m left rest n c : ℕ} (g : SoFar k r m left rest n) (p : 0 < rest) (ec : c ≡ choose (n - 1) left) where
   here : SoFar k r m left rest (suc (n - 1))
-  here = let e : n ≡ suc (n - 1) = omega arith in subst (λ (i : ℕ). SoFar k r m left rest i) e g
+  here = let l : 0 < n = letter-more g p in let e : n ≡ suc (n - 1) = omega arith in subst (λ (i : ℕ). SoFar k r m left rest i) e g
 
   pub skipped : rest < c → SoFar k r m left rest (n - 1)
   skipped h = skip (n - 1) here (rw ec at h)
@@ -75,37 +100,18 @@ module _ {k r m left rest n c : ℕ} (g : SoFar k r m left rest n) (p : 0 < n) (
     left-more = with-letter (n - 1) here (rw ec at h) .0
 
     module _ {w : ℕ} (ew : w ≡ 2 ^ (n - 1)) where
-      pub fits-more : m + w ≤ 1024
-      fits-more = rw ew (with-letter (n - 1) here (rw ec at h) .1)
-
       pub taken : SoFar k r (m + w) (left - 1) (rest - c) (n - 1)
-      taken = rw (ew, ec) (with-letter (n - 1) here (rw ec at h) .2)
+      taken = rw (ew, ec) (with-letter (n - 1) here (rw ec at h) .1)
 
-pub nth-end : (k r m left rest n : ℕ) → SoFar k r m left rest n → n ≤ 0 → m ≡ nth 10 k r
-unfolding nth
-nth-end k r m left rest zero g h = let s : m + 0 ≡ nth 10 k r = g .same in omega arith
-nth-end k r m left rest (suc n) g h = absurd (omega arith)
+      pub fits-more : m + w < 1024
+      fits-more = omega (arith, taken .same, nth-below 10 k r)
 
--- ---- `mask_at`: w is the mask number `rest` of those with k letters or more
-module _ (k rest w : ℕ) (e : w ≡ placed (11 - k) k rest) where
-  pub placed-here : k < 11 → rest < choose 10 k → w ≡ nth 10 k rest
-  unfolding placed
-  placed-here l h =
-      let s : 11 - k ≡ suc (10 - k) = omega arith in
-      let q : w ≡ placed (suc (10 - k)) k rest = rw s at e in
-      simp (lt-ltb rest (choose 10 k) h) at q
-
-  pub placed-next : {c : ℕ} → k < 11 → c ≡ choose 10 k → c ≤ rest → w ≡ placed (11 - (k + 1)) (k + 1) (rest - c)
-  unfolding placed
-  placed-next l ec h =
-      let s : 11 - k ≡ suc (10 - k) = omega arith in
-      let t : 11 - (k + 1) ≡ 10 - k = omega arith in
-      let q : w ≡ placed (suc (10 - k)) k rest = rw s at e in
-      rw (ec, t, add-one) (simp (le-ltb rest (choose 10 k) (rw ec at h)) at q)
-
-  pub placed-end : 11 ≤ k → 0 ≡ w
-  unfolding placed
-  placed-end l = let s : 11 - k ≡ 0 = omega arith in sym (rw s at e)
+pub nth-end : {k r m left rest n w : ℕ} → SoFar k r m left rest n → rest ≤ 0 → w ≡ 2 ^ left → m + (w - 1) ≡ nth 10 k r
+nth-end {left = left} {rest = rest} {n = n} g h ew =
+    let z : rest ≡ 0 = omega arith in
+    let i : 0 < choose n left = omega (arith, g .inside) in
+    let f : nth n left 0 + 1 ≡ 2 ^ left = nth-first n left (g .small) (g .few) i in
+    omega (arith, rw z at (g .same))
 
 -- ---- `count_letters`: w is the sum and the letters in the n bits that are left
 module _ (sum rest n w : ℕ) (e : w ≡ sum + lettersIn (10 - n) rest) where
@@ -124,105 +130,111 @@ module _ (sum rest n w : ℕ) (e : w ≡ sum + lettersIn (10 - n) rest) where
       let q : w ≡ sum + 0 = rw s at e in
       omega arith
 
--- ---- `fill_order`: the masks for n letters among those at the first p places of the order for o letters
-unfoldable pub passed : ℕ → ℕ → ℕ → List ℕ
-passed n o p = keep (λ m. ltb m (2 ^ n)) (take p (order o))
+-- ---- `fill_order`: the masks for n letters that have fewer than k, and the first r of those that have k
+unfoldable pub placed : ℕ → ℕ → ℕ → List ℕ
+placed n k r = counted n k ++ listed r (nth 10 k)
 
-module _ (n o p : ℕ) where
-  -- the order for n letters is these and those at later places
-  later : n ≤ o → passed n o p ++ keep (λ m. ltb m (2 ^ n)) (drop p (order o)) ≡ order n
-  unfolding passed
-  later h =
-      sym (keep-append (λ m. ltb m (2 ^ n)) (take p (order o)) (drop p (order o)))
-      ∙ ap (keep (λ m. ltb m (2 ^ n))) (take-append-drop p (order o))
-      ∙ order-fewer n o h
+choose-more : (k n d : ℕ) → choose n k ≤ choose (n + d) k
+unfolding choose
+choose-more k n zero = rw add-zero (omega arith)
+choose-more zero n (suc d) = omega arith
+choose-more (suc k) n (suc d) = rw add-suc (omega (arith, choose-more (suc k) n d))
 
-  -- 2 ^ n of them are all
-  pub passed-full : n ≤ o → 2 ^ n ≤ length (passed n o p) → passed n o p ≡ order n
-  passed-full h l = go (keep (λ m. ltb m (2 ^ n)) (drop p (order o))) (later h)
-    where
-      go : (rest : List ℕ) → passed n o p ++ rest ≡ order n → passed n o p ≡ order n
-      go [] e = sym (append-nil (passed n o p)) ∙ e
-      go (m ∷ rest) e =
-          let c : length (passed n o p) + suc (length rest) ≡ 2 ^ n = sym (length-append (passed n o p) (m ∷ rest)) ∙ ap length e ∙ length-order n in
-          absurd (omega arith)
+module _ (n k : ℕ) where
+  length-placed : (r : ℕ) → length (placed n k r) ≡ length (counted n k) + r
+  unfolding placed
+  length-placed r = length-append (counted n k) (listed r (nth 10 k)) ∙ rw (length-listed r (nth 10 k))
 
-  -- at the last place there are all
-  passed-last : n ≤ o → 2 ^ o ≤ p → length (passed n o p) ≡ 2 ^ n
-  unfolding passed
-  passed-last h l = ap length (ap (keep (λ m. ltb m (2 ^ n))) (take-all p (order o) (rw (length-order o) l)) ∙ order-fewer n o h) ∙ length-order n
+  placed-next : (r : ℕ) → placed n k (r + 1) ≡ placed n k r ++ (nth 10 k r ∷ [])
+  unfolding placed
+  placed-next r = rw (add-one, listed-last r (nth 10 k), append-assoc)
 
-  -- while one is missing there are places left
-  pub passed-short : n ≤ o → length (passed n o p) < 2 ^ n → p ≤ 2 ^ o → p < 2 ^ o
-  passed-short h l b = go (passed-last h)
-    where
-      go : (2 ^ o ≤ p → length (passed n o p) ≡ 2 ^ n) → p < 2 ^ o
-      go last = let out : (2 ^ o ≤ p → ⊥) = λ q. let e : length (passed n o p) ≡ 2 ^ n = last q in omega arith in omega arith
+  placed-group : placed n (k + 1) 0 ≡ placed n k (choose n k)
+  unfolding placed counted listed
+  placed-group = rw (add-one, append-nil)
 
-  -- the next place adds its mask, or skips it
-  module _ (l : p < 2 ^ o) where
-    passed-yes : getD (order o) p 0 < 2 ^ n → passed n o (p + 1) ≡ passed n o p ++ (getD (order o) p 0 ∷ [])
-    unfolding passed
-    passed-yes h = keep-next-yes (λ m. ltb m (2 ^ n)) (order o) p (rw (length-order o) l) (lt-ltb (getD (order o) p 0) (2 ^ n) h)
+  counted-more : (d : ℕ) → length (counted n k) ≤ length (counted n (k + d))
+  unfolding counted
+  counted-more zero = rw add-zero (omega arith)
+  counted-more (suc d) = rw (add-suc, length-append) (omega (arith, counted-more d))
 
-    passed-no : 2 ^ n ≤ getD (order o) p 0 → passed n o (p + 1) ≡ passed n o p
-    unfolding passed
-    passed-no h = keep-next-no (λ m. ltb m (2 ^ n)) (order o) p (rw (length-order o) l) (le-ltb (getD (order o) p 0) (2 ^ n) h)
+-- a mask that is missing has a place
+place-left : (n k r : ℕ) → n ≤ 10 → k ≤ n → r < choose n k → length (placed n k r) < 2 ^ n
+unfolding placed counted
+place-left n k r hn hk hr =
+    let e : suc k + (n - k) ≡ suc n = omega arith in
+    let m : length (counted n (suc k)) ≤ length (counted n (suc n)) = rw e at (counted-more n (suc k) (n - k)) in
+    let a : length (counted n (suc k)) ≡ length (counted n k) + choose n k = length-placed n k (choose n k) in
+    let o : length (counted n (suc n)) ≡ 2 ^ n = ap length (counted-order n hn) ∙ length-order n in
+    omega (arith, length-placed n k r)
 
--- the buffer after `at` masks: those from the first p places, and the rest as it was
-pub record Filled (n o size : ℕ) (lent out : List ℕ) (at p : ℕ) : Type 0 where
-  pub few : n ≤ o
-  pub all : size ≡ 2 ^ n
-  pub most : size ≤ 2 ^ o
-  pub room : size ≤ length lent
-  pub within : p ≤ 2 ^ o
+-- the buffer after `at` masks: these, and the rest as it was
+pub record Filled (n : ℕ) (lent out : List ℕ) (at k r : ℕ) : Type 0 where
+  pub few : n ≤ 10
+  pub room : 2 ^ n ≤ length lent
+  pub within : k ≤ n + 1
+  pub inside : r ≤ choose n k
+  pub last : n < k → r ≡ 0
   pub same : length out ≡ length lent
-  pub many : length (passed n o p) ≡ at
-  pub holds : out ≡ passed n o p ++ drop at lent
+  pub most : at ≤ 2 ^ n
+  pub many : length (placed n k r) ≡ at
+  pub holds : out ≡ placed n k r ++ drop at lent
 
-pub filled-start : {n o size : ℕ} {lent : List ℕ} → n ≤ o → size ≡ 2 ^ n → 2 ^ n ≤ length lent → Filled n o size lent lent 0 0
-unfolding passed keep
-filled-start h e l =
-    record { few = h; all = e; most = rw e (pow-mono h); room = rw e l; within = omega arith; same = refl; many = refl; holds = refl }
+pub filled-start : {n : ℕ} {lent : List ℕ} → n ≤ 10 → 2 ^ n ≤ length lent → Filled n lent lent 0 0 0
+unfolding placed counted listed
+filled-start h l =
+    record { few = h; room = l; within = omega arith; inside = omega arith; last = λ q. refl; same = refl; most = omega arith; many = refl; holds = refl }
 
-module _ {n o size : ℕ} {lent out : List ℕ} {at p : ℕ} (f : Filled n o size lent out at p) where
-  pub place-left : at < size → p < 2 ^ o
-  place-left l = passed-short n o p (f .few) (rw (f .many, ← f .all) l) (f .within)
+module _ {n : ℕ} {lent out : List ℕ} {at k r c : ℕ} (f : Filled n lent out at k r) (hk : k ≤ n) (ec : c ≡ choose n k) where
+  module _ (hr : r < c) where
+    pub number-inside : r < choose 10 k
+    number-inside = let e : n + (10 - n) ≡ 10 = omega (arith, f .few) in omega (arith, rw e at (choose-more k n (10 - n)))
 
-  module _ {m : ℕ} (l : at < size) (e : m ≡ getD (order o) p 0) where
-    pub filled-yes : m < size → Filled n o size lent (set out at m) (at + 1) (p + 1)
-    filled-yes h =
-        let d : passed n o (p + 1) ≡ passed n o p ++ (m ∷ []) = rw e (passed-yes n o p (place-left l) (rw (← e, ← f .all) h)) in
-        let r : at < length lent = omega (arith, f .room) in
+    pub at-inside : at < 2 ^ n
+    at-inside = rw (f .many) at (place-left n k r (f .few) hk (rw ec at hr))
+
+    pub room-left : at < length out
+    room-left = omega (arith, at-inside, f .room, f .same)
+
+    pub filled-mask : {m : ℕ} → m ≡ nth 10 k r → Filled n lent (set out at m) (at + 1) k (r + 1)
+    filled-mask {m} e =
+        let d : placed n k (r + 1) ≡ placed n k r ++ (m ∷ []) = rw e (placed-next n k r) in
+        let l : at < length lent = omega (arith, at-inside, f .room) in
         record {
           few = f .few;
-          all = f .all;
-          most = f .most;
           room = f .room;
-          within = omega (arith, place-left l);
+          within = f .within;
+          inside = omega arith;
+          last = λ q. absurd (omega arith);
           same = length-set out at m ∙ f .same;
-          many = rw d (length-append (passed n o p) (m ∷ []) ∙ ap (λ (i : ℕ). i + 1) (f .many));
+          most = omega (arith, at-inside);
+          many = rw d (length-append (placed n k r) (m ∷ []) ∙ ap (λ (i : ℕ). i + 1) (f .many));
           holds =
-              rw (f .holds, d, append-assoc, drop-cons lent at 0 r, add-one)
-              (set-at (passed n o p) (getD lent at 0) (drop (suc at) lent) m at (f .many));
+              rw (f .holds, d, append-assoc, drop-cons lent at 0 l, add-one)
+              (set-at (placed n k r) (getD lent at 0) (drop (suc at) lent) m at (f .many));
         }
 
-    pub filled-no : size ≤ m → Filled n o size lent out at (p + 1)
-    filled-no h =
-        let d : passed n o (p + 1) ≡ passed n o p = passed-no n o p (place-left l) (rw (← e, ← f .all) h) in
-        record {
-          few = f .few;
-          all = f .all;
-          most = f .most;
-          room = f .room;
-          within = omega (arith, place-left l);
-          same = f .same;
-          many = ap length d ∙ f .many;
-          holds = f .holds ∙ ap (λ (l : List ℕ). l ++ drop at lent) (sym d);
-        }
+  pub filled-group : c ≤ r → Filled n lent out at (k + 1) 0
+  filled-group hr =
+      let e : r ≡ choose n k = omega (arith, f .inside) in
+      let d : placed n (k + 1) 0 ≡ placed n k r = placed-group n k ∙ ap (placed n k) (sym e) in
+      record {
+        few = f .few;
+        room = f .room;
+        within = omega arith;
+        inside = omega arith;
+        last = λ q. refl;
+        same = f .same;
+        most = f .most;
+        many = ap length d ∙ f .many;
+        holds = f .holds ∙ ap (λ (l : List ℕ). l ++ drop at lent) (sym d);
+      }
 
-  pub filled-end : size ≤ at → out ≡ order n ++ drop (2 ^ n) lent
-  filled-end l =
-      let d : passed n o p ≡ order n = passed-full n o p (f .few) (rw (f .many, ← f .all) l) in
-      let c : at ≡ 2 ^ n = sym (f .many) ∙ ap length d ∙ length-order n in
-      f .holds ∙ ap₂ (λ (x : List ℕ) (i : ℕ). x ++ drop i lent) d c
+pub filled-end : {n : ℕ} {lent out : List ℕ} {at k r : ℕ} → Filled n lent out at k r → n < k → out ≡ order n ++ drop (2 ^ n) lent
+unfolding placed listed
+filled-end {n} {lent} {out} {at} {k} {r} f h =
+    let z : r ≡ 0 = f .last h in
+    let e : k ≡ suc n = omega (arith, f .within) in
+    let d : placed n k r ≡ order n = rw (z, e, append-nil) (counted-order n (f .few)) in
+    let c : at ≡ 2 ^ n = sym (f .many) ∙ ap length d ∙ length-order n in
+    f .holds ∙ ap₂ (λ (x : List ℕ) (i : ℕ). x ++ drop i lent) d c

@@ -1,10 +1,10 @@
 // The written order of monomials: fewer letters first and, among equals, the smaller mask.
-// Callers take the order from `mask_at` and `fill_order` alone; `rank_of` puts two masks in order. Nothing here is a public call of
+// Callers take the order from `fill_order` alone; `rank_of` puts two masks in order. Nothing here is a public call of
 // the library: what these functions require, callers within it meet.
 ghost use mathlib.Core.Path.{_≡_};
 ghost use mathlib.Core.List.{_++_};
 ghost use Prim.Native.Nat.{_^_, _≤_, _<_};
-ghost use lib.ListN.{length, getD, drop};
+ghost use lib.ListN.{length, drop};
 ghost use Rattle.order.specs.Order.{letters, order};
 ghost use Rattle.order.specs.Place.{AreCounts, choose, nth, rank};
 
@@ -37,8 +37,9 @@ fn count_masks(counts: &[[u8; 11]; 11], n: usize, k: usize) -> usize
     wide(counts[n][k])
 }
 
-// The mask number r of those for ten letters that have k, from the last letter down: the masks without it come first.
-fn nth_mask(counts: &[[u8; 11]; 11], k: usize, r: usize) -> usize
+// The mask at a place of the ten-letter order, from counts of letters: number r of those that have k. From the last letter down, the masks
+// without it come first; once none comes before, the letters left are the first ones.
+fn mask_at(counts: &[[u8; 11]; 11], k: usize, r: usize) -> usize
     requires { ⌜ (AreCounts (now counts)) × (k ≤ 10) × (r < choose 10 k) ⌝ }
     ensures { λ m. ⌜ m ≡ nth 10 k r ⌝ }
 {
@@ -46,7 +47,7 @@ fn nth_mask(counts: &[[u8; 11]; 11], k: usize, r: usize) -> usize
     let mut left = k;
     let mut rest = r;
     let mut n = 10;
-    while 0 < n {
+    while 0 < rest {
         n -= 1;
         let without = count_masks(counts, n, left);
         if without <= rest {
@@ -55,42 +56,28 @@ fn nth_mask(counts: &[[u8; 11]; 11], k: usize, r: usize) -> usize
             left -= 1;
         }
     }
-    m
+    m + (tables::pow2(left) - 1)
 }
 
-// The mask at a place of the ten-letter order, from counts of letters.
-pub fn mask_at(place: usize) -> usize
-    requires { ⌜ place < 1024 ⌝ }
-    ensures { λ m. ⌜ m ≡ getD (order 10) place 0 ⌝ }
-{
-    // Copied once and lent on: a constant is laid out anew wherever it is read.
-    let counts = COUNTS;
-    let mut rest = place;
-    for k in 0..11 {
-        let group = count_masks(&counts, 10, k);
-        if rest < group {
-            return nth_mask(&counts, k, rest);
-        }
-        rest -= group;
-    }
-    0
-}
-
-// The masks for n letters, in written order, at the front of a buffer: those of the ten-letter order that are too large are
-// skipped, and none is looked at after the last one.
+// The masks for n letters, in written order, at the front of a buffer. Those of the ten-letter order that are too large are skipped:
+// among the masks with k letters they come last.
 pub fn fill_order(n: usize, out: &mut [u16])
     requires { ⌜ (n ≤ 10) × (2 ^ n ≤ length (now out)) ⌝ }
     ensures { λ r. ⌜ now (out .exit) ≡ order n ++ drop (2 ^ n) (now (out .entry)) ⌝ }
 {
-    let size = tables::pow2(n);
+    // Copied once and lent on: a constant is laid out anew wherever it is read.
+    let counts = COUNTS;
     let mut at = 0;
-    let mut place = 0;
-    while at < size {
-        let m = mask_at(place);
-        place += 1;
-        if m < size {
-            out[at] = m as u16;
+    let mut k = 0;
+    let mut r = 0;
+    while k <= n {
+        if r < count_masks(&counts, n, k) {
+            out[at] = mask_at(&counts, k, r) as u16;
             at += 1;
+            r += 1;
+        } else {
+            k += 1;
+            r = 0;
         }
     }
 }

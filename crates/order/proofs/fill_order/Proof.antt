@@ -1,60 +1,90 @@
--- `order::fill_order` meets its contract. The loop's invariant, `Filled`: the buffer begins with the masks for n letters among those
--- at the places passed, and goes on as it was. While one is missing there are places left; their number is the measure.
--- Assumes nothing.
-use Prim.Native.Nat.{_-_}
+-- `order::fill_order` meets its contract. The loop's invariant, `Filled`: the buffer begins with the masks for n letters that have fewer
+-- than k and the first r of those that have k, and goes on as it was. The measure: masks left and groups left. Assumes nothing.
+use mathlib.Core.Path.{ap, _∙_}
+use mathlib.Core.List.{List, []}
+use Prim.Native.Nat.{ℕ, _+_, _-_, _^_}
 use native.Mathlib.Omega.{arith}
 use borrow.Author.Needs.{needs}
-use Rattle.order.proofs.Steps.{Filled, filled-start, place-left, filled-yes, filled-no, filled-end}
+use lib.ListN.{getD}
+use lib.Pow.{pow-mono}
+use Rattle.ring.specs.Lists.{listed}
+use Rattle.ring.proofs.Lists.{getD-listed}
+use Rattle.order.specs.Place.{choose, AreCounts}
+use Rattle.order.proofs.Steps.{nth-below, Filled, filled-start, number-inside, at-inside, room-left, filled-mask, filled-group, filled-end}
 use Rattle.order.proofs.fill_order.Statement.{statement}
 use Rattle.order.proofs.fill_order.Tie as tie
 
+-- the table in the code is the list, computed, of the counts for 0 to 10 letters
+unfoldable row : ℕ → List ℕ
+row n = listed 11 (choose n)
+
+are-counts : AreCounts (listed 11 row)
+unfolding row
+are-counts n k hn hk = ap (λ (l : List ℕ). getD l k 0) (getD-listed 11 row n [] (omega arith)) ∙ getD-listed 11 (choose n) k 0 (omega arith)
+
 abbrev Inv-loop : tie.InvT-loop
-Inv-loop n out₀ size at₀ place₀ out at place = Filled n 10 size out₀ out at place
+Inv-loop n out₀ counts at₀ k₀ r₀ out at k r = (AreCounts counts) × Filled n out₀ out at k r
 
 abbrev μ-loop : tie.MeasureT-loop
-μ-loop n out₀ size at₀ place₀ out at place = 1024 - place
-
-pow2-requires : tie.Need-pow2-requires Inv-loop μ-loop
-pow2-requires c κs = search needs
+μ-loop n out₀ counts at₀ k₀ r₀ out at k r = (2 ^ n - at) + (11 - k)
 
 loop-holds : tie.Need-loop-holds Inv-loop μ-loop
-loop-holds c = search filled-start
+unfolding row listed choose
+loop-holds c = (are-counts, filled-start (c .before .pre .0) (c .before .pre .1))
+
+count-masks-requires : tie.Need-count-masks-requires Inv-loop μ-loop
+count-masks-requires c κs = let i = c .before .before .loop .inv in (i .0, omega (arith, i .1 .few), omega (arith, i .1 .few))
 
 mask-at-requires : tie.Need-mask-at-requires Inv-loop μ-loop
-mask-at-requires c κs = place-left (c .before .loop .inv) (c .loop-test .taken)
-
-add-place : tie.Need-add-place Inv-loop μ-loop
-add-place c = omega (arith, c .before .before .loop .inv .within)
+mask-at-requires c κs =
+    let b = c .before .before .before in
+    let i = b .before .before .loop .inv in
+    (i .0, omega (arith, i .1 .few), number-inside (i .1) (b .before .loop-test .taken) (c .before .before .count-masks .ensures) (c .before .if1 .taken))
 
 cast-out : tie.Need-cast-out Inv-loop μ-loop
-cast-out c = omega (arith, c .before .before .before .loop .inv .most)
+cast-out c = let l = c .before .before .before .before .before .before .loop in omega (arith, nth-below 10 (l .k) (l .r))
 
 mul-out : tie.Need-mul-out Inv-loop μ-loop
-mul-out c = omega (arith, c .before .before .before .loop .inv .most)
+mul-out c = let f = c .before .before .before .before .before .before .loop .inv .1 in omega (arith, f .most, pow-mono (f .few))
 
 slice-write-out : tie.Need-slice-write-out Inv-loop μ-loop
-slice-write-out c = let f = c .before .before .before .loop .inv in omega (arith, f .same, f .room)
+slice-write-out c = search room-left
 
 add-at : tie.Need-add-at Inv-loop μ-loop
-add-at c = omega (arith, c .before .before .before .loop .inv .most)
+add-at c = let f = c .before .before .before .before .before .before .loop .inv .1 in omega (arith, f .most, pow-mono (f .few))
+
+add-r : tie.Need-add-r Inv-loop μ-loop
+add-r c = search needs
 
 loop-less : tie.Need-loop-less Inv-loop μ-loop
-loop-less c = let b = c .before .before in omega (arith, place-left (b .before .loop .inv) (b .loop-test .taken))
+loop-less c =
+    let b = c .before .before .before in
+    let h = at-inside (b .before .before .before .loop .inv .1) (b .before .before .loop-test .taken) (b .count-masks .ensures) (c .before .before .if1 .taken) in
+    omega arith
 
 loop-again : tie.Need-loop-again Inv-loop μ-loop
-loop-again c = search filled-yes
+loop-again c =
+    let b = c .before .before .before in
+    let i = b .before .before .before .loop .inv in
+    (i .0, filled-mask (i .1) (b .before .before .loop-test .taken) (b .count-masks .ensures) (c .before .before .if1 .taken) (c .mask-at .ensures))
+
+add-k : tie.Need-add-k Inv-loop μ-loop
+add-k c = search needs
 
 loop-less-2 : tie.Need-loop-less-2 Inv-loop μ-loop
-loop-less-2 c = let b = c .before .before in omega (arith, place-left (b .before .loop .inv) (b .loop-test .taken))
+loop-less-2 c = omega (arith, c .before .before .before .before .loop .inv .1 .few)
 
 loop-again-2 : tie.Need-loop-again-2 Inv-loop μ-loop
-loop-again-2 c = let b = c .before .before in filled-no (b .before .loop .inv) (b .loop-test .taken) (c .before .mask-at .ensures) (c .if1 .left)
+loop-again-2 c =
+    let b = c .before .before .before in
+    let i = b .before .loop .inv in
+    (i .0, filled-group (i .1) (b .loop-test .taken) (c .before .count-masks .ensures) (c .if1 .left))
 
 same-length : tie.Need-same-length Inv-loop μ-loop
-same-length c = c .before .loop .inv .same
+same-length c = c .before .loop .inv .1 .same
 
 returns : tie.Need-returns Inv-loop μ-loop
-returns c = filled-end (c .before .loop .inv) (c .loop-test .left)
+returns c = filled-end (c .before .loop .inv .1) (c .loop-test .left)
 
 pub fill-order-spec : {M : Type 1} → statement M
 fill-order-spec =
@@ -62,16 +92,17 @@ fill-order-spec =
     (tie.spec
     Inv-loop
     μ-loop
-    pow2-requires
     loop-holds
+    count-masks-requires
     mask-at-requires
-    add-place
     cast-out
     mul-out
     slice-write-out
     add-at
+    add-r
     loop-less
     loop-again
+    add-k
     loop-less-2
     loop-again-2
     same-length
