@@ -20,7 +20,7 @@ use Rattle.ring.proofs.Table.{is-table}
 use Rattle.ring.proofs.Bool.{and-right}
 use Rattle.grammar.specs.Reader.{grammarReads}
 use Rattle.grammar.specs.Text.{textTable}
-use Rattle.notation.specs.Text.{hasTextLength, textQuestions, textRefusal}
+use Rattle.notation.specs.Text.{hasTextLength, textQuestions, textRefusal, Accepted}
 use Rattle.notation.specs.Work.{Ready, earlyRefusal}
 
 pub text-short : (text : List ℕ) → hasTextLength text ≡ true → length text ≤ 200
@@ -89,12 +89,20 @@ module _ (U G : ℕ) (text : List ℕ) (room : ℕ) where
   unfolding textRefusal textQuestions firstNo hasRoom
   grammar-counts f = rw (f .letters, f .bytes, le-leb _ _ (f .room-fits), f .signs, f .declared)
 
-  pub none-early : textRefusal U G text room ≡ 0 → Early
-  unfolding earlyRefusal textRefusal textQuestions
-  none-early z = early (asked-before (take 5 (textQuestions U G text room)) (asks 7 (grammarReads text) ∷ []) z)
+  -- what no refusal tells
+  pub record Fine : Type 0 where
+    pub accepted : Accepted U G text
+    pub room-fits : 2 ^ (U + G) ≤ room
 
-  pub grammar-yes : textRefusal U G text room ≡ 0 → grammarReads text ≡ true
-  grammar-yes z = yes-to (grammarReads text) 0 6 (sym (grammar-counts (none-early z)) ∙ z) .0
+  pub fine : textRefusal U G text room ≡ 0 → Fine
+  unfolding earlyRefusal textRefusal textQuestions
+  fine z =
+      let f = early (asked-before (take 5 (textQuestions U G text room)) (asks 7 (grammarReads text) ∷ []) z) in
+      let g = yes-to (grammarReads text) 0 6 (sym (grammar-counts f) ∙ z) in
+      record {
+        accepted = record { letters = f .letters; bytes = f .bytes; signs = f .signs; declared = f .declared; grammar = g .0 };
+        room-fits = f .room-fits;
+      }
 
 -- the table that a text is read into is one
 pub text-is-table : (U G : ℕ) (text : List ℕ) → IsTable (U + G) (textTable U G text)

@@ -16,14 +16,12 @@ use Rattle.grammar.specs.Reader.{treeOf}
 use Rattle.grammar.specs.Text.{IsRead, Agree, textValue, textTable}
 use Rattle.grammar.proofs.Theorems as grammar
 use Rattle.notation.specs.Text.{textRefusal, Accepted}
-use Rattle.notation.proofs.Refusal.{none-early, grammar-yes, grammar-counts}
+use Rattle.notation.proofs.Refusal.{fine, grammar-counts}
 
 -- no question is answered no exactly for an accepted text and a buffer with room
 pub done-exactly : (U G : ℕ) (text : List ℕ) (room : ℕ) → (textRefusal U G text room ≡ 0) ↔ (Accepted U G text × (2 ^ (U + G) ≤ room))
 done-exactly U G text room = (
-  λ z.
-      let f = none-early U G text room z in
-      (record { letters = f .letters; bytes = f .bytes; signs = f .signs; declared = f .declared; grammar = grammar-yes U G text room z }, f .room-fits),
+  λ z. (fine U G text room z .accepted, fine U G text room z .room-fits),
   λ f.
       let a = f .0 in
       grammar-counts U G text room (record { letters = a .letters; bytes = a .bytes; room-fits = f .1; signs = a .signs; declared = a .declared }) ∙ rw (a .grammar),

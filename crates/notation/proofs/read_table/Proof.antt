@@ -13,7 +13,7 @@ use Rattle.notation.proofs.read_table.Statement.{statement}
 use Rattle.notation.proofs.read_table.Tie as tie
 
 symbols-length : tie.Need-slice-aggregate-fill-words
-symbols-length c = sym (length-take-le _ _ (c .before .before .write-symbols .ensures .0))
+symbols-length c = search (needs, length-take-le)
 
 fill-words-requires : tie.Need-fill-words-requires
 fill-words-requires c κs =
