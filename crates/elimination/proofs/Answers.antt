@@ -4,22 +4,20 @@
 use mathlib.Core.Path.{_≡_, refl, ap, _∙_}
 use mathlib.Core.Bool.{Bool}
 use mathlib.Core.List.{List}
-use Prim.Native.Nat.{ℕ, _+_, _-_, _*_, _/_, _%_, _^_, _≤_, _<_}
+use Prim.Native.Nat.{ℕ, _-_, _*_, _/_, _%_, _^_, _≤_, _<_}
 use native.Mathlib.Nat.{div-lt-iff-lt-mul, mod-lt, lt-of-lt-of-le}
-use native.Mathlib.Decide.{ℕ-discrete}
-use native.Mathlib.Omega.{arith}
 use lib.Bits.{bitAnd, and-mask}
 use lib.Pow.{pow-pos}
-use lib.ListN.{length, getD, set}
-use lib.Seq.{getD-set-same, getD-set-other}
+use lib.ListN.{length, getD}
 use Rattle.ring.specs.Letters.{digit, bit}
 use Rattle.ring.specs.Polynomial.{value}
 use Rattle.ring.specs.Table.{AreBits, tabulate, held, answerTable}
 use Rattle.ring.proofs.Value.{value-cong}
 use Rattle.ring.proofs.Table.{bits-tabulate, length-tabulate, held-answerTable, answerTable-cong}
-use Rattle.ring.proofs.Lists.{listed-tabulate}
+use Rattle.ring.specs.Lists.{listed}
+use Rattle.ring.proofs.Lists.{getD-listed, listed-tabulate}
 use Rattle.tables.proofs.Filled.{filled, filled-end}
-use Rattle.elimination.specs.Rows.{Lists, spreadBit}
+use Rattle.elimination.specs.Rows.{spreadBit}
 
 -- the point of byte i, as the code finds it, and its unknown
 pub point-index : (n k i : ℕ) → k ≡ 2 ^ n → bitAnd i (k - 1) ≡ i % 2 ^ n
@@ -39,15 +37,6 @@ pub spread-byte : (n k i v : ℕ) (points : List ℕ) → k ≡ 2 ^ n → v ≡ 
 unfolding spreadBit
 spread-byte n k i v points e ev = ev ∙ ap (λ (x : ℕ). digit (bit (getD points x 0) (i / 2 ^ n))) (point-index n k i e)
 
--- the points, found one after another
-pub listed-more : (h : ℕ → ℕ) (points : List ℕ) (p v : ℕ) → p < length points → ((m : ℕ) → m < p → getD points m 0 ≡ h m) → v ≡ h p
-    → (m : ℕ) → m < p + 1 → getD (set points p v) m 0 ≡ h m
-listed-more h points p v l before e m lm = go (ℕ-discrete m p)
-  where
-    go : Dec (m ≡ p) → getD (set points p v) m 0 ≡ h m
-    go (yes q) = rw q (getD-set-same points p v 0 l ∙ e)
-    go (no q) = getD-set-other points p m v 0 q ∙ before m (omega arith)
-
 -- the values of the answers are 0 or 1, and as many as the answers have bytes
 pub spread-bits : (k : ℕ) (h : ℕ → Bool) (t : List ℕ) → t ≡ tabulate k h → AreBits t
 spread-bits k h t e m = rw e (bits-tabulate k h m)
@@ -55,11 +44,11 @@ spread-bits k h t e m = rw e (bits-tabulate k h m)
 pub spread-length : (k size : ℕ) (h : ℕ → Bool) (t : List ℕ) → t ≡ tabulate k h → k ≡ size → length t ≡ size
 spread-length k size h t e es = ap length e ∙ length-tabulate k h ∙ es
 
-pub spread-done : (u n k : ℕ) (h : ℕ → ℕ) (points a₁ a₂ : List ℕ) → Lists (2 ^ n) h points → a₁ ≡ tabulate k (spreadBit n points) → k ≡ u * 2 ^ n
+pub spread-done : (u n k : ℕ) (h : ℕ → ℕ) (points a₁ a₂ : List ℕ) → points ≡ listed (2 ^ n) h → a₁ ≡ tabulate k (spreadBit n points) → k ≡ u * 2 ^ n
     → a₂ ≡ answerTable u n (λ j. value n (held n a₁ j)) → a₂ ≡ answerTable u n (λ j. value n (λ p. bit (h p) j))
 unfolding spreadBit answerTable
 spread-done u n k h points a₁ a₂ l e₁ ek e₂ =
     let whole : a₁ ≡ answerTable u n (λ j p. bit (getD points p 0) j) = e₁ ∙ ap (λ (x : ℕ). tabulate x (λ i. bit (getD points (i % 2 ^ n) 0) (i / 2 ^ n))) ek in
     e₂
     ∙ answerTable-cong u n _ _ (λ j m hj hm. value-cong n _ _ m (λ p hp.
-    ap (λ (t : List ℕ). held n t j p) whole ∙ held-answerTable u n (λ j p. bit (getD points p 0) j) j p hj hp ∙ ap (λ (x : ℕ). bit x j) (l .at p hp)))
+    ap (λ (t : List ℕ). held n t j p) whole ∙ held-answerTable u n (λ j p. bit (getD points p 0) j) j p hj hp ∙ ap (λ (x : ℕ). bit x j) (ap (λ (t : List ℕ). getD t p 0) l ∙ getD-listed (2 ^ n) h p 0 hp)))

@@ -28,11 +28,6 @@ pointBy Boole f U p = answeredPoint f U p
 pointBy Particular f U p = particularPoint f U p
 pointBy Lowenheim f U p = lowenheimPoint f (particularPoint f U p) p
 
--- the numbers h 0, .., h (k - 1)
-pub record Lists (k : ℕ) (h : ℕ → ℕ) (points : List ℕ) : Type 0 where
-  pub size : length points ≡ k
-  pub at : (p : ℕ) → p < k → getD points p 0 ≡ h p
-
 -- the values of the answers, one table after another: that of unknown j at p is bit j of the point that p leads to
 unfoldable pub spreadBit : ℕ → List ℕ → ℕ → Bool
 spreadBit n points i = bit (getD points (i % 2 ^ n) 0) (i / 2 ^ n)

@@ -6,11 +6,12 @@ ghost use Prim.Native.Nat.{_+_, _*_, _^_, _≤_, _<_};
 ghost use lib.Dec.{eqb};
 ghost use lib.ListN.{length, drop};
 ghost use Rattle.ring.specs.Letters.{digit, bit};
+ghost use Rattle.ring.specs.Lists.{listed};
 ghost use Rattle.ring.specs.Polynomial.{value};
 ghost use Rattle.ring.specs.Table.{IsTable, AreBits, present, tabulate, values, answerTable};
 ghost use Rattle.solution.specs.Elimination.{smallestBelow};
 ghost use Rattle.solution.specs.ByPoints.{chosenValue, answeredPoint, particularPoint};
-ghost use Rattle.elimination.specs.Rows.{HoldsRows, Lists, valuesIn, pointBy, spreadBit};
+ghost use Rattle.elimination.specs.Rows.{HoldsRows, valuesIn, pointBy, spreadBit};
 
 // Which answers are asked for.
 pub enum Method {
@@ -77,7 +78,7 @@ pub fn write_answers(
 // The point that each point leads to.
 fn find_points(method: Method, u: usize, n: usize, rows: &[u8], points: &mut [usize])
     requires { ⌜ (u ≤ n) × (n ≤ 10) × HoldsRows u n (now rows) × (length (now points) ≡ 2 ^ n) ⌝ }
-    ensures { λ _. ⌜ Lists (2 ^ n) (pointBy method (valuesIn n (now (rows .entry))) u) (now (points .exit)) ⌝ }
+    ensures { λ _. ⌜ now (points .exit) ≡ listed (2 ^ n) (pointBy method (valuesIn n (now (rows .entry))) u) ⌝ }
 {
     for p in 0..points.len() {
         points[p] = point_by(method, u, n, rows, p);

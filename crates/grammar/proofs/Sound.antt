@@ -1,14 +1,14 @@
 -- What the readers read, the grammar derives.
 -- Assumes nothing.
-use mathlib.Core.Path.{_≡_, refl, ap, _∙_, sym, subst}
-use mathlib.Core.Bool.{Bool, true, false, _||_}
-use mathlib.Core.Logic.{_⊎_, inl, inr, ⊎-elim}
+use mathlib.Core.Path.{_≡_, ap, _∙_, sym, subst}
+use mathlib.Core.Bool.{true}
+use mathlib.Core.Logic.{⊎-elim}
 use mathlib.Core.List.{List, [], _∷_, _++_, append-assoc, append-nil}
 use Prim.Native.Nat.{ℕ, zero, suc, _+_, _-_, _≤_, _<_}
 use native.Mathlib.Omega.{arith}
 use borrow.Author.Tests.{eqb-true, leb-true, ltb-true}
 use lib.Dec.{eqb, leb, ltb}
-use Rattle.ring.proofs.Bool.{and-left, and-right}
+use Rattle.ring.proofs.Bool.{and-left, and-right, or-cases}
 use Rattle.grammar.specs.Symbols.{zeroSign, oneSign, notSign, openSign, closeSign, timesSign, plusSign, orSign}
 use Rattle.grammar.specs.Reader.{Reading, found, Reader, sum, product, factor, sumFrom, productFrom, joinsSum, isUnknownSymbol, isGivenSymbol, joined, closed, step, readWith, calls, reads}
 use Rattle.grammar.specs.Grammar.{Tree, given, negation, times, Sum, Product, Factor, one-product, plus-product, or-product, one-factor, times-factor, is-zero, is-one, is-unknown, is-given, is-negation, in-brackets}
@@ -50,10 +50,6 @@ same-product l {f} {e} {r} h =
     let p : f ≡ e = cc in
     record { prefix = []; whole = sym q; means = λ k d. rw (append-nil k) (rw p at d) }
 
-either-true : (a b : Bool) → a || b ≡ true → (a ≡ true) ⊎ (b ≡ true)
-either-true true b h = inl refl
-either-true false b h = inr h
-
 a-given : (x : ℕ) → isGivenSymbol x ≡ true → Factor (x ∷ []) (given (x - 8))
 a-given x h =
     let low : 8 ≤ x = leb-true 8 x (and-left (leb 8 x) (ltb x 16) h) in
@@ -63,7 +59,7 @@ a-given x h =
     subst (λ (c : ℕ). Factor (c ∷ []) (given (x - 8))) e (is-given i)
 
 joins : (x : ℕ) → joinsSum x ≡ true → {k m : List ℕ} {e f : Tree} → Sum k e → Product m f → Sum (k ++ (x ∷ m)) (joined (eqb x orSign) e f)
-joins x h d p = ⊎-elim (λ w. rw (eqb-true x plusSign w) (plus-product d p)) (λ w. rw (eqb-true x orSign w) (or-product d p)) (either-true (eqb x plusSign) (eqb x orSign) h)
+joins x h d p = ⊎-elim (λ w. rw (eqb-true x plusSign w) (plus-product d p)) (λ w. rw (eqb-true x orSign w) (or-product d p)) (or-cases (eqb x plusSign) (eqb x orSign) h)
 
 closed-found : (e : Tree) (l : List ℕ) (e′ : Tree) (r : List ℕ) → closed e l ≡ found e′ r → (l ≡ closeSign ∷ r) × (e ≡ e′)
 closed-found e [] e′ r h = nothing-found h

@@ -1,15 +1,15 @@
 -- The values of a text, laid out as bytes, and the table that they are taken back to.
 -- Assumes nothing.
 use mathlib.Core.Path.{_≡_, ap, _∙_, sym}
-use mathlib.Core.Bool.{true}
+use mathlib.Core.Bool.{Bool}
 use mathlib.Core.List.{List}
 use mathlib.Core.Logic.{⊎-elim}
 use Prim.Native.Nat.{ℕ, _+_, _*_, _/_, _%_, _^_, _≤_, _<_}
-use native.Mathlib.Nat.{eq-or-lt-of-le, le-of-suc-le-suc}
+use native.Mathlib.Nat.{eq-or-lt-of-le, le-of-suc-le-suc, one-le-pow}
 use native.Mathlib.Numerals.{add-one}
 use native.Mathlib.Omega.{arith}
-use lib.ListN.{length, getD, take, set, length-set}
-use lib.Seq.{getD-set-same, getD-set-other, length-take-le}
+use lib.ListN.{length, getD, set, length-set}
+use lib.Seq.{getD-set-same, getD-set-other}
 use Rattle.ring.specs.Letters.{digit, bit}
 use Rattle.ring.specs.Table.{tabulate, values}
 use Rattle.ring.proofs.Mask.{low}
@@ -81,12 +81,12 @@ words-values U t words k n a h =
 pub turns-few : (n k : ℕ) → k ≡ 2 ^ n → n ≤ 10 → (k + 255) / 256 ≤ 4
 turns-few n k e h = let s : k ≤ 1024 = pow-small k n e h in omega arith
 
-pub words-enough : (k : ℕ) (words : List ℕ) → 4 * ((k + 255) / 256) ≤ length words → k ≤ 64 * length (take (4 * ((k + 255) / 256)) words)
-words-enough k words h = rw (length-take-le (4 * ((k + 255) / 256)) words h) (omega arith)
+pub turns-some : (n k : ℕ) → k ≡ 2 ^ n → 1 ≤ (k + 255) / 256
+turns-some n k e = let s : 1 ≤ 2 ^ n = one-le-pow n 2 (omega arith) in omega arith
 
-pub symbols-whole : (text l : List ℕ) → l ≡ symbols text → grammarReads text ≡ true → isWhole (reads sum l) ≡ true
+pub whole-text : (text l : List ℕ) (r : Bool) → l ≡ symbols text → r ≡ isWhole (reads sum l) → r ≡ grammarReads text
 unfolding grammarReads
-symbols-whole text l e h = rw e h
+whole-text text l r e h = h ∙ rw e
 
 pub values-text : (U G : ℕ) (text l t r : List ℕ) (k : ℕ) → IsRead U G text → l ≡ symbols text → t ≡ tabulate k (atPoint U (treeRead (reads sum l))) → k ≡ 2 ^ (U + G)
     → r ≡ values (U + G) t → r ≡ textTable U G text

@@ -1,9 +1,10 @@
 // Reading a text: from its bytes to the table of its polynomial (document 01, 'The notation').
 // The public call is `read_text`; the other functions are its own. The values come from the readers, 256 points at a time, and
 // one transform at the end takes them to the table.
+use parser::Whole;
 use tables::Outcome;
 ghost use mathlib.Core.Path.{_≡_};
-ghost use mathlib.Core.Bool.{true};
+ghost use mathlib.Core.Bool.{true, cond};
 ghost use mathlib.Core.List.{[]};
 ghost use Prim.Native.Nat.{_*_, _/_, _%_, _≤_};
 ghost use lib.ListN.{length, getD};
@@ -12,24 +13,27 @@ ghost use Rattle.ring.specs.Table.{tabulate};
 ghost use Rattle.tables.specs.Reply.{reply, after, outcome};
 ghost use Rattle.grammar.specs.Reader as reader;
 ghost use Rattle.grammar.specs.Reader.{reads, isWhole, treeRead, grammarReads};
-ghost use Rattle.grammar.specs.Meaning.{atPoint};
 ghost use Rattle.grammar.specs.Text.{textTable};
 ghost use Rattle.notation.specs.Text.{hasTextLength, textRefusal};
-ghost use Rattle.notation.specs.Work.{AreWords, Ready};
+ghost use Rattle.notation.specs.Work.{AreWords, Ready, earlyRefusal};
 
-// The words of a text that the grammar reads, four a turn.
-fn fill_words(s: &[u8], unknowns: usize, turns: usize, words: &mut [u64])
-    requires { ⌜ (unknowns ≤ 6) × (turns ≤ 4) × (isWhole (reads reader.Reader.sum (now s)) ≡ true) × (length (now words) ≡ 4 * turns) ⌝ }
-    ensures { λ _. ⌜ AreWords unknowns (treeRead (reads reader.Reader.sum (now (s .entry)))) (now (words .exit)) (length (now (words .entry))) ⌝ }
+// Question 7 of a text's symbols and, where the answer is yes, the words of the text, four a turn. The first turn gives the answer.
+fn fill_words(s: &[u8], unknowns: usize, turns: usize, words: &mut [u64]) -> bool
+    requires { ⌜ (unknowns ≤ 6) × (1 ≤ turns) × (turns ≤ 4) × (4 * turns ≤ length (now words)) ⌝ }
+    ensures { λ r. ⌜ r ≡ isWhole (reads reader.Reader.sum (now (s .entry))) ⌝ }
+    ensures { λ r. ⌜ (r ≡ true → AreWords unknowns (treeRead (reads reader.Reader.sum (now (s .entry)))) (now (words .exit)) (4 * turns)) ⌝ }
 {
     for i in 0..turns {
         let w = 4 * i;
-        let v = parser::values_from(s, unknowns, w as u64);
+        let Whole::Read(v) = parser::whole_values(s, unknowns, w as u64) else {
+            return false;
+        };
         words[w] = v.0;
         words[w + 1] = v.1;
         words[w + 2] = v.2;
         words[w + 3] = v.3;
     }
+    true
 }
 
 // One byte for each bit.
@@ -42,43 +46,23 @@ fn spread(words: &[u64], points: &mut [u8])
     }
 }
 
-// The values at all points, by way of the words.
-fn fill_points(s: &[u8], unknowns: usize, turns: usize, words: &mut [u64], points: &mut [u8])
-    requires { ⌜ (unknowns ≤ 6) × (turns ≤ 4) × (isWhole (reads reader.Reader.sum (now s)) ≡ true) × (length (now words) ≡ 4 * turns) × (length (now points) ≤ 64 * length (now words)) ⌝ }
-    ensures { λ _. ⌜ now (points .exit) ≡ tabulate (length (now (points .entry))) (atPoint unknowns (treeRead (reads reader.Reader.sum (now (s .entry))))) ⌝ }
-{
-    fill_words(s, unknowns, turns, words);
-    spread(words, points);
-}
-
-// The table of a text: its values, then back to coefficients. A turn serves 256 points: ten letters take four, eight or fewer one.
-fn read_table(unknowns: usize, givens: usize, text: &[u8], table: &mut [u8])
+// Question 7 and, where the answer is yes, the table of a text: its values, then back to coefficients. Nothing is written before the answer.
+// A turn serves 256 points: ten letters take four, eight or fewer one.
+fn read_table(unknowns: usize, givens: usize, text: &[u8], table: &mut [u8]) -> bool
     requires { ⌜ Ready unknowns givens (now text) (now table) ⌝ }
-    ensures { λ _. ⌜ now (table .exit) ≡ textTable unknowns givens (now (text .entry)) ⌝ }
+    ensures { λ r. ⌜ r ≡ grammarReads (now (text .entry)) ⌝ }
+    ensures { λ r. ⌜ now (table .exit) ≡ cond r (textTable unknowns givens (now (text .entry))) (now (table .entry)) ⌝ }
 {
     let mut symbols = [0u8; 200];
     let mut words = [0u64; 16];
     let count = parser::write_symbols(text, &mut symbols);
     let turns = (table.len() + 255) / 256;
-    let used = 4 * turns;
-    fill_points(
-        &symbols[..count],
-        unknowns,
-        turns,
-        &mut words[..used],
-        table,
-    );
+    if !fill_words(&symbols[..count], unknowns, turns, &mut words) {
+        return false;
+    }
+    spread(&words, table);
     tables::to_values(table, unknowns + givens);
-}
-
-// Question 7.
-fn grammar_reads(text: &[u8]) -> bool
-    requires { ⌜ length (now text) ≤ 200 ⌝ }
-    ensures { λ r. ⌜ r ≡ grammarReads (now (text .entry)) ⌝ }
-{
-    let mut symbols = [0u8; 200];
-    let count = parser::write_symbols(text, &mut symbols);
-    parser::is_whole(&symbols[..count])
+    true
 }
 
 // Question 3.
@@ -91,9 +75,9 @@ fn has_text_length(text: &[u8]) -> bool
     text.len() <= 200
 }
 
-// The first no of 1, 3, 4, 5, 6 and 7, or 0.
-fn text_refusal(unknowns: usize, givens: usize, text: &[u8], room: usize) -> u8
-    ensures { λ r. ⌜ r ≡ textRefusal unknowns givens (now (text .entry)) room ⌝ }
+// The first no of 1, 3, 4, 5 and 6, or 0.
+fn early_refusal(unknowns: usize, givens: usize, text: &[u8], room: usize) -> u8
+    ensures { λ r. ⌜ r ≡ earlyRefusal unknowns givens (now (text .entry)) room ⌝ }
 {
     if !tables::letters_fit(unknowns, givens) {
         return tables::LETTERS;
@@ -110,9 +94,6 @@ fn text_refusal(unknowns: usize, givens: usize, text: &[u8], room: usize) -> u8
     if !parser::all_declared(unknowns, givens, text) {
         return tables::DECLARED;
     }
-    if !grammar_reads(text) {
-        return tables::GRAMMAR;
-    }
     0
 }
 
@@ -121,11 +102,13 @@ pub fn read_text(unknowns: usize, givens: usize, text: &[u8], condition: &mut [u
     ensures { λ r. ⌜ outcome r ≡ reply (textRefusal unknowns givens (now (text .entry)) (length (now (condition .entry)))) [] ⌝ }
     ensures { λ _. ⌜ now (condition .exit) ≡ after (textRefusal unknowns givens (now (text .entry)) (length (now (condition .entry)))) (textTable unknowns givens (now (text .entry))) (now (condition .entry)) ⌝ }
 {
-    let refusal = text_refusal(unknowns, givens, text, condition.len());
+    let refusal = early_refusal(unknowns, givens, text, condition.len());
     if refusal != 0 {
         return Outcome::Refused(refusal);
     }
     let k = tables::pow2(unknowns + givens);
-    read_table(unknowns, givens, text, &mut condition[..k]);
+    if !read_table(unknowns, givens, text, &mut condition[..k]) {
+        return Outcome::Refused(tables::GRAMMAR);
+    }
     Outcome::Done
 }

@@ -92,14 +92,13 @@ stacked-point (suc u) (suc n) p h k l =
     (ap (λ (b : Bool). cond b (h 0) (bit p 0)) (sym (lt-ltb 0 (suc u) (omega arith))))
 
 -- looked up at every point, and back: the substitution
-pub substitute-done : (u n : ℕ) (f b w₁ w₂ p₁ p₂ o₁ o₂ : List ℕ) → u ≤ n → w₁ ≡ f → w₂ ≡ values n w₁ → p₁ ≡ b
-    → p₂ ≡ answerTable u n (λ j. value n (held n p₁ j)) → o₁ ≡ tabulate (2 ^ n) (λ p. present w₂ (stacked u (λ j. held n p₂ j p) (p / 2 ^ u)))
+pub substitute-done : (u n : ℕ) (f b w p₁ p₂ o₁ o₂ : List ℕ) → u ≤ n → w ≡ values n f → p₁ ≡ b → p₂ ≡ answerTable u n (λ j. value n (held n p₁ j))
+    → o₁ ≡ tabulate (2 ^ n) (λ p. present w (stacked u (λ j. held n p₂ j p) (p / 2 ^ u)))
     → o₂ ≡ values n o₁ → o₂ ≡ table n (substitute n n (present f) (forUnknowns u (held n b)))
-substitute-done u n f b w₁ w₂ p₁ p₂ o₁ o₂ h e₁ e₂ f₁ f₂ e₃ e₄ =
-    let x : w₂ ≡ values n f = e₂ ∙ ap (values n) e₁ in
+substitute-done u n f b w p₁ p₂ o₁ o₂ h x f₁ f₂ e₃ e₄ =
     let y : p₂ ≡ answerTable u n (λ j. value n (held n b j)) = f₂ ∙ ap (λ (l : List ℕ). answerTable u n (λ j. value n (held n l j))) f₁ in
     e₄ ∙ ap (values n) e₃
-    ∙ table-by-values n (substitute n n (present f) (forUnknowns u (held n b))) (λ p. present w₂ (stacked u (λ j. held n p₂ j p) (p / 2 ^ u))) (λ p l.
+    ∙ table-by-values n (substitute n n (present f) (forUnknowns u (held n b))) (λ p. present w (stacked u (λ j. held n p₂ j p) (p / 2 ^ u))) (λ p l.
     let q : stacked u (λ j. held n p₂ j p) (p / 2 ^ u) ≡ pointWhere n (λ j. cond (ltb j u) (value n (held n b j) p) (bit p j)) =
     stacked-cong u _ (λ j. value n (held n b j) p) (p / 2 ^ u) (λ j k. ap (λ (t : List ℕ). held n t j p) y ∙ held-answerTable u n (λ i. value n (held n b i)) j p k l)
     ∙ stacked-point u n p (λ j. value n (held n b j) p) h l in

@@ -29,14 +29,12 @@ unfolding table
 sum-done n a b o₁ o₂ t e₁ e₂ = e₂ ∙ rw (e₁, t .size)
 
 -- to values, point by point, and back
-pub product-done : (n : ℕ) (a b o₁ o₂ s₁ s₂ o₃ o₄ : List ℕ) → o₁ ≡ a → o₂ ≡ values n o₁ → s₁ ≡ b → s₂ ≡ values n s₁
-    → o₃ ≡ tabulate (length o₂) (λ p. present o₂ p && present s₂ p) → o₄ ≡ values n o₃ → o₄ ≡ table n (product n (present a) (present b))
-product-done n a b o₁ o₂ s₁ s₂ o₃ o₄ e₁ e₂ f₁ f₂ e₃ e₄ =
-    let x : o₂ ≡ values n a = e₂ ∙ ap (values n) e₁ in
-    let y : s₂ ≡ values n b = f₂ ∙ ap (values n) f₁ in
-    let size : length o₂ ≡ 2 ^ n = values-is-table n o₂ o₁ e₂ .size in
-    e₄ ∙ ap (values n) (e₃ ∙ ap (λ (k : ℕ). tabulate k (λ p. present o₂ p && present s₂ p)) size)
-    ∙ table-by-values n (product n (present a) (present b)) (λ p. present o₂ p && present s₂ p) (λ p l.
+pub product-done : (n : ℕ) (a b v w o₁ o₂ : List ℕ) → v ≡ values n a → w ≡ values n b → o₁ ≡ tabulate (length v) (λ p. present v p && present w p)
+    → o₂ ≡ values n o₁ → o₂ ≡ table n (product n (present a) (present b))
+product-done n a b v w o₁ o₂ x y e₁ e₂ =
+    let size : length v ≡ 2 ^ n = values-is-table n v a x .size in
+    e₂ ∙ ap (values n) (e₁ ∙ ap (λ (k : ℕ). tabulate k (λ p. present v p && present w p)) size)
+    ∙ table-by-values n (product n (present a) (present b)) (λ p. present v p && present w p) (λ p l.
     ap₂ (λ (t s : List ℕ). present t p && present s p) x y
     ∙ ap₂ _&&_ (value-present-values n a p l) (value-present-values n b p l)
     ∙ sym (value-product n (present a) (present b) p))

@@ -124,10 +124,8 @@ fn multiply_with(n: usize, a: &[u8], b: &[u8], out: &mut [u8], scratch: &mut [u8
     requires { ⌜ (n ≤ 10) × IsTable n (now a) × IsTable n (now b) × (length (now out) ≡ 2 ^ n) × (length (now scratch) ≡ 2 ^ n) ⌝ }
     ensures { λ _. ⌜ now (out .exit) ≡ table n (product n (present (now (a .entry))) (present (now (b .entry)))) ⌝ }
 {
-    tables::copy(out, a);
-    tables::to_values(out, n);
-    tables::copy(scratch, b);
-    tables::to_values(scratch, n);
+    tables::take_values(n, a, out);
+    tables::take_values(n, b, scratch);
     tables::multiply_into(out, scratch);
     tables::to_values(out, n);
 }
@@ -193,8 +191,7 @@ fn put_in_with(
     ensures { λ _. ⌜ now (out .exit) ≡ table (u + g) (substitute (u + g) (u + g) (present (now (condition .entry))) (forUnknowns u (held (u + g) (now (handed .entry))))) ⌝ }
 {
     let n = u + g;
-    tables::copy(whole, condition);
-    tables::to_values(whole, n);
+    tables::take_values(n, condition, whole);
     tables::copy(parts, handed);
     tables::all_to_values(parts, n, u);
     look_up(u, n, whole, parts, out);

@@ -37,13 +37,6 @@ fn count_masks(counts: &[[u8; 11]; 11], n: usize, k: usize) -> usize
     wide(counts[n][k])
 }
 
-fn pow2(n: usize) -> usize
-    requires { ⌜ n ≤ 10 ⌝ }
-    ensures { λ r. ⌜ r ≡ 2 ^ n ⌝ }
-{
-    1 << n
-}
-
 // The mask number r of those for ten letters that have k, from the last letter down: the masks without it come first.
 fn nth_mask(counts: &[[u8; 11]; 11], k: usize, r: usize) -> usize
     requires { ⌜ (AreCounts (now counts)) × (k ≤ 10) × (r < choose 10 k) ⌝ }
@@ -57,7 +50,7 @@ fn nth_mask(counts: &[[u8; 11]; 11], k: usize, r: usize) -> usize
         n -= 1;
         let without = count_masks(counts, n, left);
         if without <= rest {
-            m += pow2(n);
+            m += tables::pow2(n);
             rest -= without;
             left -= 1;
         }
@@ -89,7 +82,7 @@ pub fn fill_order(n: usize, out: &mut [u16])
     requires { ⌜ (n ≤ 10) × (2 ^ n ≤ length (now out)) ⌝ }
     ensures { λ r. ⌜ now (out .exit) ≡ order n ++ drop (2 ^ n) (now (out .entry)) ⌝ }
 {
-    let size = pow2(n);
+    let size = tables::pow2(n);
     let mut at = 0;
     let mut place = 0;
     while at < size {

@@ -1,4 +1,4 @@
 pub mod Words
 mod Decoding
 mod Readers
-mod Whole
+pub mod WholeText

@@ -1,17 +1,19 @@
 -- Inner work: what the readers of the code return, by what the specification's readers find, and the values that they work on.
 -- Assumes nothing.
 use mathlib.Core.Path.{_≡_}
-use mathlib.Core.Bool.{Bool, true, false}
+use mathlib.Core.Bool.{Bool, true, false, cond}
 use mathlib.Core.List.{List}
 use Prim.Native.Nat.{ℕ, _+_, _≤_, _<_}
 use lib.ListN.{length, drop}
 use lib.Bits.{bitAnd, bitOr, bitXor}
 use Rattle.grammar.specs.Grammar.{Tree}
-use Rattle.grammar.specs.Reader.{Reading, nothing, found}
+use Rattle.grammar.specs.Reader.{Reading, nothing, found, isWhole, treeRead}
 use Rattle.parser.specs.Words.{ones, letterWord, word}
 use Rattle.parser.specs.declared.Values.{Values}
 use Rattle.parser.specs.declared.Part.{Part}
 use Rattle.parser.specs.declared.Part.the-variants.{Missing, UpTo}
+use Rattle.parser.specs.declared.Whole.{Whole}
+use Rattle.parser.specs.declared.Whole.the-variants.{Unread, Read}
 
 -- four words, from w on, of a function on words
 abbrev pub fourFrom : (ℕ → ℕ) → ℕ → Values
@@ -54,3 +56,7 @@ pub record IsMissing (s : List ℕ) (at : ℕ) (reading : Reading) : Type 0 wher
 abbrev pub Agrees : ℕ → List ℕ → ℕ → ℕ → Reading → Part → Type 0
 Agrees U s w at reading Missing = IsMissing s at reading
 Agrees U s w at reading (UpTo n v) = IsUpTo U s w at reading n v
+
+-- 7: 'Does the grammar read the whole text?', and the values of its tree from word w on
+unfoldable pub wholeValues : ℕ → Reading → ℕ → Whole
+wholeValues U reading w = cond (isWhole reading) (Read (valuesFrom U (treeRead reading) w)) Unread

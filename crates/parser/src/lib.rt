@@ -2,15 +2,14 @@
 // They work on truth values, 256 points in four machine words. Each is held to the grammar's executable form (`grammar/specs/Reader.antt`).
 // Nothing here is a public call of the library: `notation` has it.
 ghost use mathlib.Core.Path.{_≡_};
-ghost use mathlib.Core.Bool.{true};
 ghost use Prim.Native.Nat.{_≤_, _<_};
 ghost use lib.ListN.{length, drop, take};
 ghost use lib.Dec.{eqb};
 ghost use Rattle.grammar.specs.Symbols.{symbol, symbols, isSign, allSigns, isDeclared, allDeclared, orSign};
 ghost use Rattle.grammar.specs.Reader as reader;
-ghost use Rattle.grammar.specs.Reader.{reads, joinsSum, isWhole, treeRead};
+ghost use Rattle.grammar.specs.Reader.{reads, joinsSum};
 ghost use Rattle.parser.specs.Words.{letterWord};
-ghost use Rattle.parser.specs.Parts.{Agrees, joinedValues, bothValues, negatedValues, letterValues, valuesFrom};
+ghost use Rattle.parser.specs.Parts.{Agrees, joinedValues, bothValues, negatedValues, letterValues, wholeValues};
 
 // A symbol is a number: unknown j is j, given i is GIVEN + i, every other sign is its own byte.
 const GIVEN: u8 = 8;
@@ -36,6 +35,12 @@ pub struct Values(pub u64, pub u64, pub u64, pub u64);
 pub enum Part {
     Missing,
     UpTo(usize, Values),
+}
+
+// What the grammar makes of a whole text: nothing, or its values.
+pub enum Whole {
+    Unread,
+    Read(Values),
 }
 
 // 'Decoding goes by byte ranges: u to z, a to h, then the single signs.'
@@ -263,23 +268,19 @@ fn factor(s: &[u8], at: usize, unknowns: usize, w: u64) -> Part
     }
 }
 
-// Question 7, of a text's symbols. Whether a text is read does not depend on the values, so any will do.
-pub fn is_whole(s: &[u8]) -> bool
-    ensures { λ r. ⌜ r ≡ isWhole (reads reader.Reader.sum (now (s .entry))) ⌝ }
-{
-    match sum(s, 0, 0, 0) {
-        Part::Missing => false,
-        Part::UpTo(n, _) => n == s.len(),
-    }
-}
-
-// The values of a text that the grammar reads, at the points of the four words from w on.
-pub fn values_from(s: &[u8], unknowns: usize, w: u64) -> Values
-    requires { ⌜ (unknowns ≤ 6) × (w ≤ 12) × (isWhole (reads reader.Reader.sum (now s)) ≡ true) ⌝ }
-    ensures { λ r. ⌜ r ≡ valuesFrom unknowns (treeRead (reads reader.Reader.sum (now (s .entry)))) w ⌝ }
+// Question 7 of a text's symbols and, where the answer is yes, the values at the points of the four words from w on.
+pub fn whole_values(s: &[u8], unknowns: usize, w: u64) -> Whole
+    requires { ⌜ (unknowns ≤ 6) × (w ≤ 12) ⌝ }
+    ensures { λ r. ⌜ r ≡ wholeValues unknowns (reads reader.Reader.sum (now (s .entry))) w ⌝ }
 {
     match sum(s, 0, unknowns, w) {
-        Part::Missing => Values(0, 0, 0, 0),
-        Part::UpTo(_, v) => v,
+        Part::Missing => Whole::Unread,
+        Part::UpTo(n, v) => {
+            if n == s.len() {
+                Whole::Read(v)
+            } else {
+                Whole::Unread
+            }
+        }
     }
 }

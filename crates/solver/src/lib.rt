@@ -1,7 +1,8 @@
 // Solving a condition: Boole's answers, the particular solution, Löwenheim's formula on the own particular solution or on handed polynomials.
 // Public calls, none with a `requires`: `boole`, `particular`, `lowenheim`, `lowenheim_handed`. `solve` is Boole's method for the crates
 // above, which ask the questions first; the other functions are theirs alone.
-// The work is done on truth values, point by point, and comes back to polynomials; the contracts cite the polynomials' own definitions.
+// The work is done on truth values, point by point (`elimination`), and comes back to polynomials; the contracts cite the polynomials' own
+// definitions.
 use elimination::Method;
 use ring::State;
 use tables::Outcome;

@@ -1,25 +1,25 @@
 -- `elimination::find_points` meets its contract. The loop's invariant: the points before p are found.
 -- Assumes nothing.
 use mathlib.Core.Path.{_≡_, refl, sym, _∙_}
-use Prim.Native.Nat.{ℕ, _≤_, _<_, _-_, _^_}
+use Prim.Native.Nat.{_≤_, _<_, _-_, _^_}
 use native.Mathlib.Omega.{arith}
 use borrow.Author.Needs.{needs}
-use lib.ListN.{length, getD}
+use lib.ListN.{length}
+use Rattle.tables.proofs.Filled.{filled, filled-start, filled-more, filled-end}
 use Rattle.tables.proofs.Steps.{pow-small}
 use Rattle.elimination.specs.Rows.{valuesIn, pointBy}
-use Rattle.elimination.proofs.Answers.{listed-more}
 use Rattle.elimination.proofs.find_points.Statement.{statement}
 use Rattle.elimination.proofs.find_points.Tie as tie
 
 abbrev Inv-loop : tie.InvT-loop
 Inv-loop method u n rows points₀ p₀ p-end points p =
-    (p ≤ 2 ^ n) × (length points ≡ 2 ^ n) × ((m : ℕ) → m < p → getD points m 0 ≡ pointBy method (valuesIn n rows) u m)
+    (p ≤ 2 ^ n) × (length points ≡ 2 ^ n) × (points ≡ filled p (pointBy method (valuesIn n rows) u) points₀)
 
 abbrev μ-loop : tie.MeasureT-loop
 μ-loop method u n rows points₀ p₀ p-end points p = 2 ^ n - p
 
 loop-holds : tie.Need-loop-holds Inv-loop μ-loop
-loop-holds c = (search needs, c .before .before .pre .3, λ m l. absurd (omega arith))
+loop-holds c = (search needs, c .before .before .pre .3, filled-start _ _ _ refl)
 
 -- p is the place of a point
 inside : (c : tie.In-loop Inv-loop μ-loop) → c .before .loop .p < 2 ^ c .before .before .before .before .args .n
@@ -30,20 +30,19 @@ point-by-requires c κs = let pre = c .before .before .before .before .pre in (p
 
 loop-again : tie.Need-loop-again Inv-loop μ-loop
 loop-again c =
-    let l = c .before in
-    let args = l .before .before .before .before .args in
-    let places : l .before .loop .p < length (l .before .loop .points) = omega (arith, inside l, l .before .loop .inv .1) in (
+    let l = c .before in (
       omega (arith, inside l),
       search needs,
-      listed-more (pointBy (args .method) (valuesIn (args .n) (args .rows .now)) (args .u)) (l .before .loop .points) (l .before .loop .p) (c .point-by .result) places
-          (l .before .loop .inv .2) (c .point-by .ensures),
+      filled-more _ _ _ _ (l .before .loop .inv .2) _ (omega (arith, inside l, l .before .before .before .before .pre .3)) (c .point-by .ensures),
     )
 
 same-length : tie.Need-same-length Inv-loop μ-loop
 same-length c = c .before .loop .inv .1 ∙ sym (c .before .before .before .before .pre .3)
 
 returns : tie.Need-returns Inv-loop μ-loop
-returns c = record { size = c .before .loop .inv .1; at = λ p l. c .before .loop .inv .2 p (omega (arith, c .before .before .before .before .pre .3, c .loop-test .left)) }
+returns c =
+    let size = c .before .before .before .before .pre .3 in
+    filled-end _ _ _ _ (c .before .loop .inv .2) (omega (arith, size, c .before .loop .inv .0)) (c .loop-test .left) ∙ rw size
 
 pub find-points-spec : {M : Type 1} → statement M
 find-points-spec =

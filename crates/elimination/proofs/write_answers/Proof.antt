@@ -1,9 +1,12 @@
 -- `elimination::write_answers` meets its contract: each point, its bits for each unknown, and back from these values.
 -- Assumes nothing.
+use mathlib.Core.Path.{ap, _∙_}
 use Prim.Native.Nat.{_*_, _^_, _≤_}
 use native.Mathlib.Nat.{mul-le-mul-right}
 use native.Mathlib.Omega.{arith}
 use borrow.Author.Needs.{needs}
+use lib.ListN.{length}
+use Rattle.ring.proofs.Lists.{length-listed}
 use Rattle.elimination.specs.Rows.{valuesIn, pointBy}
 use Rattle.elimination.proofs.Answers.{spread-bits, spread-length, spread-done}
 use Rattle.elimination.proofs.write_answers.Statement.{statement}
@@ -15,7 +18,7 @@ spread-requires c κs =
     let start = pointed .before .before .before .before .before in
     let n = start .args .n in
     let room : start .args .u * 2 ^ n ≤ 6 * 2 ^ n = mul-le-mul-right (2 ^ n) (start .pre .0) in
-    (start .pre .2, pointed .find-points .ensures .size, omega (arith, start .pre .5))
+    (start .pre .2, ap length (pointed .find-points .ensures) ∙ length-listed _ _, omega (arith, start .pre .5))
 
 all-to-values-requires : tie.Need-all-to-values-requires
 all-to-values-requires c κs =

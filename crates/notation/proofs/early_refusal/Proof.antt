@@ -7,9 +7,9 @@ use Rattle.tables.specs.Questions.{lettersFit}
 use Rattle.tables.proofs.Questions.{failed, passed, letters-small}
 use Rattle.grammar.specs.Symbols.{allSigns}
 use Rattle.notation.specs.Text.{hasTextLength}
-use Rattle.notation.proofs.Refusal.{text-short, refused-letters, refused-length, refused-room, refused-signs, refused-declared, refused-grammar, not-refused}
-use Rattle.notation.proofs.text_refusal.Statement.{statement}
-use Rattle.notation.proofs.text_refusal.Tie as tie
+use Rattle.notation.proofs.Refusal.{refused-letters, refused-length, refused-room, refused-signs, refused-declared, not-refused}
+use Rattle.notation.proofs.early_refusal.Statement.{statement}
+use Rattle.notation.proofs.early_refusal.Tie as tie
 
 -- what is known once a question is passed
 letters : (c : tie.Else1) → lettersFit (c .before .before .before .args .unknowns) (c .before .before .before .args .givens) ≡ true
@@ -50,29 +50,16 @@ returns-5 c =
     refused-declared _ _ _ _ (letters (asked .before .before)) (bytes asked) _ (roomy .before .pow2 .ensures) (roomy .if3 .left)
     (signs signed) (failed (c .before .all-declared .ensures) (c .if5 .taken))
 
-grammar-reads-requires : tie.Need-grammar-reads-requires
-grammar-reads-requires c κs = text-short _ (bytes (c .before .before .before .before .before .before))
-
 returns-6 : tie.Need-returns-6
 returns-6 c =
-    let declared = c .before .before in
-    let signed = declared .before .before in
-    let roomy = signed .before .before in
-    let asked = roomy .before .before in
-    refused-grammar _ _ _ _ (letters (asked .before .before)) (bytes asked) _ (roomy .before .pow2 .ensures) (roomy .if3 .left)
-    (signs signed) (passed (declared .before .all-declared .ensures) (declared .if5 .left)) (failed (c .before .grammar-reads .ensures) (c .if6 .taken))
-
-returns-7 : tie.Need-returns-7
-returns-7 c =
-    let declared = c .before .before in
-    let signed = declared .before .before in
+    let signed = c .before .before in
     let roomy = signed .before .before in
     let asked = roomy .before .before in
     not-refused _ _ _ _ (letters (asked .before .before)) (bytes asked) _ (roomy .before .pow2 .ensures) (roomy .if3 .left)
-    (signs signed) (passed (declared .before .all-declared .ensures) (declared .if5 .left)) (passed (c .before .grammar-reads .ensures) (c .if6 .left))
+    (signs signed) (passed (c .before .all-declared .ensures) (c .if5 .left))
 
-pub text-refusal-spec : {M : Type 1} → statement M
-text-refusal-spec =
+pub early-refusal-spec : {M : Type 1} → statement M
+early-refusal-spec =
     tie.close
     (tie.spec
     (λ c κs. search needs)
@@ -86,6 +73,4 @@ text-refusal-spec =
     returns-4
     (λ c κs. search needs)
     returns-5
-    grammar-reads-requires
-    returns-6
-    returns-7)
+    returns-6)
