@@ -8,6 +8,7 @@ use Prim.Native.Nat.{ℕ, zero, suc, _+_, _*_, _/_, _%_}
 use native.Mathlib.Omega.{arith}
 use lib.Dec.{ltb}
 use lib.ListN.{length, drop}
+use lib.Seq.{drop-at}
 use borrow.Author.Tests.{le-leb}
 use Rattle.ring.specs.Table.{present, held}
 use Rattle.order.specs.Order.{monomials}
@@ -52,12 +53,7 @@ unfolding next
 next-end route bs = rw (le-leb 2 (suc (suc (length bs))) (omega arith))
 
 drop-record : (r : Record) (bs : List ℕ) → drop (size r) (recordBytes r ++ bs) ≡ bs
-drop-record (Start route U G) bs = refl
-drop-record (Condition m) bs = refl
-drop-record (Answer j m) bs = refl
-drop-record (End route) bs = refl
-drop-record (None state) bs = refl
-drop-record Broken bs = refl
+drop-record r bs = drop-at (recordBytes r) bs (size r) refl
 
 until-inner : (r : Record) (rs : List Record) → isInner r ≡ true → untilEnd r rs ≡ r ∷ rs
 until-inner (Start route U G) rs p = refl

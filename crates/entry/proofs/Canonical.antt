@@ -29,7 +29,7 @@ use Rattle.entry.specs.Places.{placeOf, standsBehind, fitsBehind}
 use Rattle.entry.proofs.Places.{numbers-by-places}
 use Rattle.entry.proofs.Back.{isInner, allInner, inner-not-end, body, entry-body, body-inner}
 use Rattle.entry.proofs.Verdicts.{VerdictFits, answers-fit}
-use Rattle.entry.proofs.Passed.{entry-kinds, entry-places}
+use Rattle.entry.proofs.EntryPasses.{entry-kinds, entry-places}
 use Rattle.entry.proofs.Held.{entry-monomials, verdict-no-condition, answers-monomials, solved-unless, none-unless}
 use Rattle.entry.proofs.Unique.{onlyMonomials, only-all, only-has, rising-unique, monomial-bounds, fits-bounds, fits-rest, fits-front}
 

@@ -2,7 +2,7 @@ pub mod Records
 pub mod Back
 pub mod Places
 pub mod Verdicts
-pub mod Passed
+pub mod EntryPasses
 pub mod Held
 pub mod Unique
 pub mod Canonical

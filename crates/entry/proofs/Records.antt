@@ -1,5 +1,6 @@
 -- The records of bytes: the one that stands first, and those behind it. How many steps `firstRecords` may take plays no part once
--- they are as many as the bytes: each whole record takes some of them. Below it, what a loop over the records finds at its place.
+-- they are as many as the bytes: each whole record takes some of them. Below it, what a loop over the records finds at its place, and the
+-- length that they take.
 -- Assumes nothing.
 use mathlib.Core.Path.{_≡_, refl, sym, ap, _∙_}
 use mathlib.Core.Bool.{Bool, true, false, cond}

@@ -25,7 +25,7 @@ use Rattle.entry.specs.Held.{records, routeOf, unknownsOf, givensOf, ans
 use Rattle.entry.specs.Questions.{entryQuestions, sameBytes, sameVerdict, solvedAfresh, answersHold, auditQuestions}
 use Rattle.entry.proofs.Back.{entry-records}
 use Rattle.entry.proofs.Verdicts.{solve-fits}
-use Rattle.entry.proofs.Passed.{entry-has-end, entry-kinds, entry-numbers}
+use Rattle.entry.proofs.EntryPasses.{entry-has-end, entry-kinds, entry-numbers}
 use Rattle.entry.proofs.Held.{condition-back, verdict-back, answers-held, solved-unless, none-unless}
 use Rattle.entry.proofs.Canonical.{records-end, canonical}
 use Rattle.entry.proofs.Bytes.{records-bytes}

@@ -47,12 +47,12 @@ firstRecords (suc k) bs = untilEnd (next bs) (firstRecords k (drop (size (next b
 unfoldable pub records : List ℕ → List Record
 records bs = firstRecords (length bs) bs
 
--- no record is broken
+-- every record has 'kind 1 to 5 and a whole body'
 unfoldable pub allWhole : List Record → Bool
 allWhole [] = true
 allWhole (r ∷ rs) = ltb 0 (size r) && allWhole rs
 
--- the bytes are those of whole records, and no byte stands behind them
+-- the bytes are whole records one after another, and nothing else: what 'each record of the entry on a line' is printed of
 pub record AreRecords (bs : List ℕ) : Type 0 where
   pub same : bytes (records bs) ≡ bs
   pub whole : allWhole (records bs) ≡ true

@@ -30,7 +30,7 @@ use Rattle.reader.specs.declared.Read.the-variants.{Solved, None, Refuse
 use Rattle.records.specs.declared.Said.{Said}
 use Rattle.records.specs.declared.Said.the-variants as said-variants
 use Rattle.reader.specs.Reading.{readRefusal, readValues, stateOf, answersOf, heldAnswers}
-use Rattle.reader.specs.Steps.{Fitting, Reads}
+use Rattle.reader.specs.Filling.{Fitting, Reads}
 
 -- ---- refused before question 4
 pub read-refused : (bs c a : List ℕ) {q : ℕ} → q ≡ firstNo (entryQuestions (records bs)) → (q ≡ 0 → ⊥) → Reads bs c a (Refused q) c a

@@ -25,7 +25,7 @@ use Rattle.entry.specs.Places.{placeOf, fitsBehind}
 use Rattle.entry.proofs.Records.{records-none, here-none, here}
 use Rattle.entry.proofs.Places.{mask-in-bounds, table-in-bounds}
 use Rattle.entry.proofs.Unique.{fits-bounds, fits-rest}
-use Rattle.reader.specs.Steps.{zeros, putMonomial, filled, Fitting}
+use Rattle.reader.specs.Filling.{zeros, putMonomial, filled, Fitting}
 
 -- ---- one record
 module _ (base k : ℕ) (r : Record) (t : List ℕ) where

@@ -11,7 +11,7 @@ ghost use Rattle.entry.specs.Held.{records, conditionIn, answersIn, heldConditi
 ghost use Rattle.entry.specs.Questions.{inBounds, entryQuestions};
 ghost use Rattle.records.specs.Headings.{headingOf};
 ghost use Rattle.reader.specs.Reading.{reading, readRefusal, readValues, heldAnswers};
-ghost use Rattle.reader.specs.Steps.{putMonomial, filled, zeros, Fitting, Reads};
+ghost use Rattle.reader.specs.Filling.{putMonomial, filled, zeros, Fitting, Reads};
 use entry::Record;
 use records::Heading;
 use records::Said;

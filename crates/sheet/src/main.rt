@@ -9,7 +9,7 @@ ghost use mathlib.Core.Path.{_≡_};
 ghost use Prim.Native.Nat.{_≤_, _<_};
 ghost use lib.ListN.{length};
 ghost use Rattle.sheet_lines.specs.Pieces.{keptLength};
-ghost use Rattle.sheet_lines.specs.Work.{lineRoom};
+ghost use Rattle.sheet_lines.specs.Feeding.{lineRoom};
 
 // What is carried from piece to piece: how many bytes are kept of the line that has begun, and the last route printed.
 struct Progress {

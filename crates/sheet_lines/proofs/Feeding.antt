@@ -23,7 +23,7 @@ use Rattle.sheet_lines.specs.declared.Fed.{Fed}
 use Rattle.sheet_lines.specs.Fields.{digitsAhead, isReadable, fields, readLine}
 use Rattle.sheet_lines.specs.Sheet.{printedFor, lastFor, printed, lastBehind}
 use Rattle.sheet_lines.specs.Pieces.{Carried, keptLength, carry, prints, carryAll, printsAll, printsLast}
-use Rattle.sheet_lines.specs.Work.{lineRoom, Answers, PrintsLine, carried, Took, Feeds}
+use Rattle.sheet_lines.specs.Feeding.{lineRoom, Answers, PrintsLine, carried, Took, Feeds}
 use Rattle.sheet_lines.proofs.Fields.{readable-fits}
 use Rattle.sheet_lines.proofs.Pieces.{carry-append, prints-append}
 

@@ -14,7 +14,7 @@ use lib.ListN.{length, take, length-append, length-take}
 use lib.Seq.{take-all}
 use borrow.Author.Tests.{lt-leb, ne-eqb}
 use Rattle.ring.proofs.Bool.{bool-cases}
-use Rattle.printing.specs.Print.{lineFeed}
+use Rattle.printing.specs.Print.{lineFeed, unreadableLine}
 use Rattle.sheet_lines.specs.declared.Line.the-variants.{Unreadable}
 use Rattle.sheet_lines.specs.Fields.{isReadable, readLine}
 use Rattle.sheet_lines.specs.Sheet.{printedFor, lastFor, printed, lastBehind, inFront, linesOf, printedLines, sheet}
@@ -38,30 +38,24 @@ too-long : (line : List ℕ) → 300 < length line → readLine line ≡ Unreada
 unfolding readLine isReadable
 too-long line h = rw (lt-leb (length line) 300 h)
 
+-- cut or whole, such a line gives the same
+cut : {A : Type 0} (f : List ℕ → A) (a : A) → ((line : List ℕ) → readLine line ≡ Unreadable → f line ≡ a) → (begun line : List ℕ) → f (take keptLength begun ++ line) ≡ f (begun ++ line)
+cut {A} f a unreadable begun line = go (decLe (length begun) 301)
+  where
+    go : Dec (length begun ≤ 301) → f (take keptLength begun ++ line) ≡ f (begun ++ line)
+    go (yes h) = ap (λ (l : List ℕ). f (l ++ line)) (take-all 301 begun h)
+    go (no h) =
+        unreadable (take keptLength begun ++ line) (too-long (take keptLength begun ++ line) (omega (arith, length-append (take keptLength begun) line, length-take 301 begun)))
+        ∙ sym (unreadable (begun ++ line) (too-long (begun ++ line) (omega (arith, length-append begun line))))
+
 module _ (last : ℕ) (begun line : List ℕ) where
   cut-printed : printed last (take keptLength begun ++ line) ≡ printed last (begun ++ line)
   unfolding printed printedFor
-  cut-printed = go (decLe (length begun) 301)
-    where
-      go : Dec (length begun ≤ 301) → printed last (take keptLength begun ++ line) ≡ printed last (begun ++ line)
-      go (yes h) = ap (λ (l : List ℕ). printed last (l ++ line)) (take-all 301 begun h)
-      go (no h) =
-          rw (
-            too-long (take keptLength begun ++ line) (omega (arith, length-append (take keptLength begun) line, length-take 301 begun)),
-            too-long (begun ++ line) (omega (arith, length-append begun line)),
-          )
+  cut-printed = cut (printed last) unreadableLine (λ l e. rw e) begun line
 
   cut-last : lastBehind last (take keptLength begun ++ line) ≡ lastBehind last (begun ++ line)
   unfolding lastBehind lastFor
-  cut-last = go (decLe (length begun) 301)
-    where
-      go : Dec (length begun ≤ 301) → lastBehind last (take keptLength begun ++ line) ≡ lastBehind last (begun ++ line)
-      go (yes h) = ap (λ (l : List ℕ). lastBehind last (l ++ line)) (take-all 301 begun h)
-      go (no h) =
-          rw (
-            too-long (take keptLength begun ++ line) (omega (arith, length-append (take keptLength begun) line, length-take 301 begun)),
-            too-long (begun ++ line) (omega (arith, length-append begun line)),
-          )
+  cut-last = cut (lastBehind last) last (λ l e. rw e) begun line
 
   cut-first : (lines : List (List ℕ)) → printedLines last ((take keptLength begun ++ line) ∷ lines) ≡ printedLines last ((begun ++ line) ∷ lines)
   unfolding printedLines

@@ -28,7 +28,7 @@ use Rattle.entry.specs.Entry.{archivedRecords}
 use Rattle.entry.specs.Questions.{routeFits}
 use Rattle.printing.specs.Print.{recordLines, refusedLine}
 use Rattle.sheet_lines.specs.Sheet.{lineQuestions, lineRefusal, answerLines, routeBehind}
-use Rattle.sheet_lines.specs.Work.{Answers}
+use Rattle.sheet_lines.specs.Feeding.{Answers}
 
 -- ---- the first no of a line
 module _ (last route U G : ℕ) (text : List ℕ) where

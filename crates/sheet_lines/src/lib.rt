@@ -12,7 +12,7 @@ ghost use Rattle.printing.specs.Print.{recordLines};
 ghost use Rattle.sheet_lines.specs.Fields.{isDigit, digitsAhead, numberBehind, hasLetters, isReadable, readLine};
 ghost use Rattle.sheet_lines.specs.Sheet.{lineRefusal};
 ghost use Rattle.sheet_lines.specs.Pieces.{keptLength, printsLast};
-ghost use Rattle.sheet_lines.specs.Work.{lineRoom, Answers, PrintsLine, carried, Took, Feeds};
+ghost use Rattle.sheet_lines.specs.Feeding.{lineRoom, Answers, PrintsLine, carried, Took, Feeds};
 use tables::Outcome;
 use writer::Written;
 

@@ -21,31 +21,31 @@ use Rattle.entry.specs.Questions.{routeFits}
 use Rattle.writer.specs.declared.Written.{Written}
 use Rattle.writer.specs.declared.Written.the-variants.{Done, Refused}
 use Rattle.writer.specs.Writing.{archived, outputFits, writeQuestions, writeRefusal, written}
-use Rattle.writer.specs.Steps.{Ready, tableQuestions, tableRefusal, HandsOut}
+use Rattle.writer.specs.Steps.{Ready, conditionQuestions, conditionRefusal, HandsOut}
 
 -- ---- 1, 2, 4 and 8
 module _ (route U G : ℕ) (t : List ℕ) where
-  pub refused-letters : lettersFit U G ≡ false → 1 ≡ tableRefusal route U G t
-  unfolding tableRefusal tableQuestions firstNo
+  pub refused-letters : lettersFit U G ≡ false → 1 ≡ conditionRefusal route U G t
+  unfolding conditionRefusal conditionQuestions firstNo
   refused-letters e = rw e
 
   module _ (l : lettersFit U G ≡ true) where
-    pub refused-route : routeFits route ≡ false → 2 ≡ tableRefusal route U G t
-    unfolding tableRefusal tableQuestions firstNo
+    pub refused-route : routeFits route ≡ false → 2 ≡ conditionRefusal route U G t
+    unfolding conditionRefusal conditionQuestions firstNo
     refused-route e = rw (l, e)
 
     module _ (f : routeFits route ≡ true) {k : ℕ} (ek : k ≡ 2 ^ (U + G)) where
-      pub refused-room : length t < k → 4 ≡ tableRefusal route U G t
-      unfolding tableRefusal tableQuestions firstNo hasRoom
+      pub refused-room : length t < k → 4 ≡ conditionRefusal route U G t
+      unfolding conditionRefusal conditionQuestions firstNo hasRoom
       refused-room h = rw (l, f, ← ek, lt-leb k (length t) h)
 
       module _ (h : k ≤ length t) where
-        pub refused-bits : holdsBits k t ≡ false → 8 ≡ tableRefusal route U G t
-        unfolding tableRefusal tableQuestions firstNo hasRoom
+        pub refused-bits : holdsBits k t ≡ false → 8 ≡ conditionRefusal route U G t
+        unfolding conditionRefusal conditionQuestions firstNo hasRoom
         refused-bits e = rw (l, f, ← ek, le-leb k (length t) h, e)
 
-        pub not-refused : holdsBits k t ≡ true → 0 ≡ tableRefusal route U G t
-        unfolding tableRefusal tableQuestions firstNo hasRoom
+        pub not-refused : holdsBits k t ≡ true → 0 ≡ conditionRefusal route U G t
+        unfolding conditionRefusal conditionQuestions firstNo hasRoom
         not-refused e = rw (l, f, ← ek, le-leb k (length t) h, e)
 
   -- what it means that none of them is answered no
@@ -55,8 +55,8 @@ module _ (route U G : ℕ) (t : List ℕ) where
     pub room : 2 ^ (U + G) ≤ length t
     pub bits : holdsBits (2 ^ (U + G)) t ≡ true
 
-  pub fine : tableRefusal route U G t ≡ 0 → Fine
-  unfolding tableRefusal tableQuestions firstNo hasRoom
+  pub fine : conditionRefusal route U G t ≡ 0 → Fine
+  unfolding conditionRefusal conditionQuestions firstNo hasRoom
   fine e =
       let a = yes-to (lettersFit U G) _ 0 e in
       let b = yes-to (routeFits route) _ 1 (a .1) in
@@ -64,7 +64,7 @@ module _ (route U G : ℕ) (t : List ℕ) where
       let d = yes-to (holdsBits (2 ^ (U + G)) t) _ 7 (c .1) in
       record { letters = a .0; route-fits = b .0; room = leb-true _ _ (c .0); bits = d .0 }
 
-  module _ {q : ℕ} (e : q ≡ tableRefusal route U G t) (z : q ≡ 0) where
+  module _ {q : ℕ} (e : q ≡ conditionRefusal route U G t) (z : q ≡ 0) where
     all-yes : Fine
     all-yes = fine (sym e ∙ z)
 
@@ -103,11 +103,11 @@ module _ (route U G : ℕ) (t : List ℕ) where
         let eq : firstNo (asks 14 (outputFits (entry route U G (take k t)) (length out)) ∷ []) ≡ writeRefusal route U G t (length out) = then-output (length out) em in
         (h .answer ∙ rw (eq, em), h .output ∙ rw (eq, em))
 
-  pub write-refused : (out : List ℕ) {q : ℕ} → q ≡ tableRefusal route U G t → (q ≡ 0 → ⊥)
+  pub write-refused : (out : List ℕ) {q : ℕ} → q ≡ conditionRefusal route U G t → (q ≡ 0 → ⊥)
       → (written (Refused q) ≡ reply (writeRefusal route U G t (length out)) (length (archived route U G t) ∷ [])) × (out ≡ after (writeRefusal route U G t (length out)) (archived route U G t) out)
-  unfolding tableRefusal tableQuestions writeRefusal writeQuestions
+  unfolding conditionRefusal conditionQuestions writeRefusal writeQuestions
   write-refused out {q} e n =
-      let f : q ≡ writeRefusal route U G t (length out) = e ∙ sym (first-counts (tableQuestions route U G t) (asks 14 (outputFits (archived route U G t) (length out)) ∷ []) (λ z. n (e ∙ z))) in
+      let f : q ≡ writeRefusal route U G t (length out) = e ∙ sym (first-counts (conditionQuestions route U G t) (asks 14 (outputFits (archived route U G t) (length out)) ∷ []) (λ z. n (e ∙ z))) in
       (reply-refused q _ f _ n, after-refused q _ f _ out n)
 
 -- ---- 14

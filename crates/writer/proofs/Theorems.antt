@@ -15,7 +15,7 @@ use Rattle.entry.specs.Held.{records, says}
 use Rattle.entry.specs.Questions.{auditQuestions}
 use Rattle.entry.proofs.Theorems.{ReadsBack, reads-back, entry-audited, entry-right}
 use Rattle.writer.specs.Writing.{archived, outputFits, writeQuestions, writeRefusal}
-use Rattle.writer.specs.Steps.{Ready, tableQuestions, tableRefusal}
+use Rattle.writer.specs.Steps.{Ready, conditionQuestions, conditionRefusal}
 use Rattle.writer.proofs.Asked.{Fine, fine, fine-ready}
 
 module _ (route U G : ℕ) (condition out : List ℕ) (z : writeRefusal route U G condition (length out) ≡ 0) where
@@ -27,9 +27,9 @@ module _ (route U G : ℕ) (condition out : List ℕ) (z : writeRefusal route U 
   abbrev lent : List ℕ
   lent = take (2 ^ (U + G)) condition
 
-  none-refused : tableRefusal route U G condition ≡ 0
-  unfolding tableRefusal tableQuestions writeRefusal writeQuestions
-  none-refused = asked-before (tableQuestions route U G condition) (asks 14 (outputFits (archived route U G condition) (length out)) ∷ []) z
+  none-refused : conditionRefusal route U G condition ≡ 0
+  unfolding conditionRefusal conditionQuestions writeRefusal writeQuestions
+  none-refused = asked-before (conditionQuestions route U G condition) (asks 14 (outputFits (archived route U G condition) (length out)) ∷ []) z
 
   yes : Fine route U G condition
   yes = fine route U G condition none-refused

@@ -38,16 +38,16 @@ pub record Ready (U G : ℕ) (t : List ℕ) : Type 0 where
   pub table : IsTable (U + G) t
 
 -- 1, 2, 4 and 8, and the first no of them
-unfoldable pub tableQuestions : ℕ → ℕ → ℕ → List ℕ → List Asked
-tableQuestions route U G condition =
+unfoldable pub conditionQuestions : ℕ → ℕ → ℕ → List ℕ → List Asked
+conditionQuestions route U G condition =
     asks 1 (lettersFit U G)
     ∷ asks 2 (routeFits route)
     ∷ asks 4 (hasRoom (2 ^ (U + G)) (length condition))
     ∷ asks 8 (holdsBits (2 ^ (U + G)) condition)
     ∷ []
 
-unfoldable pub tableRefusal : ℕ → ℕ → ℕ → List ℕ → ℕ
-tableRefusal route U G condition = firstNo (tableQuestions route U G condition)
+unfoldable pub conditionRefusal : ℕ → ℕ → ℕ → List ℕ → ℕ
+conditionRefusal route U G condition = firstNo (conditionQuestions route U G condition)
 
 -- question 14 of what was made, and the output behind it
 pub record HandsOut (made out : List ℕ) (r : Written) (out′ : List ℕ) : Type 0 where

@@ -12,7 +12,7 @@ ghost use Rattle.solution.specs.Elimination.{defaultOrder, solve};
 ghost use Rattle.entry.specs.Record.{bytes};
 ghost use Rattle.entry.specs.Entry.{answerRecords, verdictRecords, entry};
 ghost use Rattle.writer.specs.Writing.{archived, writeRefusal, written};
-ghost use Rattle.writer.specs.Steps.{tableRefusal, tableRecords, monomialBytes, Ready, HandsOut};
+ghost use Rattle.writer.specs.Steps.{conditionRefusal, tableRecords, monomialBytes, Ready, HandsOut};
 use solver::Verdict;
 
 // What writing answers: the entry's length, or the number of the first no.
@@ -193,8 +193,8 @@ fn write_ready(
 }
 
 // The first no of 1, 2, 4 and 8, or 0.
-fn table_refusal(route: usize, unknowns: usize, givens: usize, condition: &[u8]) -> u8
-    ensures { λ r. ⌜ r ≡ tableRefusal route unknowns givens (now (condition .entry)) ⌝ }
+fn condition_refusal(route: usize, unknowns: usize, givens: usize, condition: &[u8]) -> u8
+    ensures { λ r. ⌜ r ≡ conditionRefusal route unknowns givens (now (condition .entry)) ⌝ }
 {
     if !tables::letters_fit(unknowns, givens) {
         return tables::LETTERS;
@@ -223,7 +223,7 @@ pub fn write_entry(
     ensures { λ r. ⌜ written r ≡ reply (writeRefusal route unknowns givens (now (condition .entry)) (length (now (out .entry)))) (length (archived route unknowns givens (now (condition .entry))) ∷ []) ⌝ }
     ensures { λ _. ⌜ now (out .exit) ≡ after (writeRefusal route unknowns givens (now (condition .entry)) (length (now (out .entry)))) (archived route unknowns givens (now (condition .entry))) (now (out .entry)) ⌝ }
 {
-    let refusal = table_refusal(route, unknowns, givens, condition);
+    let refusal = condition_refusal(route, unknowns, givens, condition);
     if refusal != 0 {
         return Written::Refused(refusal);
     }

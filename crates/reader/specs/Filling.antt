@@ -1,4 +1,4 @@
--- Inner work: what the reader's inner functions answer and ask.
+-- Inner work: tables filled from records, and what the functions that fill them ask and answer.
 -- Assumes nothing.
 use mathlib.Core.Path.{_≡_}
 use mathlib.Core.Bool.{true, false, _&&_, cond}

@@ -3,11 +3,11 @@ use native.Mathlib.Omega.{arith}
 use borrow.Author.Needs.{needs}
 use Rattle.tables.proofs.Questions.{failed, passed, letters-small}
 use Rattle.writer.proofs.Asked.{refused-letters, refused-route, refused-room, refused-bits, not-refused}
-use Rattle.writer.proofs.table_refusal.Statement.{statement}
-use Rattle.writer.proofs.table_refusal.Tie as tie
+use Rattle.writer.proofs.condition_refusal.Statement.{statement}
+use Rattle.writer.proofs.condition_refusal.Tie as tie
 
-pub table-refusal-spec : {M : Type 1} → statement M
-table-refusal-spec =
+pub condition-refusal-spec : {M : Type 1} → statement M
+condition-refusal-spec =
     tie.close
     (tie.spec
     (λ c κs. search needs)
