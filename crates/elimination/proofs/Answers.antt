@@ -1,22 +1,20 @@
 -- Loops over a whole answer table: byte i belongs to unknown i / 2 ^ n and point i % 2 ^ n.
 -- Then the tables that come back from the bits of the points.
 -- Assumes nothing.
-use mathlib.Core.Path.{_≡_, refl, ap, _∙_}
-use mathlib.Core.Bool.{Bool}
+use mathlib.Core.Path.{_≡_, ap, _∙_}
 use mathlib.Core.List.{List}
 use Prim.Native.Nat.{ℕ, _-_, _*_, _/_, _%_, _^_, _≤_, _<_}
 use native.Mathlib.Nat.{div-lt-iff-lt-mul, mod-lt, lt-of-lt-of-le}
 use lib.Bits.{bitAnd, and-mask}
 use lib.Pow.{pow-pos}
-use lib.ListN.{length, getD}
+use lib.ListN.{getD}
 use Rattle.ring.specs.Letters.{digit, bit}
 use Rattle.ring.specs.Polynomial.{value}
-use Rattle.ring.specs.Table.{AreBits, tabulate, held, answerTable}
+use Rattle.ring.specs.Table.{tabulate, held, answerTable}
 use Rattle.ring.proofs.Value.{value-cong}
-use Rattle.ring.proofs.Table.{bits-tabulate, length-tabulate, held-answerTable, answerTable-cong}
+use Rattle.ring.proofs.Table.{held-answerTable, answerTable-cong}
 use Rattle.ring.specs.Lists.{listed}
-use Rattle.ring.proofs.Lists.{getD-listed, listed-tabulate}
-use Rattle.tables.proofs.Filled.{filled, filled-end}
+use Rattle.ring.proofs.Lists.{getD-listed}
 use Rattle.elimination.specs.Rows.{spreadBit}
 
 -- the point of byte i, as the code finds it, and its unknown
@@ -29,20 +27,9 @@ point-lt n k i e = rw (point-index n k i e) (mod-lt i (pow-pos n))
 pub unknown-lt : (n i size : ℕ) → i < size → size ≤ 6 * 2 ^ n → i / 2 ^ n < 6
 unknown-lt n i size l h = div-lt-iff-lt-mul (pow-pos n) .1 (lt-of-lt-of-le l h)
 
--- such a loop once it has ended
-pub filled-whole : (h : ℕ → Bool) (xs t : List ℕ) (i : ℕ) → t ≡ filled i (λ m. digit (h m)) xs → i ≤ length xs → length xs ≤ i → t ≡ tabulate (length xs) h
-filled-whole h xs t i e l k = filled-end i (λ m. digit (h m)) xs t e l k ∙ listed-tabulate (length xs) (λ m. digit (h m)) h (λ m _. refl)
-
 pub spread-byte : (n k i v : ℕ) (points : List ℕ) → k ≡ 2 ^ n → v ≡ digit (bit (getD points (bitAnd i (k - 1)) 0) (i / 2 ^ n)) → v ≡ digit (spreadBit n points i)
 unfolding spreadBit
 spread-byte n k i v points e ev = ev ∙ ap (λ (x : ℕ). digit (bit (getD points x 0) (i / 2 ^ n))) (point-index n k i e)
-
--- the values of the answers are 0 or 1, and as many as the answers have bytes
-pub spread-bits : (k : ℕ) (h : ℕ → Bool) (t : List ℕ) → t ≡ tabulate k h → AreBits t
-spread-bits k h t e m = rw e (bits-tabulate k h m)
-
-pub spread-length : (k size : ℕ) (h : ℕ → Bool) (t : List ℕ) → t ≡ tabulate k h → k ≡ size → length t ≡ size
-spread-length k size h t e es = ap length e ∙ length-tabulate k h ∙ es
 
 pub spread-done : (u n k : ℕ) (h : ℕ → ℕ) (points a₁ a₂ : List ℕ) → points ≡ listed (2 ^ n) h → a₁ ≡ tabulate k (spreadBit n points) → k ≡ u * 2 ^ n
     → a₂ ≡ answerTable u n (λ j. value n (held n a₁ j)) → a₂ ≡ answerTable u n (λ j. value n (λ p. bit (h p) j))

@@ -18,9 +18,8 @@ use Rattle.ring.proofs.Bool.{bool-iff}
 use Rattle.ring.proofs.Points.{bit-suc, shift-suc, pointWhere-cong, pointWhere-lt, pointWhere-bits}
 use Rattle.ring.proofs.Substitute.{value-forUnknowns}
 use Rattle.ring.proofs.Table.{table-by-values, value-present-values, held-answerTable}
-use Rattle.ring.proofs.Lists.{tabulate-listed}
 use Rattle.tables.proofs.Bits.{byte-digit}
-use Rattle.tables.proofs.Filled.{filled, filled-end}
+use Rattle.tables.proofs.Filled.{filled, filled-whole}
 use Rattle.operations.specs.LookUp.{stacked}
 
 -- a byte of the handed values as the bit that it adds
@@ -121,4 +120,4 @@ pub look-up-end : (u n : ℕ) (whole parts out₀ out : List ℕ) (p : ℕ)
     → length out₀ ≡ 2 ^ n → out ≡ tabulate (2 ^ n) (λ i. present whole (stacked u (λ j. held n parts j i) (i / 2 ^ u)))
 look-up-end u n whole parts out₀ out p e h l size =
     let f : ℕ → Bool = λ i. present whole (stacked u (λ j. held n parts j i) (i / 2 ^ u)) in
-    filled-end p (λ i. digit (f i)) out₀ out e h l ∙ sym (tabulate-listed (length out₀) f) ∙ ap (λ (k : ℕ). tabulate k f) size
+    filled-whole f out₀ out p e h l ∙ ap (λ (k : ℕ). tabulate k f) size

@@ -1,17 +1,17 @@
 -- The laws of `keep`, `below` and `has`, the lists that the written order is made of.
 -- Assumes nothing.
 use mathlib.Core.Path.{_≡_, refl, sym, ap, _∙_}
-use mathlib.Core.Bool.{Bool, true, false, cond, _&&_, _||_, and-false, or-false}
+use mathlib.Core.Bool.{Bool, true, false, cond, _&&_, _||_, and-false}
 use mathlib.Core.List.{List, [], _∷_, _++_}
 use mathlib.Core.Logic.{_⊎_, inl, inr}
-use Prim.Native.Nat.{ℕ, zero, suc, _≤_, _<_}
+use Prim.Native.Nat.{ℕ, suc, _≤_, _<_}
 use native.Mathlib.Omega.{arith}
 use lib.Dec.{eqb, ltb}
-use lib.ListN.{length, length-append}
-use borrow.Author.Tests.{lt-ltb, le-ltb, ltb-true, eqb-true, eqb-false, eq-eqb}
+use lib.ListN.{length}
+use borrow.Author.Tests.{lt-ltb, ltb-true, eqb-true, eqb-false, eq-eqb}
 use Rattle.ring.proofs.Bool.{bool-iff, or-cases, or-right, bool-cases}
-use Rattle.ring.proofs.Lists.{has-append}
-use Rattle.ring.specs.Lists.{has}
+use Rattle.ring.proofs.Lists.{length-listed, listed-last, has-numbers}
+use Rattle.ring.specs.Lists.{listed, has}
 use Rattle.order.specs.Order.{keep, below}
 
 pub ltb-suc : (m k : ℕ) → ltb m (suc k) ≡ (ltb m k || eqb m k)
@@ -71,8 +71,15 @@ keep-all t (x ∷ xs) h = go (t x) (keep-all t xs) h
 -- ---- below
 pub length-below : (k : ℕ) → length (below k) ≡ k
 unfolding below
-length-below zero = refl
-length-below (suc k) = length-append (below k) (k ∷ []) ∙ rw (length-below k) (omega arith)
+length-below k = length-listed k (λ i. i)
+
+pub below-none : below 0 ≡ []
+unfolding below listed
+below-none = refl
+
+pub below-last : (k : ℕ) → below (suc k) ≡ below k ++ (k ∷ [])
+unfolding below
+below-last k = listed-last k (λ i. i)
 
 -- ---- has
 pub has-keep : (t : ℕ → Bool) (m : ℕ) (xs : List ℕ) → has m (keep t xs) ≡ (t m && has m xs)
@@ -87,6 +94,5 @@ has-keep t m (x ∷ xs) = go (bool-cases (eqb m x)) (t x) refl (has-keep t m xs)
     go (inr e) false ex h = rw e h
 
 pub has-below : (m k : ℕ) → has m (below k) ≡ ltb m k
-unfolding has below
-has-below m zero = sym (le-ltb m 0 (omega arith))
-has-below m (suc k) = has-append m (below k) (k ∷ []) ∙ rw (has-below m k, or-false (eqb m k)) (sym (ltb-suc m k))
+unfolding below
+has-below m k = has-numbers m k

@@ -17,7 +17,7 @@ use Rattle.ring.specs.Lists.{has}
 use Rattle.ring.proofs.Bool.{bool-iff, and-left, and-right, both, or-cases, bool-cases, never}
 use Rattle.ring.proofs.Lists.{has-append, has-cases, has-first, has-place, has-rest}
 use Rattle.order.specs.Order.{letters, before, keep, below, groups, order, monomials, rises}
-use Rattle.order.proofs.Lists.{keep-append, keep-none, keep-every, keep-all, length-below, ltb-suc, has-keep, has-below}
+use Rattle.order.proofs.Lists.{keep-append, keep-none, keep-every, keep-all, length-below, below-none, below-last, ltb-suc, has-keep, has-below}
 use Rattle.order.proofs.Letters.{letters-most}
 use Rattle.order.proofs.Relation.{before-fewer, before-smaller, before-irreflexive, before-transitive}
 
@@ -119,10 +119,10 @@ in-group b k m i =
     (eqb-true (letters m) k (and-left _ (ltb m b) e), ltb-true m b (and-right (eqb (letters m) k) _ e))
 
 group-rises : (b k : ℕ) → rises (group b k) ≡ true
-unfolding group below keep rises has
-group-rises zero k = refl
+unfolding group keep rises has
+group-rises zero k = rw below-none
 group-rises (suc b) k =
-    rw (keep-append (λ m. eqb (letters m) k) (below b) (b ∷ [])) (go (bool-cases (eqb (letters b) k)) (group-rises b k))
+    rw (below-last b, keep-append (λ m. eqb (letters m) k) (below b) (b ∷ [])) (go (bool-cases (eqb (letters b) k)) (group-rises b k))
   where
     last : letters b ≡ k → (m l : ℕ) → has m (group b k) ≡ true → (l ≡ b) ⊎ (has l [] ≡ true) → before m l ≡ true
     last e m l i (inl f) = let g = in-group b k m i in rw f (before-smaller m b (g .0 ∙ sym e) (g .1))

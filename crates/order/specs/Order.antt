@@ -7,6 +7,7 @@ use Prim.Native.Nat.{ℕ, zero, suc, _^_}
 use lib.Dec.{eqb, ltb}
 use Rattle.ring.specs.Letters.{bit}
 use Rattle.ring.specs.Polynomial.{Polynomial, count}
+use Rattle.ring.specs.Lists.{listed}
 
 -- the number of letters of the monomial m: how many bits its mask has (bit j is for letter j, and a mask with bit j is above j)
 unfoldable pub letters : ℕ → ℕ
@@ -23,8 +24,7 @@ keep test (m ∷ ms) = cond (test m) (m ∷ keep test ms) (keep test ms)
 
 -- the numbers below k, rising
 unfoldable pub below : ℕ → List ℕ
-below zero = []
-below (suc k) = below k ++ (k ∷ [])
+below k = listed k (λ i. i)
 
 -- the masks for n letters that have fewer than k: those with no letter, then those with one, and so on, each group rising
 unfoldable pub groups : ℕ → ℕ → List ℕ

@@ -7,13 +7,13 @@ use mathlib.Core.List.{List, [], _∷_, _++_}
 use Prim.Native.Nat.{ℕ, zero, suc, _+_, _<_}
 use native.Mathlib.Nat.{zero-add, suc-add}
 use native.Mathlib.Omega.{arith}
-use lib.Dec.{eqb}
+use lib.Dec.{eqb, ltb}
 use lib.ListN.{length, getD}
-use borrow.Author.Tests.{eq-eqb, eqb-true}
+use borrow.Author.Tests.{eq-eqb, eqb-true, lt-ltb, ltb-true}
 use Rattle.ring.specs.Letters.{digit}
 use Rattle.ring.specs.Table.{tabulate}
 use Rattle.ring.specs.Lists.{listed, has}
-use Rattle.ring.proofs.Bool.{or-cases, or-right}
+use Rattle.ring.proofs.Bool.{bool-iff, or-cases, or-right}
 
 pub length-listed : {A : Type 0} (k : ℕ) (f : ℕ → A) → length (listed k f) ≡ k
 unfolding listed
@@ -98,3 +98,10 @@ listed-only (suc k) h x e = go (eqb x (h 0)) refl e (listed-only k (λ i. h (suc
         → (has x (listed k (λ i. h (suc i))) ≡ true → (i : ℕ) × (i < k) × (h (suc i) ≡ x)) → (i : ℕ) × (i < suc k) × (h i ≡ x)
     go true q e ih = (0, omega arith, sym (eqb-true x (h 0) q))
     go false q e ih = let r = ih e in (suc (r .0), omega (arith, r .1), r .2)
+
+-- the numbers below k
+pub has-numbers : (m k : ℕ) → has m (listed k (λ i. i)) ≡ ltb m k
+has-numbers m k =
+    bool-iff (has m (listed k (λ i. i))) (ltb m k)
+    (λ e. let r = listed-only k (λ i. i) m e in lt-ltb m k (omega (arith, r .1, r .2)))
+    (λ e. listed-in k (λ i. i) m (ltb-true m k e))

@@ -157,6 +157,12 @@ values-is-table n s t e = rw e (is-table n _)
 pub tabulate-is-table : (n k : ℕ) (h : ℕ → Bool) (s : List ℕ) → s ≡ tabulate k h → k ≡ 2 ^ n → IsTable n s
 tabulate-is-table n k h s e ek = rw (e, ek) (is-table n h)
 
+pub tabulated-bits : (k : ℕ) (h : ℕ → Bool) (t : List ℕ) → t ≡ tabulate k h → AreBits t
+tabulated-bits k h t e m = rw e (bits-tabulate k h m)
+
+pub tabulated-length : (k size : ℕ) (h : ℕ → Bool) (t : List ℕ) → t ≡ tabulate k h → k ≡ size → length t ≡ size
+tabulated-length k size h t e es = ap length e ∙ length-tabulate k h ∙ es
+
 pub same-bits : (s t : List ℕ) → s ≡ t → AreBits t → AreBits s
 same-bits s t e h = rw e h
 

@@ -67,6 +67,10 @@ module _ (i : ℕ) (f : ℕ → ℕ) (xs t : List ℕ) (et : t ≡ filled i f xs
   pub filled-end : i ≤ length xs → length xs ≤ i → t ≡ listed (length xs) f
   filled-end h l = let e : i ≡ length xs = omega arith in et ∙ rw e (filled-all f xs)
 
+-- a loop that stores bools as bytes, once it has ended
+pub filled-whole : (h : ℕ → Bool) (xs t : List ℕ) (i : ℕ) → t ≡ filled i (λ m. digit (h m)) xs → i ≤ length xs → length xs ≤ i → t ≡ tabulate (length xs) h
+filled-whole h xs t i e l k = filled-end i (λ m. digit (h m)) xs t e l k ∙ listed-tabulate (length xs) (λ m. digit (h m)) h (λ m _. refl)
+
 -- a loop that puts op of a list's element and another's in the element's place
 pub combined : (ℕ → ℕ → ℕ) → List ℕ → List ℕ → ℕ → ℕ
 combined op xs s m = op (getD xs m 0) (getD s m 0)

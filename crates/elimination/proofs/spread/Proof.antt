@@ -7,10 +7,10 @@ use borrow.Author.Needs.{needs}
 use lib.Pow.{pow-pos}
 use lib.ListN.{length}
 use Rattle.ring.specs.Letters.{digit}
-use Rattle.tables.proofs.Filled.{filled, filled-start, filled-more}
+use Rattle.tables.proofs.Filled.{filled, filled-start, filled-more, filled-whole}
 use Rattle.tables.proofs.Steps.{pow-small}
 use Rattle.elimination.specs.Rows.{spreadBit}
-use Rattle.elimination.proofs.Answers.{point-lt, unknown-lt, filled-whole, spread-byte}
+use Rattle.elimination.proofs.Answers.{point-lt, unknown-lt, spread-byte}
 use Rattle.elimination.proofs.spread.Statement.{statement}
 use Rattle.elimination.proofs.spread.Tie as tie
 

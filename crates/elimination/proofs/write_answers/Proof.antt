@@ -7,8 +7,9 @@ use native.Mathlib.Omega.{arith}
 use borrow.Author.Needs.{needs}
 use lib.ListN.{length}
 use Rattle.ring.proofs.Lists.{length-listed}
+use Rattle.ring.proofs.Table.{tabulated-bits, tabulated-length}
 use Rattle.elimination.specs.Rows.{valuesIn, pointBy}
-use Rattle.elimination.proofs.Answers.{spread-bits, spread-length, spread-done}
+use Rattle.elimination.proofs.Answers.{spread-done}
 use Rattle.elimination.proofs.write_answers.Statement.{statement}
 use Rattle.elimination.proofs.write_answers.Tie as tie
 
@@ -24,7 +25,7 @@ all-to-values-requires : tie.Need-all-to-values-requires
 all-to-values-requires c κs =
     let spread = c .before .before .before in
     let pre = spread .before .before .before .before .before .before .before .before .before .before .pre in
-    (pre .2, pre .0, spread-length _ _ _ _ (spread .spread .ensures) (pre .5), spread-bits _ _ _ (spread .spread .ensures))
+    (pre .2, pre .0, tabulated-length _ _ _ _ (spread .spread .ensures) (pre .5), tabulated-bits _ _ _ (spread .spread .ensures))
 
 returns : tie.Need-returns
 returns c =

@@ -7,8 +7,8 @@ use borrow.Author.Needs.{needs}
 use lib.Pow.{pow-pos}
 use lib.ListN.{length}
 use Rattle.ring.specs.Letters.{digit}
-use Rattle.tables.proofs.Filled.{filled, filled-start, filled-more, filled-read}
-use Rattle.elimination.proofs.Answers.{point-lt, unknown-lt, filled-whole}
+use Rattle.tables.proofs.Filled.{filled, filled-start, filled-more, filled-read, filled-whole}
+use Rattle.elimination.proofs.Answers.{point-lt, unknown-lt}
 use Rattle.solver.specs.Handed.{mixedBit}
 use Rattle.solver.proofs.Handed.{mixed-byte}
 use Rattle.solver.proofs.mix.Statement.{statement}

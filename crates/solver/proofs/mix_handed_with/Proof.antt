@@ -4,8 +4,7 @@ use Prim.Native.Nat.{_+_, _*_, _^_, _≤_}
 use native.Mathlib.Nat.{mul-le-mul-right}
 use native.Mathlib.Omega.{arith}
 use borrow.Author.Needs.{needs}
-use Rattle.ring.proofs.Table.{same-bits, answers-bits, answers-length, values-is-table}
-use Rattle.elimination.proofs.Answers.{spread-bits, spread-length}
+use Rattle.ring.proofs.Table.{same-bits, answers-bits, answers-length, values-is-table, tabulated-bits, tabulated-length}
 use Rattle.solver.proofs.Handed.{same-length, mixed-done}
 use Rattle.solver.proofs.mix_handed_with.Statement.{statement}
 use Rattle.solver.proofs.mix_handed_with.Tie as tie
@@ -35,7 +34,7 @@ all-to-values-requires-2 c κs =
     let mixed = c .before .before .before in
     let handed = mixed .before .before .before .before .before in
     let pre = handed .before .before .before .before .before .before .before .before .before .before .before .before .before .before .pre .0 in
-    (pre .1, pre .0, spread-length _ _ _ _ (mixed .mix .ensures) (answers-length _ _ _ _ (handed .all-to-values .ensures)), spread-bits _ _ _ (mixed .mix .ensures))
+    (pre .1, pre .0, tabulated-length _ _ _ _ (mixed .mix .ensures) (answers-length _ _ _ _ (handed .all-to-values .ensures)), tabulated-bits _ _ _ (mixed .mix .ensures))
 
 returns : tie.Need-returns
 returns c =
