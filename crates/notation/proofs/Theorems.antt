@@ -1,7 +1,7 @@
 -- Demand 2 for accepted texts: which calls are done, what the table's values are, and when two texts share one normal form.
 -- That the reader accepts exactly the texts with a derivation, and that a text has at most one tree, stands in `grammar`.
 -- Assumes nothing.
-use mathlib.Core.Path.{_≡_, _∙_}
+use mathlib.Core.Path.{_≡_, _∙_, sym}
 use mathlib.Core.Logic.{_↔_}
 use mathlib.Core.List.{List}
 use Prim.Native.Nat.{ℕ, _+_, _^_, _≤_, _<_}
@@ -16,7 +16,7 @@ use Rattle.grammar.specs.Reader.{treeOf}
 use Rattle.grammar.specs.Text.{IsRead, Agree, textValue, textTable}
 use Rattle.grammar.proofs.Theorems as grammar
 use Rattle.notation.specs.Text.{textRefusal, Accepted}
-use Rattle.notation.proofs.Refusal.{fine, grammar-counts}
+use Rattle.notation.proofs.Refusal.{fine, late-counts, not-late}
 
 -- no question is answered no exactly for an accepted text and a buffer with room
 pub done-exactly : (U G : ℕ) (text : List ℕ) (room : ℕ) → (textRefusal U G text room ≡ 0) ↔ (Accepted U G text × (2 ^ (U + G) ≤ room))
@@ -24,7 +24,7 @@ done-exactly U G text room = (
   λ z. (fine U G text room z .accepted, fine U G text room z .room-fits),
   λ f.
       let a = f .0 in
-      grammar-counts U G text room (record { letters = a .letters; bytes = a .bytes; room-fits = f .1; signs = a .signs; declared = a .declared }) ∙ rw (a .grammar),
+      late-counts U G text room (record { letters = a .letters; bytes = a .bytes; room-fits = f .1 }) ∙ sym (not-late U G text room (a .signs) (a .declared) (a .grammar)),
 )
 
 pub is-read : (U G : ℕ) (text : List ℕ) → Accepted U G text → IsRead U G text

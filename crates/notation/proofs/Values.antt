@@ -16,7 +16,7 @@ use Rattle.ring.proofs.Mask.{low}
 use Rattle.ring.proofs.Points.{digit-low}
 use Rattle.ring.proofs.Table.{tabulate-cong, table-by-values}
 use Rattle.tables.proofs.Steps.{pow-small}
-use Rattle.grammar.specs.Symbols.{symbols}
+use Rattle.grammar.specs.Symbols.{symbols, every, allSigns, allDeclared}
 use Rattle.grammar.specs.Meaning.{atPoint, normalForm}
 use Rattle.grammar.specs.Text.{IsRead, textTable}
 use Rattle.grammar.proofs.Points.{value-normal}
@@ -26,6 +26,8 @@ use Rattle.grammar.specs.Reader.{sum, reads, isWhole, treeRead, grammarReads, t
 use Rattle.parser.specs.Words.{word}
 use Rattle.parser.specs.Parts.{valuesFrom}
 use Rattle.parser.specs.declared.Values.{Values}
+use Rattle.parser.specs.Questions.{isKnown, isLetterDeclared}
+use Rattle.parser.proofs.Decoding.{signs-of-symbols, declared-of-symbols}
 use Rattle.parser.proofs.Words.{word-bit}
 use Rattle.notation.specs.Work.{AreWords}
 
@@ -84,9 +86,17 @@ turns-few n k e h = let s : k ≤ 1024 = pow-small k n e h in omega arith
 pub turns-some : (n k : ℕ) → k ≡ 2 ^ n → 1 ≤ (k + 255) / 256
 turns-some n k e = let s : 1 ≤ 2 ^ n = one-le-pow n 2 (omega arith) in omega arith
 
-pub whole-text : (text l : List ℕ) (r : Bool) → l ≡ symbols text → r ≡ isWhole (reads sum l) → r ≡ grammarReads text
-unfolding grammarReads
-whole-text text l r e h = h ∙ rw e
+-- questions 5, 6 and 7
+module _ (text l : List ℕ) (r : Bool) (e : l ≡ symbols text) where
+  pub signs-text : ((i : ℕ) → getD text i 0 < 256) → r ≡ every isKnown l → r ≡ allSigns text
+  signs-text bytes h = h ∙ rw e (signs-of-symbols text bytes)
+
+  pub declared-text : (U G : ℕ) → ((i : ℕ) → getD text i 0 < 256) → r ≡ every (isLetterDeclared U G) l → r ≡ allDeclared U G text
+  declared-text U G bytes h = h ∙ rw e (declared-of-symbols U G text bytes)
+
+  pub whole-text : r ≡ isWhole (reads sum l) → r ≡ grammarReads text
+  unfolding grammarReads
+  whole-text h = h ∙ rw e
 
 pub values-text : (U G : ℕ) (text l t r : List ℕ) (k : ℕ) → IsRead U G text → l ≡ symbols text → t ≡ tabulate k (atPoint U (treeRead (reads sum l))) → k ≡ 2 ^ (U + G)
     → r ≡ values (U + G) t → r ≡ textTable U G text

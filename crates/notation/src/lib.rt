@@ -4,7 +4,7 @@
 use parser::Whole;
 use tables::Outcome;
 ghost use mathlib.Core.Path.{_≡_};
-ghost use mathlib.Core.Bool.{true, cond};
+ghost use mathlib.Core.Bool.{true};
 ghost use mathlib.Core.List.{[]};
 ghost use Prim.Native.Nat.{_*_, _/_, _%_, _≤_};
 ghost use lib.ListN.{length, getD};
@@ -12,10 +12,10 @@ ghost use Rattle.ring.specs.Letters.{bit};
 ghost use Rattle.ring.specs.Table.{tabulate};
 ghost use Rattle.tables.specs.Reply.{reply, after, outcome};
 ghost use Rattle.grammar.specs.Reader as reader;
-ghost use Rattle.grammar.specs.Reader.{reads, isWhole, treeRead, grammarReads};
+ghost use Rattle.grammar.specs.Reader.{reads, isWhole, treeRead};
 ghost use Rattle.grammar.specs.Text.{textTable};
 ghost use Rattle.notation.specs.Text.{hasTextLength, textRefusal};
-ghost use Rattle.notation.specs.Work.{AreWords, Ready, earlyRefusal};
+ghost use Rattle.notation.specs.Work.{AreWords, Ready, earlyRefusal, lateRefusal};
 
 // Question 7 of a text's symbols and, where the answer is yes, the words of the text, four a turn. The first turn gives the answer.
 fn fill_words(s: &[u8], unknowns: usize, turns: usize, words: &mut [u64]) -> bool
@@ -46,23 +46,29 @@ fn spread(words: &[u64], points: &mut [u8])
     }
 }
 
-// Question 7 and, where the answer is yes, the table of a text: its values, then back to coefficients. Nothing is written before the answer.
+// The first no of 5, 6 and 7, or 0 and the table of the text: its values, then back to coefficients. Nothing is written before the answers.
 // A turn serves 256 points: ten letters take four, eight or fewer one.
-fn read_table(unknowns: usize, givens: usize, text: &[u8], table: &mut [u8]) -> bool
+fn read_table(unknowns: usize, givens: usize, text: &[u8], table: &mut [u8]) -> u8
     requires { ⌜ Ready unknowns givens (now text) (now table) ⌝ }
-    ensures { λ r. ⌜ r ≡ grammarReads (now (text .entry)) ⌝ }
-    ensures { λ r. ⌜ now (table .exit) ≡ cond r (textTable unknowns givens (now (text .entry))) (now (table .entry)) ⌝ }
+    ensures { λ r. ⌜ r ≡ lateRefusal unknowns givens (now (text .entry)) (length (now (table .entry))) ⌝ }
+    ensures { λ r. ⌜ now (table .exit) ≡ after r (textTable unknowns givens (now (text .entry))) (now (table .entry)) ⌝ }
 {
     let mut symbols = [0u8; 200];
     let mut words = [0u64; 16];
     let count = parser::write_symbols(text, &mut symbols);
+    if !parser::all_signs(&symbols[..count]) {
+        return tables::SIGNS;
+    }
+    if !parser::all_declared(unknowns, givens, &symbols[..count]) {
+        return tables::DECLARED;
+    }
     let turns = (table.len() + 255) / 256;
     if !fill_words(&symbols[..count], unknowns, turns, &mut words) {
-        return false;
+        return tables::GRAMMAR;
     }
     spread(&words, table);
     tables::to_values(table, unknowns + givens);
-    true
+    0
 }
 
 // Question 3.
@@ -75,7 +81,7 @@ fn has_text_length(text: &[u8]) -> bool
     text.len() <= 200
 }
 
-// The first no of 1, 3, 4, 5 and 6, or 0.
+// The first no of 1, 3 and 4, or 0.
 fn early_refusal(unknowns: usize, givens: usize, text: &[u8], room: usize) -> u8
     ensures { λ r. ⌜ r ≡ earlyRefusal unknowns givens (now (text .entry)) room ⌝ }
 {
@@ -88,12 +94,6 @@ fn early_refusal(unknowns: usize, givens: usize, text: &[u8], room: usize) -> u8
     if room < tables::pow2(unknowns + givens) {
         return tables::ROOM;
     }
-    if !parser::all_signs(text) {
-        return tables::SIGNS;
-    }
-    if !parser::all_declared(unknowns, givens, text) {
-        return tables::DECLARED;
-    }
     0
 }
 
@@ -102,13 +102,14 @@ pub fn read_text(unknowns: usize, givens: usize, text: &[u8], condition: &mut [u
     ensures { λ r. ⌜ outcome r ≡ reply (textRefusal unknowns givens (now (text .entry)) (length (now (condition .entry)))) [] ⌝ }
     ensures { λ _. ⌜ now (condition .exit) ≡ after (textRefusal unknowns givens (now (text .entry)) (length (now (condition .entry)))) (textTable unknowns givens (now (text .entry))) (now (condition .entry)) ⌝ }
 {
-    let refusal = early_refusal(unknowns, givens, text, condition.len());
-    if refusal != 0 {
-        return Outcome::Refused(refusal);
+    let early = early_refusal(unknowns, givens, text, condition.len());
+    if early != 0 {
+        return Outcome::Refused(early);
     }
     let k = tables::pow2(unknowns + givens);
-    if !read_table(unknowns, givens, text, &mut condition[..k]) {
-        return Outcome::Refused(tables::GRAMMAR);
+    let late = read_table(unknowns, givens, text, &mut condition[..k]);
+    if late != 0 {
+        return Outcome::Refused(late);
     }
     Outcome::Done
 }

@@ -3,17 +3,18 @@
 use mathlib.Core.Path.{_≡_, refl, ap, _∙_, sym}
 use mathlib.Core.Bool.{Bool, true, false, not, _&&_, _||_, cond, Bool·beq, false≢true}
 use mathlib.Core.List.{List, [], _∷_, _++_, append-nil}
-use Prim.Native.Nat.{ℕ, _+_, _-_, _≤_, _<_}
+use Prim.Native.Nat.{ℕ, suc, _+_, _-_, _≤_, _<_}
 use native.Mathlib.Numerals.{add-one}
 use native.Mathlib.Omega.{arith}
-use borrow.Author.Tests.{eq-eqb, ne-eqb, eqb-true, lt-ltb, le-ltb, not-true, not-false}
+use borrow.Author.Tests.{eq-eqb, ne-eqb, eqb-true, lt-ltb, le-ltb, ltb-true, ltb-false, not-true, not-false}
 use lib.Dec.{eqb, ltb}
 use lib.ListN.{length, getD, take, drop, set, length-set, drop-of-length-le}
 use lib.Seq.{take-suc, take-suc-set, take-all, drop-cons}
 use Rattle.ring.specs.Polynomial.{everyBelow}
 use Rattle.ring.proofs.Bool.{and-left, and-right, same-bool}
 use Rattle.ring.proofs.Every.{every-all}
-use Rattle.grammar.specs.Symbols.{space, foreign, isUnknown, isGiven, isSingle, symbol, symbols, isSign, every, isDeclared}
+use Rattle.grammar.specs.Symbols.{space, foreign, isUnknown, isGiven, isSingle, symbol, symbols, isSign, every, allSigns, isDeclared, allDeclared}
+use Rattle.parser.specs.Questions.{isKnown, isLetterDeclared}
 
 -- ---- one byte
 
@@ -36,16 +37,12 @@ or-false : (a b : Bool) → a ≡ false → a || b ≡ true → b ≡ true
 or-false true b e h = absurd (false≢true (sym e))
 or-false false b e h = h
 
-pub space-sign : (c : ℕ) → c ≡ space → true ≡ isSign c
-unfolding isSign
-space-sign c e = rw (eq-eqb c space e)
-
 -- a byte that is no space is a sign exactly where it has a symbol of its own
-pub sign-symbol : (r c : ℕ) → r ≡ symbol c → c < 256 → (c ≡ space → ⊥) → not (eqb r foreign) ≡ isSign c
+sign-symbol : (c : ℕ) → c < 256 → eqb c space ≡ false → isKnown (symbol c) ≡ isSign c
 unfolding everyBelow symbol isSign isUnknown isGiven isSingle
-sign-symbol r c e h n =
-    rw e (same-bool (not (eqb (symbol c) foreign)) (isSign c) (or-false (eqb c space) (Bool·beq (not (eqb (symbol c) foreign)) (isSign c)) (ne-eqb c space n)
-    (every-all 256 (λ c. eqb c space || Bool·beq (not (eqb (symbol c) foreign)) (isSign c)) refl c h)))
+sign-symbol c h n =
+    same-bool (isKnown (symbol c)) (isSign c)
+    (or-false (eqb c space) (Bool·beq (isKnown (symbol c)) (isSign c)) n (every-all 256 (λ c. eqb c space || Bool·beq (isKnown (symbol c)) (isSign c)) refl c h))
 
 -- the symbols below 8 are those of unknowns, those from 8 to 15 of givens
 abbrev kindsRight : ℕ → Bool
@@ -56,7 +53,7 @@ unfolding everyBelow symbol isUnknown isGiven isSingle
 kinds-right c h = every-all 256 kindsRight refl c h
 
 module _ (U G r c : ℕ) (e : r ≡ symbol c) (h : c < 256) where
-  pub unknown-declared : r < 8 → ltb r U ≡ isDeclared U G c
+  unknown-declared : r < 8 → ltb r U ≡ isDeclared U G c
   unfolding symbol isDeclared
   unknown-declared l =
       let u : isUnknown c ≡ true = rw (lt-ltb (symbol c) 8 (rw e at l)) at (kinds-right c h) in
@@ -67,7 +64,7 @@ module _ (U G r c : ℕ) (e : r ≡ symbol c) (h : c < 256) where
       let b : (not (isUnknown c) && Bool·beq (ltb (symbol c) 16) (isGiven c)) ≡ true = rw (le-ltb (symbol c) 8 (rw e at a)) at (kinds-right c h) in
       (not-true (isUnknown c) (and-left (not (isUnknown c)) _ b), rw e (same-bool _ _ (and-right (not (isUnknown c)) _ b)))
 
-  pub given-declared : 8 ≤ r → r < 16 → ltb (r - 8) G ≡ isDeclared U G c
+  given-declared : 8 ≤ r → r < 16 → ltb (r - 8) G ≡ isDeclared U G c
   unfolding symbol isDeclared
   given-declared a b =
       let n = not-unknown a in
@@ -75,14 +72,42 @@ module _ (U G r c : ℕ) (e : r ≡ symbol c) (h : c < 256) where
       let s : 8 + (c - 97) - 8 ≡ c - 97 = omega arith in
       rw e (rw (n .0, g) (ap (λ (x : ℕ). ltb x G) s))
 
-  pub other-declared : 16 ≤ r → true ≡ isDeclared U G c
+  other-declared : 16 ≤ r → true ≡ isDeclared U G c
   unfolding isDeclared
   other-declared a =
       let n = not-unknown (omega arith) in
       let g : isGiven c ≡ false = sym (n .1) ∙ le-ltb r 16 a in
       rw (n .0, g)
 
--- ---- questions 5 and 6, a byte at a time
+declared-symbol : (U G c : ℕ) → c < 256 → isLetterDeclared U G (symbol c) ≡ isDeclared U G c
+declared-symbol U G c h = go (ltb (symbol c) 8) (ltb (symbol c) 16) refl refl
+  where
+    go : (x y : Bool) → ltb (symbol c) 8 ≡ x → ltb (symbol c) 16 ≡ y → cond x (ltb (symbol c) U) (cond y (ltb (symbol c - 8) G) true) ≡ isDeclared U G c
+    go true y p q = unknown-declared U G (symbol c) c refl h (ltb-true (symbol c) 8 p)
+    go false true p q = given-declared U G (symbol c) c refl h (ltb-false (symbol c) 8 p) (ltb-true (symbol c) 16 q)
+    go false false p q = other-declared U G (symbol c) c refl h (ltb-false (symbol c) 16 q)
+
+-- ---- questions 5 and 6, of the bytes of a text or of its symbols
+-- f of symbols is g of bytes, and a space passes
+module _ (f g : ℕ → Bool) (passes : g space ≡ true) (same : (c : ℕ) → c < 256 → eqb c space ≡ false → f (symbol c) ≡ g c) where
+  of-symbols : (text : List ℕ) → ((i : ℕ) → getD text i 0 < 256) → every f (symbols text) ≡ every g text
+  unfolding symbols every
+  of-symbols [] bytes = refl
+  of-symbols (c ∷ text) bytes = go (eqb c space) refl (of-symbols text (λ i. bytes (suc i)))
+    where
+      go : (x : Bool) → eqb c space ≡ x → every f (symbols text) ≡ every g text → every f (cond x (symbols text) (symbol c ∷ symbols text)) ≡ (g c && every g text)
+      go true e rest = rw (eqb-true c space e, passes) rest
+      go false e rest = rw (same c (bytes 0) e, rest)
+
+pub signs-of-symbols : (text : List ℕ) → ((i : ℕ) → getD text i 0 < 256) → every isKnown (symbols text) ≡ allSigns text
+unfolding allSigns isSign
+signs-of-symbols text bytes = of-symbols isKnown isSign refl sign-symbol text bytes
+
+pub declared-of-symbols : (U G : ℕ) (text : List ℕ) → ((i : ℕ) → getD text i 0 < 256) → every (isLetterDeclared U G) (symbols text) ≡ allDeclared U G text
+unfolding allDeclared isDeclared isUnknown isGiven
+declared-of-symbols U G text bytes = of-symbols (isLetterDeclared U G) (isDeclared U G) refl (λ c h n. declared-symbol U G c h) text bytes
+
+-- a symbol at a time
 module _ (test : ℕ → Bool) (text : List ℕ) (i : ℕ) (left : every test text ≡ every test (drop i text)) where
   pub every-end : length text ≤ i → true ≡ every test text
   unfolding every

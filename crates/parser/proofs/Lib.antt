@@ -1,4 +1,4 @@
 pub mod Words
-mod Decoding
+pub mod Decoding
 mod Readers
 pub mod WholeText

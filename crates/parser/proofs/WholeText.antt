@@ -10,7 +10,6 @@ use lib.Seq.{drop-cons}
 use Rattle.grammar.specs.Reader.{Reading, nothing, found, sum, reads, isWhole, treeRead}
 use Rattle.parser.specs.Parts.{valuesFrom, IsUpTo, IsMissing, wholeValues}
 use Rattle.parser.specs.declared.Values.{Values}
-use Rattle.parser.specs.declared.Whole.{Whole}
 use Rattle.parser.specs.declared.Whole.the-variants.{Unread, Read}
 
 pub missing-whole : (U : ℕ) (s : List ℕ) (w : ℕ) → IsMissing s 0 (reads sum s) → Unread ≡ wholeValues U (reads sum s) w

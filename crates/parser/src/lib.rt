@@ -5,9 +5,10 @@ ghost use mathlib.Core.Path.{_≡_};
 ghost use Prim.Native.Nat.{_≤_, _<_};
 ghost use lib.ListN.{length, drop, take};
 ghost use lib.Dec.{eqb};
-ghost use Rattle.grammar.specs.Symbols.{symbol, symbols, isSign, allSigns, isDeclared, allDeclared, orSign};
+ghost use Rattle.grammar.specs.Symbols.{symbol, symbols, every, orSign};
 ghost use Rattle.grammar.specs.Reader as reader;
 ghost use Rattle.grammar.specs.Reader.{reads, joinsSum};
+ghost use Rattle.parser.specs.Questions.{isKnown, isLetterDeclared};
 ghost use Rattle.parser.specs.Words.{letterWord};
 ghost use Rattle.parser.specs.Parts.{Agrees, joinedValues, bothValues, negatedValues, letterValues, wholeValues};
 
@@ -55,53 +56,6 @@ fn decode(byte: u8) -> u8
     }
 }
 
-fn is_sign(byte: u8) -> bool
-    ensures { λ r. ⌜ r ≡ isSign byte ⌝ }
-{
-    if byte == b' ' {
-        return true;
-    }
-    decode(byte) != FOREIGN
-}
-
-fn is_declared(unknowns: usize, givens: usize, byte: u8) -> bool
-    ensures { λ r. ⌜ r ≡ isDeclared unknowns givens byte ⌝ }
-{
-    // Symbols below 8 are unknowns, those from 8 to 15 givens.
-    let symbol = decode(byte) as usize;
-    if symbol < 8 {
-        return symbol < unknowns;
-    }
-    if symbol < 16 {
-        return symbol - 8 < givens;
-    }
-    true
-}
-
-// Question 5.
-pub fn all_signs(text: &[u8]) -> bool
-    ensures { λ r. ⌜ r ≡ allSigns (now (text .entry)) ⌝ }
-{
-    for i in 0..text.len() {
-        if !is_sign(text[i]) {
-            return false;
-        }
-    }
-    true
-}
-
-// Question 6.
-pub fn all_declared(unknowns: usize, givens: usize, text: &[u8]) -> bool
-    ensures { λ r. ⌜ r ≡ allDeclared unknowns givens (now (text .entry)) ⌝ }
-{
-    for i in 0..text.len() {
-        if !is_declared(unknowns, givens, text[i]) {
-            return false;
-        }
-    }
-    true
-}
-
 // The symbols of a text, at the front of `out`; returns how many there are.
 pub fn write_symbols(text: &[u8], out: &mut [u8]) -> usize
     requires { ⌜ length (now text) ≤ length (now out) ⌝ }
@@ -118,6 +72,44 @@ pub fn write_symbols(text: &[u8], out: &mut [u8]) -> usize
         i += 1;
     }
     n
+}
+
+// Question 5, of a text's symbols.
+pub fn all_signs(s: &[u8]) -> bool
+    ensures { λ r. ⌜ r ≡ every isKnown (now (s .entry)) ⌝ }
+{
+    for i in 0..s.len() {
+        if s[i] == FOREIGN {
+            return false;
+        }
+    }
+    true
+}
+
+fn is_declared(unknowns: usize, givens: usize, c: u8) -> bool
+    ensures { λ r. ⌜ r ≡ isLetterDeclared unknowns givens c ⌝ }
+{
+    // Symbols below 8 are unknowns, those from 8 to 15 givens.
+    let symbol = c as usize;
+    if symbol < 8 {
+        return symbol < unknowns;
+    }
+    if symbol < 16 {
+        return symbol - 8 < givens;
+    }
+    true
+}
+
+// Question 6, of a text's symbols.
+pub fn all_declared(unknowns: usize, givens: usize, s: &[u8]) -> bool
+    ensures { λ r. ⌜ r ≡ every (isLetterDeclared unknowns givens) (now (s .entry)) ⌝ }
+{
+    for i in 0..s.len() {
+        if !is_declared(unknowns, givens, s[i]) {
+            return false;
+        }
+    }
+    true
 }
 
 fn joins_sum(c: u8) -> bool

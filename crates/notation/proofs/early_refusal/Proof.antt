@@ -5,9 +5,8 @@ use native.Mathlib.Omega.{arith}
 use borrow.Author.Needs.{needs}
 use Rattle.tables.specs.Questions.{lettersFit}
 use Rattle.tables.proofs.Questions.{failed, passed, letters-small}
-use Rattle.grammar.specs.Symbols.{allSigns}
 use Rattle.notation.specs.Text.{hasTextLength}
-use Rattle.notation.proofs.Refusal.{refused-letters, refused-length, refused-room, refused-signs, refused-declared, not-refused}
+use Rattle.notation.proofs.Refusal.{refused-letters, refused-length, refused-room, not-early}
 use Rattle.notation.proofs.early_refusal.Statement.{statement}
 use Rattle.notation.proofs.early_refusal.Tie as tie
 
@@ -17,9 +16,6 @@ letters c = passed (c .before .letters-fit .ensures) (c .if1 .left)
 
 bytes : (c : tie.Else2) → hasTextLength (c .before .before .before .before .before .args .text .now) ≡ true
 bytes c = passed (c .before .has-text-length .ensures) (c .if2 .left)
-
-signs : (c : tie.Else4) → allSigns (c .before .before .before .before .before .before .before .before .before .args .text .now) ≡ true
-signs c = passed (c .before .all-signs .ensures) (c .if4 .left)
 
 returns : tie.Need-returns
 returns c = refused-letters _ _ _ _ (failed (c .before .letters-fit .ensures) (c .if1 .taken))
@@ -37,26 +33,8 @@ returns-3 c =
 
 returns-4 : tie.Need-returns-4
 returns-4 c =
-    let roomy = c .before .before in
-    let asked = roomy .before .before in
-    refused-signs _ _ _ _ (letters (asked .before .before)) (bytes asked) _ (roomy .before .pow2 .ensures) (roomy .if3 .left)
-    (failed (c .before .all-signs .ensures) (c .if4 .taken))
-
-returns-5 : tie.Need-returns-5
-returns-5 c =
-    let signed = c .before .before in
-    let roomy = signed .before .before in
-    let asked = roomy .before .before in
-    refused-declared _ _ _ _ (letters (asked .before .before)) (bytes asked) _ (roomy .before .pow2 .ensures) (roomy .if3 .left)
-    (signs signed) (failed (c .before .all-declared .ensures) (c .if5 .taken))
-
-returns-6 : tie.Need-returns-6
-returns-6 c =
-    let signed = c .before .before in
-    let roomy = signed .before .before in
-    let asked = roomy .before .before in
-    not-refused _ _ _ _ (letters (asked .before .before)) (bytes asked) _ (roomy .before .pow2 .ensures) (roomy .if3 .left)
-    (signs signed) (passed (c .before .all-declared .ensures) (c .if5 .left))
+    let asked = c .before .before in
+    not-early _ _ _ _ (letters (asked .before .before)) (bytes asked) _ (c .before .pow2 .ensures) (c .if3 .left)
 
 pub early-refusal-spec : {M : Type 1} → statement M
 early-refusal-spec =
@@ -69,8 +47,4 @@ early-refusal-spec =
     add-pow2
     (λ c κs. letters-small _ _ (letters (c .before .before)))
     returns-3
-    (λ c κs. search needs)
-    returns-4
-    (λ c κs. search needs)
-    returns-5
-    returns-6)
+    returns-4)

@@ -1,4 +1,4 @@
--- The call asks its first questions, and then reads into exactly the bytes that are needed, which answers question 7. Assumes nothing.
+-- The call asks its early questions, and then reads into exactly the bytes that are needed, which answers the late ones. Assumes nothing.
 use mathlib.Core.Path.{sym, _∙_}
 use mathlib.Core.List.{[]}
 use native.Mathlib.Omega.{arith}

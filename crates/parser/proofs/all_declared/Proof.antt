@@ -1,21 +1,21 @@
--- The loop's invariant: the answer is that for the bytes that are left. Assumes nothing.
+-- The loop's invariant: the answer is that for the symbols that are left. Assumes nothing.
 use mathlib.Core.Path.{_≡_, refl}
 use Prim.Native.Nat.{_≤_, _-_}
 use borrow.Author.Needs.{needs}
 use lib.ListN.{length, drop}
-use Rattle.grammar.specs.Symbols.{every, isDeclared, allDeclared}
+use Rattle.grammar.specs.Symbols.{every}
+use Rattle.parser.specs.Questions.{isLetterDeclared}
 use Rattle.parser.proofs.Decoding.{every-end, every-more, every-fails}
 use Rattle.parser.proofs.all_declared.Statement.{statement}
 use Rattle.parser.proofs.all_declared.Tie as tie
 
 abbrev Inv-loop : tie.InvT-loop
-Inv-loop unknowns givens text i₀ i-end i = (i ≤ length text) × (every (isDeclared unknowns givens) text ≡ every (isDeclared unknowns givens) (drop i text))
+Inv-loop unknowns givens s i₀ i-end i = (i ≤ length s) × (every (isLetterDeclared unknowns givens) s ≡ every (isLetterDeclared unknowns givens) (drop i s))
 
 abbrev μ-loop : tie.MeasureT-loop
-μ-loop unknowns givens text i₀ i-end i = length text - i
+μ-loop unknowns givens s i₀ i-end i = length s - i
 
 returns : tie.Need-returns Inv-loop μ-loop
-unfolding allDeclared
 returns c = every-fails _ _ _ (c .before .before .before .before .loop .inv .1) (c .before .before .before .loop-test .taken) _ (c .before .is-declared .ensures) (c .if1 .taken)
 
 loop-again : tie.Need-loop-again Inv-loop μ-loop
@@ -23,7 +23,6 @@ loop-again c =
     (search needs, every-more _ _ _ (c .before .before .before .before .loop .inv .1) (c .before .before .before .loop-test .taken) _ (c .before .is-declared .ensures) (c .if1 .left))
 
 returns-2 : tie.Need-returns-2 Inv-loop μ-loop
-unfolding allDeclared
 returns-2 c = every-end _ _ _ (c .before .loop .inv .1) (c .loop-test .left)
 
 pub all-declared-spec : {M : Type 1} → statement M
