@@ -3,8 +3,6 @@
 use libc::STDIN_FILENO;
 use libc::STDOUT_FILENO;
 use operations::Valued;
-ghost use Prim.Native.Nat.{_≤_};
-ghost use lib.ListN.{length};
 
 fn show_value(r: Valued) {
     match r {

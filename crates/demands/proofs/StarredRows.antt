@@ -2,14 +2,14 @@
 -- then follows from the row of `solution` and from reading back.
 -- Assumes nothing.
 use mathlib.Core.Path.{_≡_, refl, sym, ap, _∙_}
-use mathlib.Core.List.{List, [], _∷_, _++_, append-nil}
-use Prim.Native.Nat.{ℕ, _+_}
+use mathlib.Core.List.{List, [], _∷_, append-nil}
+use Prim.Native.Nat.{ℕ}
 use lib.ListN.{length}
 use Rattle.ring.specs.Letters.{bit}
 use Rattle.ring.specs.Polynomial.{count, odd, constant, letter, sum, product}
 use Rattle.ring.specs.Table.{tabulate, table}
 use Rattle.tables.specs.Questions.{firstNo, lettersFit, hasRoom}
-use Rattle.solution.specs.BenchTable.{Row, starredRows, LowenheimIs, RowHolds, AllHold as RowsHold, _also_ as _and_}
+use Rattle.solution.specs.BenchTable.{Row, starredRows, RowHolds, AllHold as RowsHold, _also_ as _and_}
 use Rattle.solution.specs.Elimination.{solve, defaultOrder}
 use Rattle.solution.proofs.Rows.{starred-rows-hold}
 use Rattle.grammar.specs.Symbols.{symbol, symbols, isUnknown, isGiven, isSingle, isSign, isDeclared, every, allSigns, allDeclared}

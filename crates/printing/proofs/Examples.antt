@@ -1,8 +1,7 @@
 -- The definitions at a few values, by computation: numbers without leading zeros, lower-case digits, and two refusals.
 -- Assumes nothing.
 use mathlib.Core.Path.{_≡_, refl}
-use mathlib.Core.List.{List, [], _∷_}
-use Prim.Native.Nat.{ℕ}
+use mathlib.Core.List.{[], _∷_}
 use Rattle.printing.specs.Print.{digitByte, decimalIn, decimal, hexadecimal, spaced, refusedLine}
 
 zero-printed : decimal 0 ≡ 48 ∷ []

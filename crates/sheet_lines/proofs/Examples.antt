@@ -1,8 +1,7 @@
 -- The definitions at a few values, by computation: the sample line of document 01, and where an input's lines end.
 -- Assumes nothing.
 use mathlib.Core.Path.{_≡_, refl}
-use mathlib.Core.List.{List, [], _∷_}
-use Prim.Native.Nat.{ℕ}
+use mathlib.Core.List.{[], _∷_}
 use Rattle.sheet_lines.specs.declared.Line.the-variants.{Readable, Unreadable}
 use Rattle.sheet_lines.specs.Fields.{isDigit, digitsAhead, numberBehind, hasLetters, isReadable, fields, readLine}
 use Rattle.sheet_lines.specs.Sheet.{inFront, linesOf}

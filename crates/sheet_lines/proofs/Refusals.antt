@@ -15,7 +15,7 @@ use Rattle.tables.specs.declared.Outcome.{Outcome}
 use Rattle.tables.specs.declared.Outcome.the-variants.{Done, Refused}
 use Rattle.tables.specs.Put.{Put}
 use Rattle.tables.specs.Questions.{firstNo, lettersFit, hasRoom}
-use Rattle.tables.specs.Reply.{accepted, reply, after, outcome}
+use Rattle.tables.specs.Reply.{reply, after, outcome}
 use Rattle.tables.proofs.FirstNo.{yes-to}
 use Rattle.tables.proofs.Questions.{failed, letters-small}
 use Rattle.tables.proofs.Reply.{accepted-is, refused-is}

@@ -1,7 +1,7 @@
 -- `layodegi::value_code` meets its contract, case by case.
 -- Assumes nothing.
 use mathlib.Core.Path.{sym, ap, _∙_}
-use Prim.Native.Nat.{_+_, _*_}
+use Prim.Native.Nat.{_*_}
 use borrow.Author.Needs.{needs}
 use Rattle.operations.specs.Calls.{valued}
 use Rattle.layodegi.specs.Codes.{code}
