@@ -32,7 +32,8 @@ pub const CALLS: [Call; 13] = [
 ];
 
 const READING: &str = "The readers go over the text once for each 256 points, for few letters too.";
-const WRITING: &str = "The written order is worked out for each entry, every mask from counts of letters; for fewer than ten letters the masks of the ten-letter order that are too large are worked out too, and skipped.";
+const WRITING: &str =
+    "The written order is worked out for each entry, every mask from counts of letters.";
 const RECORDS: &str = "Records are decoded anew for each question and for each table, and none is kept; plain Rust decodes them once, into a list.";
 
 /// Asserts on every input that results and lent bytes are the same, then takes the times.

@@ -134,7 +134,7 @@ fn panel(axes: &Axes, series: &Series) -> Vec<String> {
         svg.extend(places.iter().map(|&place| point(&mark, place)));
     }
     if let Some(last) = series.points.last() {
-        let ratio = format!("ratio at {}: {:.2}", axes.letters.end(), last.ratio());
+        let ratio = format!("ratio at {}: {:.2}", axes.letters.end(), last.ratio);
         svg.push(text("tick", "end", (PANEL_WIDTH - 9.0, PANEL_HEIGHT - 9.0), &ratio));
     }
     svg

@@ -77,7 +77,7 @@ impl Report {
         let Machine { date, processor, rustc, rattle } = &self.machine;
         let ratios = |names: &[&str]| {
             let found = self.typical.iter().filter(|row| names.contains(&row.name));
-            found.map(|row| format!("{:.2}", row.times.ratio())).collect::<Vec<_>>().join(", ")
+            found.map(|row| format!("{:.2}", row.times.ratio)).collect::<Vec<_>>().join(", ")
         };
         format!(
             "# The engine beside plain Rust
@@ -93,7 +93,7 @@ At ten letters on typical inputs: reading a text {}; product {}; Boole's answers
             ratios(&["read_text"]),
             ratios(&["product"]),
             ratios(&["boole", "particular", "lowenheim", "lowenheim_handed"]),
-            self.sheet.processor.ratio(),
+            self.sheet.processor.ratio,
             ahead(&self.typical),
             self.typical.len(),
             ahead(&self.dense),
@@ -110,7 +110,7 @@ At ten letters on typical inputs: reading a text {}; product {}; Boole's answers
 - Both are optimised builds for plain x86-64, on one thread. Tests hold plain Rust against the paper's own definitions; here both sides' results and lent bytes are compared on every input before it is timed.
 - **Inputs** come from a fixed seed, eight for each call. Typical: texts of 180 to 200 bytes as a designer writes them, products of a few letters joined by `|` and `+`, and the conditions that such texts are read into. Dense: texts of 199 bytes that are letters and signs in turn, and conditions with every second monomial present. All conditions have a solution, so that solving finds answers; a walk goes over a volume of eight entries.
 - **Buffers are not cleared first**: no call needs it, and each writes over what the call before it left.
-- {rounds} rounds after a warm-up; in a round each side calls for {} ms, and the side that goes first changes. 'Best' and 'median' are of the rounds, for one call, in processor time of the thread; the ratios are those of the best and of the medians.
+- {rounds} rounds after a warm-up; in a round each side calls for {} ms, and the side that goes first changes. 'Best' and 'median' are of the rounds, for one call, in processor time of the thread. The ratio is the median of the rounds' ratios: both sides of a round follow one another, so that a change of the processor's speed falls on both. The last column is the ratio of the best times.
 ",
             round.as_millis()
         )
@@ -155,21 +155,26 @@ Dense inputs:
         let mut lines = String::new();
         for (typical, dense) in self.typical.iter().zip(&self.dense) {
             let ratios = [
-                behind(typical.times.ratio(), "on typical inputs"),
-                behind(dense.times.ratio(), "on dense inputs"),
+                behind(typical.times.ratio, "on typical inputs"),
+                behind(dense.times.ratio, "on dense inputs"),
                 behind(self.most_with_fewer_letters(typical.name), "at most with fewer letters"),
             ];
             let ratios: Vec<String> = ratios.into_iter().flatten().collect();
             if !ratios.is_empty() {
-                lines +=
-                    &format!("- `{}`: {}. {}\n", typical.name, ratios.join(", "), typical.weight);
+                let line =
+                    format!("- `{}`: {}. {}", typical.name, ratios.join(", "), typical.weight);
+                lines += &format!(
+                    "{}
+",
+                    line.trim_end()
+                );
             }
         }
-        if let Some(ratio) = behind(self.sheet.processor.ratio(), "in processor time") {
+        if let Some(ratio) = behind(self.sheet.processor.ratio, "in processor time") {
             lines += &format!("- the whole sheet: {ratio}. {}\n", crate::sheet::WEIGHT);
         }
         if lines.is_empty() {
-            lines = "Nowhere in this run, by the best of the rounds.\n".to_string();
+            lines = "Nowhere in this run.\n".to_string();
         }
         format!("## Where the engine is not ahead\n\n{lines}")
     }
@@ -178,7 +183,7 @@ Dense inputs:
     fn most_with_fewer_letters(&self, call: &str) -> f64 {
         let series = self.by_letters.iter().filter(|series| series.call == call);
         let fewer = series.flat_map(|series| series.points.split_last().map(|(_, fewer)| fewer));
-        fewer.flatten().map(|point| point.ratio()).fold(0.0, f64::max)
+        fewer.flatten().map(|point| point.ratio).fold(0.0, f64::max)
     }
 
     fn letters(&self) -> String {
@@ -187,7 +192,7 @@ Dense inputs:
         let mut table = cells(["ratio at".to_string()].into_iter().chain(numbers).collect());
         table += &cells(vec!["---".to_string(); self.numbers_of_letters.clone().count() + 1]);
         for series in &self.by_letters {
-            let ratios = series.points.iter().map(|point| format!("{:.2}", point.ratio()));
+            let ratios = series.points.iter().map(|point| format!("{:.2}", point.ratio));
             table += &cells([series.name.to_string()].into_iter().chain(ratios).collect());
         }
         format!(
@@ -195,7 +200,7 @@ Dense inputs:
 
 ![Time of six calls against the number of letters, engine and plain Rust](time-by-letters.svg)
 
-Typical inputs, best of the rounds; half of the letters and one more are unknowns, so that ten letters are those of the table above.
+Typical inputs; the plot has the best of the rounds. Half of the letters and one more are unknowns, so that ten letters are those of the table above.
 
 {table}"
         )
@@ -209,12 +214,12 @@ fn behind(ratio: f64, place: &str) -> Option<String> {
 
 /// In how many rows the engine is ahead.
 fn ahead(rows: &[Row]) -> usize {
-    rows.iter().filter(|row| row.times.ratio() < 1.0).count()
+    rows.iter().filter(|row| row.times.ratio < 1.0).count()
 }
 
 fn table_head(first: &str) -> String {
     format!(
-        "| {first} | engine, best | median | plain Rust, best | median | ratio | of medians |
+        "| {first} | engine, best | median | plain Rust, best | median | ratio | of the best |
 |---|---:|---:|---:|---:|---:|---:|\n"
     )
 }
@@ -225,8 +230,8 @@ fn table_line(name: &str, times: Compared) -> String {
         "| {name} | {} | {} | **{:.2}** | {:.2} |\n",
         columns(times.engine),
         columns(times.plain),
-        times.ratio(),
-        times.median_ratio()
+        times.ratio,
+        times.ratio_of_best()
     )
 }
 

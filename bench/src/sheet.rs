@@ -2,7 +2,7 @@
 
 use crate::inputs::{route_condition, Random};
 use crate::processor_time;
-use crate::timing::{of_rounds, Compared};
+use crate::timing::Compared;
 use reference::Letters;
 use std::fs::File;
 use std::path::Path;
@@ -19,7 +19,7 @@ pub const ROUTES: usize = 250;
 const ROUNDS: usize = 51;
 
 /// What weighs on the engine, where it is not ahead.
-pub const WEIGHT: &str = "What weighs most is the written order, worked out for each entry, every mask from counts of letters; then the reading of the text.";
+pub const WEIGHT: &str = "The written order, worked out for each entry, every mask from counts of letters as the paper has it, takes a quarter of the time.";
 
 pub struct Sheet {
     pub processor: Compared,
@@ -61,11 +61,8 @@ pub fn compare_sheets(engine: &Path, plain: &Path) -> Sheet {
     std::fs::remove_file(&path).expect("the sheet is there");
     let lines = output.split(|&byte| byte == b'\n');
     Sheet {
-        processor: Compared {
-            engine: of_rounds(engine_runs.processor),
-            plain: of_rounds(plain_runs.processor),
-        },
-        wall: Compared { engine: of_rounds(engine_runs.wall), plain: of_rounds(plain_runs.wall) },
+        processor: Compared::of_rounds(engine_runs.processor, plain_runs.processor),
+        wall: Compared::of_rounds(engine_runs.wall, plain_runs.wall),
         nones: lines.filter(|line| line.starts_with(b"05")).count(),
         input_bytes: input.len(),
         output_bytes: output.len(),

@@ -11,20 +11,32 @@ pub struct Times {
     pub median: f64,
 }
 
+impl Times {
+    fn of(mut times: Vec<f64>) -> Times {
+        times.sort_by(f64::total_cmp);
+        Times { best: times[0], median: times[times.len() / 2] }
+    }
+}
+
 #[derive(Clone, Copy)]
 pub struct Compared {
     pub engine: Times,
     pub plain: Times,
+    /// The median of the rounds' ratios, engine by plain: below 1 the engine is ahead. Both sides of
+    /// a round follow one another, so that a change of the processor's speed falls on both.
+    pub ratio: f64,
 }
 
 impl Compared {
-    /// Below 1 the engine is ahead.
-    pub fn ratio(self) -> f64 {
-        self.engine.best / self.plain.best
+    /// From the times of both sides, round by round.
+    pub fn of_rounds(engine: Vec<f64>, plain: Vec<f64>) -> Compared {
+        let ratios = engine.iter().zip(&plain).map(|(engine, plain)| engine / plain).collect();
+        let ratio = Times::of(ratios).median;
+        Compared { engine: Times::of(engine), plain: Times::of(plain), ratio }
     }
 
-    pub fn median_ratio(self) -> f64 {
-        self.engine.median / self.plain.median
+    pub fn ratio_of_best(self) -> f64 {
+        self.engine.best / self.plain.best
     }
 }
 
@@ -55,13 +67,7 @@ pub fn compare<I, E, P>(
             engine_times.push(time_round(engine_passes, inputs, &mut engine));
         }
     }
-    Compared { engine: of_rounds(engine_times), plain: of_rounds(plain_times) }
-}
-
-/// The best and the median of times.
-pub fn of_rounds(mut times: Vec<f64>) -> Times {
-    times.sort_by(f64::total_cmp);
-    Times { best: times[0], median: times[times.len() / 2] }
+    Compared::of_rounds(engine_times, plain_times)
 }
 
 /// The number of passes over all inputs that a round takes.
