@@ -1,7 +1,7 @@
 //! `RESULTS.md`: everything in it that depends on a run is worked out here.
 
 use crate::plot::Series;
-use crate::sheet::{Sheet, ROUTES};
+use crate::sheet::{Sheet, ROUTES, WEIGHT};
 use crate::timing::{Compared, Effort, Times};
 use reference::Letters;
 use std::ops::RangeInclusive;
@@ -142,7 +142,9 @@ Dense inputs:
 
 {ROUTES} typical conditions over ten letters (U from 4 to 6), routes 1 to {ROUTES}, {input_bytes} bytes in, {output_bytes} bytes out, the same from both programs; {} are solved, {nones} are 'none'. Each program runs as a process of its own, in turns, its output to `/dev/null`; processor time is user and system time.
 
-{}{}{}",
+{}{}{}
+{WEIGHT}
+",
             ROUTES - nones,
             table_head("250 conditions"),
             table_line("processor time", *processor),
@@ -171,7 +173,9 @@ Dense inputs:
             }
         }
         if let Some(ratio) = behind(self.sheet.processor.ratio, "in processor time") {
-            lines += &format!("- the whole sheet: {ratio}. {}\n", crate::sheet::WEIGHT);
+            lines += &format!(
+                "- the whole sheet: {ratio}. The written order weighs most, as said above.\n"
+            );
         }
         if lines.is_empty() {
             lines = "Nowhere in this run.\n".to_string();

@@ -18,8 +18,8 @@ const LETTERS: [Letters; 3] = [
 pub const ROUTES: usize = 250;
 const ROUNDS: usize = 51;
 
-/// What weighs on the engine, where it is not ahead.
-pub const WEIGHT: &str = "The written order, worked out for each entry, every mask from counts of letters as the paper has it, takes a quarter of the time.";
+/// What weighs on the engine, by a profile of its program.
+pub const WEIGHT: &str = "About a quarter of the engine's time goes to the written order, which is worked out for each entry, every mask from counts of letters as the paper has it.";
 
 pub struct Sheet {
     pub processor: Compared,
