@@ -1,10 +1,12 @@
 // Support for the test programs: fields of a line that describes a call, and printing what came back.
 // A line is `CALL U G X Y SIZE SIZE2 A B`, one space between the fields; A and B are bytes, a digit each, or `-` for none.
-// The contracts say what the programs need to index safely; what is printed is compared with stored output.
+// The contracts say what the programs need to index safely. Those that print promise nothing, since the contracts of `io` say nothing of what a
+// descriptor receives: what is printed is compared with stored output.
 use libc::STDOUT_FILENO;
 ghost use mathlib.Core.Path.{_≡_};
 ghost use Prim.Native.Nat.{_≤_, _<_};
 ghost use lib.ListN.{length};
+ghost use Rattle.ring.specs.Lists.{listed};
 
 // Room for all cases of a program. The `ensures` gives only the length, which lending the array as a slice needs.
 pub fn input() -> [u8; 262144]
@@ -29,7 +31,7 @@ pub fn line_end(bytes: &[u8], at: usize) -> usize
 }
 
 // The start of the field after the one that starts at `at`, or the end of the line.
-pub fn skip(line: &[u8], at: usize) -> usize
+fn skip(line: &[u8], at: usize) -> usize
     requires { ⌜ at ≤ length (now line) ⌝ }
     ensures { λ r. ⌜ r ≤ length (now (line .entry)) ⌝ }
 {
@@ -55,7 +57,7 @@ fn wide(b: u8) -> u64 {
 }
 
 // The decimal number that starts at `at`.
-pub fn number(line: &[u8], at: usize) -> usize
+fn number(line: &[u8], at: usize) -> usize
     requires { ⌜ at ≤ length (now line) ⌝ }
 {
     let mut v: u64 = 0;
@@ -135,7 +137,9 @@ pub fn digits(line: &[u8], at: usize, out: &mut [u8]) -> usize
 }
 
 // Every byte of a result buffer is 7 before a call, so that one that the call should leave alone is seen.
-pub fn mark(buffer: &mut [u8]) {
+pub fn mark(buffer: &mut [u8])
+    ensures { λ _. ⌜ now (buffer .exit) ≡ listed (length (now (buffer .entry))) (λ i. 7) ⌝ }
+{
     for i in 0..buffer.len() {
         buffer[i] = 7;
     }
