@@ -25,7 +25,7 @@ use Rattle.tables.proofs.Bits.{xor-bytes, byte-digit}
 use Rattle.tables.proofs.Filled.{filled, filled-low, filled-high, filled-set, filled-skip, filled-all}
 
 -- what stands at m after letter j's step, as a byte
-pub stepByte : ℕ → List ℕ → ℕ → ℕ
+unfoldable pub stepByte : ℕ → List ℕ → ℕ → ℕ
 stepByte j xs m = cond (bit m j) (bitXor (getD xs m 0) (getD xs (m - 2 ^ j) 0)) (getD xs m 0)
 
 pub run-more : (t₀ t : List ℕ) (lo w i : ℕ) → t ≡ xorRun t₀ lo w i
@@ -79,7 +79,7 @@ module _ (j b : ℕ) (xs : List ℕ) where
         rw s (run (2 ^ j) (omega arith))
 
 -- 2 ^ n is as many blocks as the code counts
-whole-blocks : (j n : ℕ) → j < n → 2 * 2 ^ (n - j - 1) * 2 ^ j ≡ 2 ^ n
+pub whole-blocks : (j n : ℕ) → j < n → 2 * 2 ^ (n - j - 1) * 2 ^ j ≡ 2 ^ n
 whole-blocks j n h =
     let e : 1 + (n - j - 1) + j ≡ n = omega arith in
     sym (ap (λ (k : ℕ). k * 2 ^ j) (pow-add 2 1 (n - j - 1))) ∙ sym (pow-add 2 (1 + (n - j - 1)) j) ∙ ap (λ (k : ℕ). 2 ^ k) e
