@@ -1,0 +1,152 @@
+-- Parts of k elements that stand one after another, and the answers by unknown from the order's slots.
+-- Assumes nothing.
+use mathlib.Core.Path.{_≡_, refl, sym, ap, ap₂, _∙_}
+use mathlib.Core.Bool.{Bool, true, false, _||_, cond, true≢false}
+use mathlib.Core.List.{List, [], _∷_, _++_, append-assoc}
+use Prim.Native.Nat.{ℕ, zero, suc, _+_, _-_, _*_, _/_, _%_, _^_, _≤_, _<_}
+use native.Mathlib.Decide.{decLt}
+use native.Mathlib.Nat.{add-mul, one-mul, zero-mul, suc-mul, mul-assoc, mul-comm, mul-le-mul-right, mod-lt, div-add-mod'}
+use native.Mathlib.Omega.{arith}
+use lib.Arith.{digits-lt, digits-div, digits-mod}
+use lib.Dec.{eqb}
+use lib.ListN.{length, getD, take, drop, length-drop, List·getD-append}
+use lib.Seq.{take-at, drop-at, drop-drop, getD-take, getD-drop, length-take-le}
+use borrow.Author.Tests.{eqb-true, eqb-false, lt-ltb}
+use borrow.Rule.Slice.PartMut.{putMid}
+use Rattle.ring.specs.Letters.{bit}
+use Rattle.ring.specs.Lists.{has, listed}
+use Rattle.ring.proofs.Lists.{length-listed, listed-getD, listed-add, listed-cong}
+use Rattle.tables.proofs.Filled.{filled, filled-all}
+use Rattle.words.specs.Words.{wordOf, wordsOf}
+use Rattle.words.proofs.Words.{length-words, getD-words, word-cong, words-listed}
+use Rattle.solution.specs.Elimination.{IsOrder}
+use Rattle.solution.proofs.Elimination.{bothCases, answeredThrough}
+use Rattle.elimination.specs.Stages.{noRepeats, answerAt, slotWords, placeOf, slotWord, answerWords}
+use Rattle.elimination.proofs.AnyOrder.{answer-first, answer-other, no-rest}
+
+-- ---- parts
+-- one more part of k elements put
+pub parts-more : (j k : ℕ) (F : ℕ → ℕ) (t₀ t ys : List ℕ) → t ≡ filled (j * k) F t₀ → ys ≡ listed k (λ i. F (j * k + i))
+    → putMid (j * k) (j * k + k - j * k) t ys ≡ filled ((j + 1) * k) F t₀
+unfolding filled
+parts-more j k F t₀ t ys e ey =
+    let count : j * k + k - j * k ≡ k = omega arith in
+    let before : take (j * k) t ≡ listed (j * k) F = ap (take (j * k)) e ∙ take-at (listed (j * k) F) (drop (j * k) t₀) (j * k) (length-listed (j * k) F) in
+    let from : drop (j * k) t ≡ drop (j * k) t₀ = ap (drop (j * k)) e ∙ drop-at (listed (j * k) F) (drop (j * k) t₀) (j * k) (length-listed (j * k) F) in
+    let next : (j + 1) * k ≡ j * k + k = add-mul j 1 k ∙ ap (λ (x : ℕ). j * k + x) (one-mul k) in
+    rw (count, before, from, ey, drop-drop k (j * k) t₀, next, listed-add (j * k) k F)
+    (sym (append-assoc (listed (j * k) F) (listed k (λ i. F (j * k + i))) (drop (j * k + k) t₀)))
+
+-- all parts put
+pub parts-end : (count size j k : ℕ) (F : ℕ → ℕ) (t₀ t : List ℕ) → k ≡ size → j ≡ count → length t₀ ≡ count * size → t ≡ filled (j * k) F t₀ → t ≡ listed (count * size) F
+parts-end count size j k F t₀ t ek ej es e =
+    let whole : j * k ≡ length t₀ = ap₂ (λ (x y : ℕ). x * y) ej ek ∙ sym es in
+    e ∙ ap (λ (x : ℕ). filled x F t₀) whole ∙ filled-all F t₀ ∙ ap (λ (x : ℕ). listed x F) es
+
+-- part j lies within, and has k elements
+pub part-fits : (count size j k m : ℕ) → k ≡ size → j < count → m ≡ count * size → j * k + k ≤ m
+part-fits count size j k m ek h e =
+    let l : (j + 1) * k ≤ count * k = mul-le-mul-right k (omega arith) in
+    omega (arith, add-mul j 1 k, one-mul k, e ∙ ap (λ (x : ℕ). count * x) (sym ek))
+
+pub part-length : (j k : ℕ) (t : List ℕ) → j * k + k ≤ length t → length (take (j * k + k - j * k) (drop (j * k) t)) ≡ k
+part-length j k t room =
+    let count : j * k + k - j * k ≡ k = omega arith in
+    ap (λ (y : ℕ). length (take y (drop (j * k) t))) count ∙ length-take-le k (drop (j * k) t) (omega (arith, length-drop (j * k) t))
+
+-- a part element by element
+pub part-listed : (j k : ℕ) (t : List ℕ) → j * k + k ≤ length t → take (j * k + k - j * k) (drop (j * k) t) ≡ listed k (λ i. getD t (j * k + i) 0)
+part-listed j k t room =
+    let count : j * k + k - j * k ≡ k = omega arith in
+    let size : length (take k (drop (j * k) t)) ≡ k = length-take-le k (drop (j * k) t) (omega (arith, length-drop (j * k) t)) in
+    ap (λ (y : ℕ). take y (drop (j * k) t)) count ∙ sym (listed-getD (take k (drop (j * k) t)))
+    ∙ ap (λ (y : ℕ). listed y (λ i. getD (take k (drop (j * k) t)) i 0)) size
+    ∙ listed-cong k _ _ (λ i l. getD-take k (drop (j * k) t) i 0 l ∙ getD-drop (j * k) t i 0)
+
+-- ---- slots
+-- the slot of x copied
+pub slot-copied : (c k i x : ℕ) (o slots ys : List ℕ) → k ≡ 2 ^ c → i ≡ placeOf o x → i * k + k ≤ length slots → ys ≡ take (i * k + k - i * k) (drop (i * k) slots)
+    → ys ≡ listed k (λ w. slotWord (2 ^ c) o slots (x * k + w))
+unfolding slotWord
+slot-copied c k i x o slots ys ek ei room e =
+    e ∙ part-listed i k slots room
+    ∙ listed-cong k _ (λ w. slotWord k o slots (x * k + w)) (λ w l.
+    ap (λ (y : ℕ). getD slots (y * k + w) 0) ei
+    ∙ sym (ap₂ (λ (y z : ℕ). getD slots (placeOf o y * k + z) 0) (digits-div x l) (digits-mod x l)))
+    ∙ ap (λ (y : ℕ). listed k (λ w. slotWord y o slots (x * k + w))) ek
+
+-- a word of the slot of x
+slot-word : (k : ℕ) (h : ℕ → Bool) (o : List ℕ) (x w : ℕ) → noRepeats o ≡ true → has x o ≡ true → w < k
+    → getD (slotWords k h o) (placeOf o x * k + w) 0 ≡ wordOf (λ i. bit (answeredThrough h o (64 * w + i)) x)
+unfolding slotWords placeOf has
+slot-word k h [] x w once e l = absurd (true≢false (sym e))
+slot-word k h (y ∷ o) x w once e l = go (eqb x y) refl e (λ r. slot-word k (bothCases h y) o x w (no-rest y o once) r l)
+  where
+    go : (b : Bool) → eqb x y ≡ b → (b || has x o) ≡ true
+        → (has x o ≡ true → getD (slotWords k (bothCases h y) o) (placeOf o x * k + w) 0 ≡ wordOf (λ i. bit (answeredThrough (bothCases h y) o (64 * w + i)) x))
+        → getD (wordsOf k (answerAt h y o) ++ slotWords k (bothCases h y) o) (cond b 0 (suc (placeOf o x)) * k + w) 0 ≡ wordOf (λ i. bit (answeredThrough h (y ∷ o) (64 * w + i)) x)
+    go true q r ih =
+        let z : 0 * k + w ≡ w = omega (arith, zero-mul k) in
+        rw z (List·getD-append (wordsOf k (answerAt h y o)) _ 0 w (omega (arith, length-words k (answerAt h y o))) ∙ getD-words k (answerAt h y o) w l
+        ∙ word-cong _ _ (λ i m. sym (answer-first h y o once (64 * w + i)) ∙ ap (bit (answeredThrough h (y ∷ o) (64 * w + i))) (sym (eqb-true x y q))))
+    go false q r ih =
+        let s : suc (placeOf o x) * k + w ≡ k + (placeOf o x * k + w) = omega (arith, suc-mul (placeOf o x) k) in
+        rw s (sym (getD-drop k (wordsOf k (answerAt h y o) ++ slotWords k (bothCases h y) o) (placeOf o x * k + w) 0)
+        ∙ ap (λ (t : List ℕ). getD t (placeOf o x * k + w) 0) (drop-at (wordsOf k (answerAt h y o)) _ k (length-words k _))
+        ∙ ih r
+        ∙ word-cong _ _ (λ i m. sym (answer-other h y o x (64 * w + i) (eqb-false x y q))))
+
+-- word w of all is word w % k of part w / k
+part-below : (u k w : ℕ) → w < u * k → w / k < u
+part-below u k w l = go (decLt (w / k) u)
+  where
+    go : Dec (w / k < u) → w / k < u
+    go (yes h) = h
+    go (no h) =
+        let m : u * k ≤ w / k * k = mul-le-mul-right k (omega (arith, h)) in
+        absurd (omega (arith, m, l, div-add-mod' w k))
+
+part-point : (k w i : ℕ) → 64 * w + i ≡ w / k * (64 * k) + (64 * (w % k) + i)
+part-point k w i =
+    let q : w / k * (64 * k) ≡ 64 * (w / k * k) = sym (mul-assoc (w / k) 64 k) ∙ ap (λ (x : ℕ). x * k) (mul-comm (w / k) 64) ∙ mul-assoc 64 (w / k) k in
+    omega (arith, q, div-add-mod' w k)
+
+-- the words of answers, each by its part
+pub words-parts : (u k : ℕ) (F : ℕ → ℕ) (h : ℕ → ℕ → Bool) → 0 < k → ((x w : ℕ) → x < u → w < k → F (x * k + w) ≡ wordOf (λ i. h x (64 * w + i))) → listed (u * k) F ≡ answerWords u k h
+unfolding answerWords
+words-parts u k F h pos e =
+    words-listed (u * k) _ _ (λ w l.
+    let r : w % k < k = mod-lt w pos in
+    ap F (sym (div-add-mod' w k)) ∙ e (w / k) (w % k) (part-below u k w l) r
+    ∙ word-cong _ _ (λ i m.
+    let inner : 64 * (w % k) + i < 64 * k = omega arith in
+    ap₂ h (sym (ap (λ (z : ℕ). z / (64 * k)) (part-point k w i) ∙ digits-div (w / k) inner)) (sym (ap (λ (z : ℕ). z % (64 * k)) (part-point k w i) ∙ digits-mod (w / k) inner))))
+
+-- .. and back: part x of the words of answers
+pub answer-part : (u k x : ℕ) (h : ℕ → ℕ → Bool) (ws : List ℕ) → ws ≡ answerWords u k h → x < u → take (x * k + k - x * k) (drop (x * k) ws) ≡ wordsOf k (h x)
+unfolding answerWords
+answer-part u k x h ws e l =
+    let size : length ws ≡ u * k = ap length e ∙ length-words (u * k) _ in
+    part-listed x k ws (part-fits u k x k (length ws) refl l size)
+    ∙ words-listed k _ _ (λ w m.
+    let b : x * k + w < u * k = digits-lt l m in
+    ap (λ (t : List ℕ). getD t (x * k + w) 0) e ∙ getD-words (u * k) _ (x * k + w) b
+    ∙ word-cong _ _ (λ i n.
+    let inner : 64 * w + i < 64 * k = omega arith in
+    let s : 64 * (x * k + w) + i ≡ x * (64 * k) + (64 * w + i) = shifted w i in
+    ap₂ h (ap (λ (z : ℕ). z / (64 * k)) s ∙ digits-div x inner) (ap (λ (z : ℕ). z % (64 * k)) s ∙ digits-mod x inner)))
+  where
+    shifted : (w i : ℕ) → 64 * (x * k + w) + i ≡ x * (64 * k) + (64 * w + i)
+    shifted w i =
+        let q : x * (64 * k) ≡ 64 * (x * k) = sym (mul-assoc x 64 k) ∙ ap (λ (z : ℕ). z * k) (mul-comm x 64) ∙ mul-assoc 64 x k in
+        omega (arith, q)
+
+-- the slots by unknown are the answers
+pub arranged : (u k : ℕ) (h : ℕ → Bool) (o slots : List ℕ) → IsOrder u o → noRepeats o ≡ true → 0 < k → slots ≡ slotWords k h o
+    → listed (u * k) (slotWord k o slots) ≡ answerWords u k (λ x p. bit (answeredThrough h o p) x)
+unfolding slotWord
+arranged u k h o slots is once pos e =
+    words-parts u k (slotWord k o slots) _ pos (λ x w l m.
+    ap₂ (λ (y z : ℕ). getD slots (placeOf o y * k + z) 0) (digits-div x m) (digits-mod x m)
+    ∙ ap (λ (t : List ℕ). getD t (placeOf o x * k + w) 0) e
+    ∙ slot-word k h o x w once (is x ∙ lt-ltb x u l) m)

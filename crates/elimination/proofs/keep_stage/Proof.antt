@@ -1,0 +1,12 @@
+-- `elimination::keep_stage` meets its contract. Assumes nothing.
+use mathlib.Core.Path.{_≡_, ap, _∙_}
+use borrow.Author.Needs.{needs}
+use Rattle.elimination.proofs.Stages.{both-copied}
+use Rattle.elimination.proofs.keep_stage.Statement.{statement}
+use Rattle.elimination.proofs.keep_stage.Tie as tie
+
+returns : tie.Need-returns
+returns c = (both-copied _ _ _ _ _ ((c .before .before .before .before .before .before .before .copy) .ensures) ((c .before .before .both-cases) .ensures), (c .before .before .before .before .before .before .before .copy) .ensures)
+
+pub keep-stage-spec : {M : Type 1} → statement M
+keep-stage-spec = tie.close (tie.spec (λ c κs. search needs) (λ c κs. search needs) (λ c. search needs) (λ c. search needs) returns)
