@@ -32,9 +32,13 @@ assign-swap p zero (suc j) a b h =
 assign-swap p (suc i) zero a b h =
     rw (half-digit (assign (p / 2) i a) (p % 2) (omega arith), half-digit (p / 2) (digit b) (digit-lt b), mod-digit (p / 2) (digit b) (digit-lt b))
 assign-swap p (suc i) (suc j) a b h =
-    rw (half-digit (assign (p / 2) i a) (p % 2) (omega arith), mod-digit (assign (p / 2) i a) (p % 2) (omega arith),
-    half-digit (assign (p / 2) j b) (p % 2) (omega arith), mod-digit (assign (p / 2) j b) (p % 2) (omega arith),
-    assign-swap (p / 2) i j a b (λ e. h (ap suc e)))
+    rw (
+      half-digit (assign (p / 2) i a) (p % 2) (omega arith),
+      mod-digit (assign (p / 2) i a) (p % 2) (omega arith),
+      half-digit (assign (p / 2) j b) (p % 2) (omega arith),
+      mod-digit (assign (p / 2) j b) (p % 2) (omega arith),
+      assign-swap (p / 2) i j a b (λ e. h (ap suc e)),
+    )
 
 -- ---- values below 2 ^ n
 pub first-in : (n x : ℕ) (order : List ℕ) → InLetters n (x ∷ order) → x < n

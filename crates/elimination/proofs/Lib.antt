@@ -5,3 +5,4 @@ pub mod AnyOrder
 pub mod Stages
 pub mod Slots
 pub mod States
+pub mod Beyond

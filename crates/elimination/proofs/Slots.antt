@@ -18,7 +18,7 @@ use Rattle.ring.specs.Lists.{has, listed}
 use Rattle.ring.proofs.Lists.{length-listed, listed-getD, listed-add, listed-cong}
 use Rattle.tables.proofs.Filled.{filled, filled-all}
 use Rattle.words.specs.Words.{wordOf, wordsOf}
-use Rattle.words.proofs.Words.{length-words, getD-words, word-cong, words-listed}
+use Rattle.words.proofs.Words.{length-words, getD-words, word-cong, words-cong, words-listed}
 use Rattle.solution.specs.Elimination.{IsOrder}
 use Rattle.solution.proofs.Elimination.{bothCases, answeredThrough}
 use Rattle.elimination.specs.Stages.{noRepeats, answerAt, slotWords, placeOf, slotWord, answerWords}
@@ -106,10 +106,11 @@ part-below u k w l = go (decLt (w / k) u)
         let m : u * k ≤ w / k * k = mul-le-mul-right k (omega (arith, h)) in
         absurd (omega (arith, m, l, div-add-mod' w k))
 
-part-point : (k w i : ℕ) → 64 * w + i ≡ w / k * (64 * k) + (64 * (w % k) + i)
-part-point k w i =
-    let q : w / k * (64 * k) ≡ 64 * (w / k * k) = sym (mul-assoc (w / k) 64 k) ∙ ap (λ (x : ℕ). x * k) (mul-comm (w / k) 64) ∙ mul-assoc 64 (w / k) k in
-    omega (arith, q, div-add-mod' w k)
+points-in : (x k : ℕ) → x * (64 * k) ≡ 64 * (x * k)
+points-in x k = sym (mul-assoc x 64 k) ∙ ap (λ (y : ℕ). y * k) (mul-comm x 64) ∙ mul-assoc 64 x k
+
+part-point : (k x w i : ℕ) → 64 * (x * k + w) + i ≡ x * (64 * k) + (64 * w + i)
+part-point k x w i = omega (arith, points-in x k)
 
 -- the words of answers, each by its part
 pub words-parts : (u k : ℕ) (F : ℕ → ℕ) (h : ℕ → ℕ → Bool) → 0 < k → ((x w : ℕ) → x < u → w < k → F (x * k + w) ≡ wordOf (λ i. h x (64 * w + i))) → listed (u * k) F ≡ answerWords u k h
@@ -120,7 +121,16 @@ words-parts u k F h pos e =
     ap F (sym (div-add-mod' w k)) ∙ e (w / k) (w % k) (part-below u k w l) r
     ∙ word-cong _ _ (λ i m.
     let inner : 64 * (w % k) + i < 64 * k = omega arith in
-    ap₂ h (sym (ap (λ (z : ℕ). z / (64 * k)) (part-point k w i) ∙ digits-div (w / k) inner)) (sym (ap (λ (z : ℕ). z % (64 * k)) (part-point k w i) ∙ digits-mod (w / k) inner))))
+    let s : 64 * w + i ≡ w / k * (64 * k) + (64 * (w % k) + i) = ap (λ (y : ℕ). 64 * y + i) (sym (div-add-mod' w k)) ∙ part-point k (w / k) (w % k) i in
+    sym (ap₂ h (ap (λ (z : ℕ). z / (64 * k)) s ∙ digits-div (w / k) inner) (ap (λ (z : ℕ). z % (64 * k)) s ∙ digits-mod (w / k) inner))))
+
+-- they turn on the values at their points alone
+pub answers-cong : (u k : ℕ) (g h : ℕ → ℕ → Bool) → 0 < k → ((x p : ℕ) → x < u → p < 64 * k → g x p ≡ h x p) → answerWords u k g ≡ answerWords u k h
+unfolding answerWords
+answers-cong u k g h pos e =
+    words-cong (u * k) _ _ (λ i l.
+    let b : i < u * (64 * k) = omega (arith, points-in u k) in
+    e (i / (64 * k)) (i % (64 * k)) (part-below u (64 * k) i b) (mod-lt i (omega arith)))
 
 -- .. and back: part x of the words of answers
 pub answer-part : (u k x : ℕ) (h : ℕ → ℕ → Bool) (ws : List ℕ) → ws ≡ answerWords u k h → x < u → take (x * k + k - x * k) (drop (x * k) ws) ≡ wordsOf k (h x)
@@ -133,13 +143,7 @@ answer-part u k x h ws e l =
     ap (λ (t : List ℕ). getD t (x * k + w) 0) e ∙ getD-words (u * k) _ (x * k + w) b
     ∙ word-cong _ _ (λ i n.
     let inner : 64 * w + i < 64 * k = omega arith in
-    let s : 64 * (x * k + w) + i ≡ x * (64 * k) + (64 * w + i) = shifted w i in
-    ap₂ h (ap (λ (z : ℕ). z / (64 * k)) s ∙ digits-div x inner) (ap (λ (z : ℕ). z % (64 * k)) s ∙ digits-mod x inner)))
-  where
-    shifted : (w i : ℕ) → 64 * (x * k + w) + i ≡ x * (64 * k) + (64 * w + i)
-    shifted w i =
-        let q : x * (64 * k) ≡ 64 * (x * k) = sym (mul-assoc x 64 k) ∙ ap (λ (z : ℕ). z * k) (mul-comm x 64) ∙ mul-assoc 64 x k in
-        omega (arith, q)
+    ap₂ h (ap (λ (z : ℕ). z / (64 * k)) (part-point k x w i) ∙ digits-div x inner) (ap (λ (z : ℕ). z % (64 * k)) (part-point k x w i) ∙ digits-mod x inner)))
 
 -- the slots by unknown are the answers
 pub arranged : (u k : ℕ) (h : ℕ → Bool) (o slots : List ℕ) → IsOrder u o → noRepeats o ≡ true → 0 < k → slots ≡ slotWords k h o

@@ -313,13 +313,7 @@ fn solve_with(
 
 // From the values f of a condition, which it uses up, to the values of Boole's answers, unless something remains.
 // Answers the first state in which something remains, 2 ^ g if there is none. The scratch words live here.
-pub fn solve_words(
-    u: usize,
-    g: usize,
-    order: &[usize],
-    f: &mut [u64],
-    answers: &mut [u64],
-) -> usize
+pub fn solve_words(u: usize, g: usize, order: &[usize], f: &mut [u64], answers: &mut [u64]) -> usize
     requires { ⌜ (u ≤ 6) × (u + g ≤ 10) × ListsEach u (now order) × (length (now f) ≡ 2 ^ (u + g - 6)) × (length (now answers) ≡ u * 2 ^ (u + g - 6)) ⌝ }
     ensures { λ r. ⌜ r ≡ smallestBelow (2 ^ g) (λ s. remainsThrough (bitAt (now (f .entry))) (now (order .entry)) (s * 2 ^ u)) ⌝ }
     ensures { λ r. ⌜ (2 ^ g ≤ r → now (answers .exit) ≡ answerWords u (2 ^ (u + g - 6)) (λ x p. bit (answeredThrough (bitAt (now (f .entry))) (now (order .entry)) p) x)) ⌝ }

@@ -1,3 +1,4 @@
 pub mod Handed
+pub mod OnWords
 pub mod Verdicts
 pub mod Calls

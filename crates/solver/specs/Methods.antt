@@ -3,9 +3,11 @@
 -- Assumes nothing.
 use mathlib.Core.Bool.{cond}
 use mathlib.Core.List.{List}
-use Prim.Native.Nat.{ℕ, _+_}
+use Prim.Native.Nat.{ℕ, _+_, _-_, _^_}
+use Rattle.ring.specs.Polynomial.{Polynomial, value}
 use Rattle.ring.specs.Table.{present}
-use Rattle.solution.specs.Elimination.{defaultOrder, smallestBlocked, solvable, solved, none, Verdict as Said}
+use Rattle.solution.specs.Elimination.{booleAnswers, defaultOrder, smallestBlocked, solvable, solved, none, Verdict as Said}
+use Rattle.elimination.specs.Stages.{answerWords}
 use Rattle.solver.specs.Calls.{booleTable, particularTable, lowenheimTable}
 use Rattle.elimination.specs.declared.Method.{Method}
 use Rattle.elimination.specs.declared.Method.the-variants.{Boole, Particular, Lowenheim}
@@ -32,3 +34,10 @@ verdict (None state) answers = none state
 abbrev pub answersAfter : Said (List ℕ) → List ℕ → List ℕ
 answersAfter (solved answers) lent = answers
 answersAfter (none state) lent = lent
+
+-- the verdict on the condition f through an order of the unknowns, Boole's answers by their values: 2 ^ (n - 6) words to an answer, n = U + G
+unfoldable pub solveWords : ℕ → ℕ → List ℕ → Polynomial → Said (List ℕ)
+solveWords U G order f =
+    cond (solvable (U + G) f order)
+    (solved (answerWords U (2 ^ (U + G - 6)) (λ j. value (U + G) (booleAnswers (U + G) f order j))))
+    (none (smallestBlocked U G f))

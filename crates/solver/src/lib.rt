@@ -9,14 +9,17 @@ use tables::Outcome;
 ghost use mathlib.Core.Path.{_≡_};
 ghost use mathlib.Core.Bool.{cond};
 ghost use mathlib.Core.List.{[]};
-ghost use Prim.Native.Nat.{_+_, _*_, _^_, _≤_, _<_};
+ghost use Prim.Native.Nat.{_+_, _-_, _*_, _^_, _≤_, _<_};
 ghost use lib.Dec.{eqb};
 ghost use lib.ListN.{length};
+ghost use Rattle.ring.specs.Polynomial.{Polynomial, value};
 ghost use Rattle.ring.specs.Table.{IsTable, AreBits, present, tabulate, held, answerTable};
 ghost use Rattle.tables.specs.Reply.{reply, after, outcome};
 ghost use Rattle.solution.specs.Elimination.{defaultOrder, lowenheim, solve};
+ghost use Rattle.words.specs.Words.{wordsOf};
+ghost use Rattle.elimination.specs.Stages.{ListsEach};
 ghost use Rattle.solver.specs.Calls.{solvingRefusal, solvingReply, solving, booleTable, particularTable, lowenheimTable, handedRefusal, handedTable};
-ghost use Rattle.solver.specs.Methods.{tableBy, solveBy, verdict, answersAfter};
+ghost use Rattle.solver.specs.Methods.{tableBy, solveBy, verdict, answersAfter, solveWords};
 ghost use Rattle.solver.specs.Handed.{mixedBit};
 
 // What a solving call answers: the answers stand in the buffer, or there is none and every choice fails in this state, or the first no.
@@ -79,6 +82,26 @@ fn ask_and_solve(
         Verdict::Solved => Solving::Solved,
         Verdict::None(state) => Solving::None(state),
     }
+}
+
+// The verdict by the values of a condition that has passed the questions, eliminating in any order: if there is a solution, the values of
+// Boole's answer for unknown j are in the words j * k to (j + 1) * k of `answers`, k words holding the values of one polynomial.
+// Uses up the condition's values.
+pub fn solve_values(
+    u: usize,
+    g: usize,
+    order: &[usize],
+    values: &mut [u64],
+    answers: &mut [u64],
+) -> Verdict
+    requires { ⌜ (u ≤ 6) × (u + g ≤ 10) × ListsEach u (now order) × (length (now values) ≡ 2 ^ (u + g - 6)) × (length (now answers) ≡ u * 2 ^ (u + g - 6)) ⌝ }
+    ensures { λ r. ⌜ ((f : Polynomial) → now (values .entry) ≡ wordsOf (2 ^ (u + g - 6)) (value (u + g) f) → verdict r (now (answers .exit)) ≡ solveWords u g (now (order .entry)) f) ⌝ }
+{
+    let state = elimination::solve_words(u, g, order, values, answers);
+    if state < tables::pow2(g) {
+        return Verdict::None(State(state));
+    }
+    Verdict::Solved
 }
 
 // The verdict of an archive entry, for a condition that has passed the questions: Boole's answers into a buffer of just their length.

@@ -58,6 +58,7 @@ pub +keep-stages-spec : {M : Type 1} → statement M
     (λ c κs. (omega (arith, (c .before .before .before .before .before .before .before .before .before .before .before .before .before .before .before .before .pre) .0, rest-length ((c .before .before .before .before .before .before .before .before .before .before .before .before .before .before .before .before .args) .order .now)), ((c .before .before .before .before .before .before .before .before .before .before .before .before .before .before .before .before .pre) .1 .0, rest-letters _ ((c .before .before .before .before .before .before .before .before .before .before .before .before .before .before .before .before .args) .order .now) ((c .before .before .before .before .before .before .before .before .before .before .before .before .before .before .before .before .pre) .1 .1), size-words _ _ _ ((c .before .before .before .before .before .before .before .keep-stage) .ensures .0), front-rest _ _ ((c .before .before .before .before .before .before .before .before .before .before .before .before .before .before .before .before .args) .order .now) _ _ ((c .before .before .before .before .before .before .before .before .before .before .before .before .before .before .before .before .args) .stages .now) ((c .before .before .before .before .before .before .before .before .before .before .before .pow2) .ensures) ((c .before .before .before .before .before .before .before .keep-stage) .ensures .1) ((c .before .before .before .before .before .before .before .before .before .before .before .before .before .before .before .before .pre) .1 .2) ((c .before .before .before .before .before .before .before .before .before .before .before .before .before .before .before .before .pre) .1 .3) (omega arith))))
     (λ c. search needs)
     (λ c. search needs)
-    (λ c. let w = machine-words _ ((c .before .before .before .before .before .before .before .before .before .before .before .before .before .before .before .before .before .before .before .before .before .args) .f .now) ((c .before .before .before .before .before .before .before .before .before .before .before .before .before .before .before .before .before .before .before .before .before .pre) .1 .2) (λ i. omega (arith, (c .before .before .before .before .before .before .before .before .before .before .before .before .before .before .before .before .before .before .before .slice-known) .given i)) in
-    (remains-more _ ((c .before .before .before .before .before .before .before .before .before .before .before .before .before .before .before .before .before .before .before .before .before .args) .order .now) ((c .before .before .before .before .before .before .before .before .before .before .before .before .before .before .before .before .before .before .before .before .before .args) .f .now) _ _ ((c .before .before .before .before .before .before .before .before .before .before .before .before .before .before .before .before .before .before .before .before .before .pre) .1 .1) (omega arith) ((c .before .before .before .before .before .before .before .before .before .before .before .before .keep-stage) .ensures .0) ((c .before .before .before .before .keep-stages) .ensures .0),
-    stages-more _ _ ((c .before .before .before .before .before .before .before .before .before .before .before .before .before .before .before .before .before .before .before .before .before .args) .order .now) ((c .before .before .before .before .before .before .before .before .before .before .before .before .before .before .before .before .before .before .before .before .before .args) .f .now) _ _ ((c .before .before .before .before .before .before .before .before .before .before .before .before .before .before .before .before .before .before .before .before .before .args) .stages .now) _ ((c .before .before .before .before .before .before .before .before .before .before .before .before .before .before .before .before .pow2) .ensures) ((c .before .before .before .before .before .before .before .before .before .before .before .before .before .before .before .before .before .before .before .before .before .pre) .1 .1) (omega arith) ((c .before .before .before .before .before .before .before .before .before .before .before .before .before .before .before .before .before .before .before .before .before .pre) .1 .3) w ((c .before .before .before .before .before .before .before .before .before .before .before .before .keep-stage) .ensures .1) ((c .before .before .before .before .before .before .before .before .before .before .before .before .keep-stage) .ensures .0) ((c .before .before .before .before .keep-stages) .ensures .1))))
+    (λ c. let w = machine-words _ ((c .before .before .before .before .before .before .before .before .before .before .before .before .before .before .before .before .before .before .before .before .before .args) .f .now) ((c .before .before .before .before .before .before .before .before .before .before .before .before .before .before .before .before .before .before .before .before .before .pre) .1 .2) (λ i. omega (arith, (c .before .before .before .before .before .before .before .before .before .before .before .before .before .before .before .before .before .before .before .slice-known) .given i)) in (
+      remains-more _ ((c .before .before .before .before .before .before .before .before .before .before .before .before .before .before .before .before .before .before .before .before .before .args) .order .now) ((c .before .before .before .before .before .before .before .before .before .before .before .before .before .before .before .before .before .before .before .before .before .args) .f .now) _ _ ((c .before .before .before .before .before .before .before .before .before .before .before .before .before .before .before .before .before .before .before .before .before .pre) .1 .1) (omega arith) ((c .before .before .before .before .before .before .before .before .before .before .before .before .keep-stage) .ensures .0) ((c .before .before .before .before .keep-stages) .ensures .0),
+      stages-more _ _ ((c .before .before .before .before .before .before .before .before .before .before .before .before .before .before .before .before .before .before .before .before .before .args) .order .now) ((c .before .before .before .before .before .before .before .before .before .before .before .before .before .before .before .before .before .before .before .before .before .args) .f .now) _ _ ((c .before .before .before .before .before .before .before .before .before .before .before .before .before .before .before .before .before .before .before .before .before .args) .stages .now) _ ((c .before .before .before .before .before .before .before .before .before .before .before .before .before .before .before .before .pow2) .ensures) ((c .before .before .before .before .before .before .before .before .before .before .before .before .before .before .before .before .before .before .before .before .before .pre) .1 .1) (omega arith) ((c .before .before .before .before .before .before .before .before .before .before .before .before .before .before .before .before .before .before .before .before .before .pre) .1 .3) w ((c .before .before .before .before .before .before .before .before .before .before .before .before .keep-stage) .ensures .1) ((c .before .before .before .before .before .before .before .before .before .before .before .before .keep-stage) .ensures .0) ((c .before .before .before .before .keep-stages) .ensures .1),
+    )))

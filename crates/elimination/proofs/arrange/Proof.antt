@@ -55,7 +55,7 @@ loop-again : tie.Need-loop-again Inv-loop μ-loop
 loop-again c = (
   search needs,
   parts-more _ _ _ _ _ _ ((c .before .before .before .before .before .before .before .loop) .inv .1)
-  (slot-copied ((c .before .before .before .before .before .before .before .before .before .before .before .before .args) .c) _ _ _ ((c .before .before .before .before .before .before .before .before .before .before .before .before .args) .order .now) ((c .before .before .before .before .before .before .before .before .before .before .before .before .args) .slots .now) _ ((c .before .before .before .before .before .before .before .before .pow2) .ensures) ((c .before .before .before .before .before .place) .ensures .0) (part-fits _ _ _ _ _ ((c .before .before .before .before .before .before .before .before .pow2) .ensures) ((c .before .before .before .before .before .place) .ensures .1) ((c .before .before .before .before .before .before .before .before .before .before .before .before .pre) .2)) ((c .before .before .copy) .ensures)),
+      (slot-copied ((c .before .before .before .before .before .before .before .before .before .before .before .before .args) .c) _ _ _ ((c .before .before .before .before .before .before .before .before .before .before .before .before .args) .order .now) ((c .before .before .before .before .before .before .before .before .before .before .before .before .args) .slots .now) _ ((c .before .before .before .before .before .before .before .before .pow2) .ensures) ((c .before .before .before .before .before .place) .ensures .0) (part-fits _ _ _ _ _ ((c .before .before .before .before .before .before .before .before .pow2) .ensures) ((c .before .before .before .before .before .place) .ensures .1) ((c .before .before .before .before .before .before .before .before .before .before .before .before .pre) .2)) ((c .before .before .copy) .ensures)),
   search needs,
 )
 

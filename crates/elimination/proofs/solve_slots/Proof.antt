@@ -17,9 +17,10 @@ keep-stages-requires c κs =
     (omega (arith, (c .before .before .further) .ensures), order-letters ((c .before .before .before .before .before .before .args) .u) ((c .before .before .before .before .before .before .args) .g) _ ((c .before .before .before .before .before .before .args) .order .now) ((c .before .before .before .before .before .before .pre) .1) ((c .before .before .further) .ensures), same-power _ _ _ ((c .before .before .before .before .before .before .pre) .3) ((c .before .before .further) .ensures), same-slots _ _ _ _ ((c .before .before .before .before .before .before .pre) .4) ((c .before .before .further) .ensures))
 
 returns : tie.Need-returns
-returns c =
-    (state-remains ((c .before .before .before .before .before .before .before .before .before .before .before .before .before .before .before .args) .u) ((c .before .before .before .before .before .before .before .before .before .before .before .before .before .before .before .args) .g) _ _ ((c .before .before .before .before .before .before .before .before .before .before .before .before .before .before .before .args) .f .now) _ ((c .before .before .before .before .before .before .before .before .before .before .before .before .before .before .before .args) .order .now) ((c .before .before .before .before .before .before .before .before .before .before .before .further) .ensures) ((c .before .before .before .before .before .before .before .before .keep-stages) .ensures .0) ((c .before .before .first-state) .ensures),
-    λ h. absurd (omega (arith, h, (c .if1) .taken, (c .before .pow2) .ensures)))
+returns c = (
+  state-remains ((c .before .before .before .before .before .before .before .before .before .before .before .before .before .before .before .args) .u) ((c .before .before .before .before .before .before .before .before .before .before .before .before .before .before .before .args) .g) _ _ ((c .before .before .before .before .before .before .before .before .before .before .before .before .before .before .before .args) .f .now) _ ((c .before .before .before .before .before .before .before .before .before .before .before .before .before .before .before .args) .order .now) ((c .before .before .before .before .before .before .before .before .before .before .before .further) .ensures) ((c .before .before .before .before .before .before .before .before .keep-stages) .ensures .0) ((c .before .before .first-state) .ensures),
+  λ h. absurd (omega (arith, h, (c .if1) .taken, (c .before .pow2) .ensures)),
+)
 
 answer-all-requires : tie.Need-answer-all-requires
 answer-all-requires c κs =
@@ -28,9 +29,10 @@ answer-all-requires c κs =
 
 returns-2 : tie.Need-returns-2
 returns-2 c =
-    let b = order-letters ((c .before .before .before .before .before .before .before .before .before .before .before .before .before .before .before .before .before .before .before .args) .u) ((c .before .before .before .before .before .before .before .before .before .before .before .before .before .before .before .before .before .before .before .args) .g) _ ((c .before .before .before .before .before .before .before .before .before .before .before .before .before .before .before .before .before .before .before .args) .order .now) ((c .before .before .before .before .before .before .before .before .before .before .before .before .before .before .before .before .before .before .before .pre) .1) ((c .before .before .before .before .before .before .before .before .before .before .before .before .before .before .before .further) .ensures) in
-    (state-remains ((c .before .before .before .before .before .before .before .before .before .before .before .before .before .before .before .before .before .before .before .args) .u) ((c .before .before .before .before .before .before .before .before .before .before .before .before .before .before .before .before .before .before .before .args) .g) _ _ ((c .before .before .before .before .before .before .before .before .before .before .before .before .before .before .before .before .before .before .before .args) .f .now) _ ((c .before .before .before .before .before .before .before .before .before .before .before .before .before .before .before .before .before .before .before .args) .order .now) ((c .before .before .before .before .before .before .before .before .before .before .before .before .before .before .before .further) .ensures) ((c .before .before .before .before .before .before .before .before .before .before .before .before .keep-stages) .ensures .0) ((c .before .before .before .before .before .before .first-state) .ensures),
-    λ h. slots-answered _ _ _ ((c .before .before .before .before .before .before .before .before .before .before .before .before .before .before .before .before .before .before .before .args) .f .now) ((c .before .before .before .before .before .before .before .before .before .before .before .before .before .before .before .before .before .before .before .args) .order .now) _ _ ((c .before .before .before .before .before .before .before .before .before .before .before .before .before .before .before .further) .ensures) b ((c .before .before .before .before .before .before .before .before .before .before .before .before .keep-stages) .ensures .1) ((c .before .before .answer-all) .ensures))
+    let b = order-letters ((c .before .before .before .before .before .before .before .before .before .before .before .before .before .before .before .before .before .before .before .args) .u) ((c .before .before .before .before .before .before .before .before .before .before .before .before .before .before .before .before .before .before .before .args) .g) _ ((c .before .before .before .before .before .before .before .before .before .before .before .before .before .before .before .before .before .before .before .args) .order .now) ((c .before .before .before .before .before .before .before .before .before .before .before .before .before .before .before .before .before .before .before .pre) .1) ((c .before .before .before .before .before .before .before .before .before .before .before .before .before .before .before .further) .ensures) in (
+      state-remains ((c .before .before .before .before .before .before .before .before .before .before .before .before .before .before .before .before .before .before .before .args) .u) ((c .before .before .before .before .before .before .before .before .before .before .before .before .before .before .before .before .before .before .before .args) .g) _ _ ((c .before .before .before .before .before .before .before .before .before .before .before .before .before .before .before .before .before .before .before .args) .f .now) _ ((c .before .before .before .before .before .before .before .before .before .before .before .before .before .before .before .before .before .before .before .args) .order .now) ((c .before .before .before .before .before .before .before .before .before .before .before .before .before .before .before .further) .ensures) ((c .before .before .before .before .before .before .before .before .before .before .before .before .keep-stages) .ensures .0) ((c .before .before .before .before .before .before .first-state) .ensures),
+      λ h. slots-answered _ _ _ ((c .before .before .before .before .before .before .before .before .before .before .before .before .before .before .before .before .before .before .before .args) .f .now) ((c .before .before .before .before .before .before .before .before .before .before .before .before .before .before .before .before .before .before .before .args) .order .now) _ _ ((c .before .before .before .before .before .before .before .before .before .before .before .before .before .before .before .further) .ensures) b ((c .before .before .before .before .before .before .before .before .before .before .before .before .keep-stages) .ensures .1) ((c .before .before .answer-all) .ensures),
+    )
 
 pub solve-slots-spec : {M : Type 1} → statement M
 solve-slots-spec =

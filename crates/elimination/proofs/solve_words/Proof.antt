@@ -20,9 +20,10 @@ slice-aggregate-solve-with : tie.Need-slice-aggregate-solve-with
 slice-aggregate-solve-with c = sym (length-take-le _ _ (slots-fit _ _ ((c .before .before .before .before .before .before .args) .order .now) ((c .before .before .before .before .before .before .pre) .2 .2) ((c .before .before .before .before .before .before .pre) .0) (count-small _ _ ((c .before .before .word-count) .ensures) ((c .before .before .before .before .before .before .pre) .1))))
 
 solve-with-requires : tie.Need-solve-with-requires
-solve-with-requires c κs =
-    (((c .before .before .before .before .before .before .before .pre) .1, (c .before .before .before .before .before .before .before .pre) .2 .0, (c .before .before .before .before .before .before .before .pre) .2 .1, (c .before .before .before .before .before .before .before .pre) .3, (c .before .before .before .before .before .before .before .pre) .4),
-    length-take-le _ _ (slots-fit _ _ ((c .before .before .before .before .before .before .before .args) .order .now) ((c .before .before .before .before .before .before .before .pre) .2 .2) ((c .before .before .before .before .before .before .before .pre) .0) (count-small _ _ ((c .before .before .before .word-count) .ensures) ((c .before .before .before .before .before .before .before .pre) .1))) ∙ ap (λ (x : ℕ). length ((c .before .before .before .before .before .before .before .args) .order .now) * x) ((c .before .before .before .word-count) .ensures))
+solve-with-requires c κs = (
+  ((c .before .before .before .before .before .before .before .pre) .1, (c .before .before .before .before .before .before .before .pre) .2 .0, (c .before .before .before .before .before .before .before .pre) .2 .1, (c .before .before .before .before .before .before .before .pre) .3, (c .before .before .before .before .before .before .before .pre) .4),
+  length-take-le _ _ (slots-fit _ _ ((c .before .before .before .before .before .before .before .args) .order .now) ((c .before .before .before .before .before .before .before .pre) .2 .2) ((c .before .before .before .before .before .before .before .pre) .0) (count-small _ _ ((c .before .before .before .word-count) .ensures) ((c .before .before .before .before .before .before .before .pre) .1))) ∙ ap (λ (x : ℕ). length ((c .before .before .before .before .before .before .before .args) .order .now) * x) ((c .before .before .before .word-count) .ensures),
+)
 
 pub solve-words-spec : {M : Type 1} → statement M
 solve-words-spec =
