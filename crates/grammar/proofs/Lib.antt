@@ -4,4 +4,5 @@ pub mod Sound
 pub mod Points
 pub mod Declared
 pub mod Theorems
+pub mod SignRows
 mod Examples

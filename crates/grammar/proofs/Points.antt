@@ -25,7 +25,7 @@ module _ (U G : ℕ) (state : State) (choice : Choice) (h : choice .0 < 2 ^ U) w
   at-point (negation t) d = ap (λ (x : Bool). x ⊕ true) (at-point t d)
   at-point (times s t) d = ap₂ _&&_ (at-point s (d .0)) (at-point t (d .1))
   at-point (plus s t) d = ap₂ _⊕_ (at-point s (d .0)) (at-point t (d .1))
-  at-point (either s t) d = ap₂ (λ (x y : Bool). x ⊕ y ⊕ (x && y)) (at-point s (d .0)) (at-point t (d .1))
+  at-point (either s t) d = simp (at-point s (d .0), at-point t (d .1))
 
 -- 'the value of the normal form is the tree's'
 pub value-normal : (U G : ℕ) (t : Tree) (p : ℕ) → Declared U G t → value (U + G) (normalForm U G t) p ≡ atPoint U t p
@@ -39,9 +39,4 @@ value-normal U G (times s t) p d =
     value-product (U + G) (normalForm U G s) (normalForm U G t) p ∙ ap₂ _&&_ (value-normal U G s p (d .0)) (value-normal U G t p (d .1))
 value-normal U G (plus s t) p d =
     value-sum (U + G) (normalForm U G s) (normalForm U G t) p ∙ ap₂ _⊕_ (value-normal U G s p (d .0)) (value-normal U G t p (d .1))
-value-normal U G (either s t) p d =
-    let f = normalForm U G s in
-    let g = normalForm U G t in
-    value-sum (U + G) (polynomial.sum f g) (polynomial.product (U + G) f g) p
-    ∙ ap₂ _⊕_ (value-sum (U + G) f g p) (value-product (U + G) f g p)
-    ∙ ap₂ (λ (x y : Bool). x ⊕ y ⊕ (x && y)) (value-normal U G s p (d .0)) (value-normal U G t p (d .1))
+value-normal U G (either s t) p d = simp (value-sum, value-product, value-normal U G s p (d .0), value-normal U G t p (d .1))

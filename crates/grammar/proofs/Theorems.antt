@@ -47,6 +47,16 @@ derived-reads text {t} d = (ap isWhole (complete d), ap treeRead (complete d))
 pub reads-exactly : (text : List ℕ) → (grammarReads text ≡ true) ↔ ((t : Tree) × Sum (symbols text) t)
 reads-exactly text = (λ h. (treeOf text, reads-derived text h), λ d. derived-reads text (d .1) .0)
 
+-- what is read from a text is told by its derivation alone: its value is that of the derived tree ..
+pub value-derived : (text : List ℕ) {t : Tree} → Sum (symbols text) t → (state : State) (choice : Choice) → textValue text state choice ≡ valueAt t state choice
+unfolding textValue
+value-derived text d state choice = ap (λ (s : Tree). valueAt s state choice) (derived-reads text d .1)
+
+-- .. and the table that it is read into is that of the derived tree's normal form
+pub table-derived : (U G : ℕ) (text : List ℕ) {t : Tree} → Sum (symbols text) t → textTable U G text ≡ table (U + G) (normalForm U G t)
+unfolding textTable
+table-derived U G text d = ap (λ (s : Tree). table (U + G) (normalForm U G s)) (derived-reads text d .1)
+
 -- the value of the normal form of a tree is the tree's value, at every state and choice
 pub value-normal-form : (U G : ℕ) (t : Tree) → Declared U G t → (state : State) (choice : Choice) → choice .0 < 2 ^ U
     → value (U + G) (normalForm U G t) (point U state choice) ≡ valueAt t state choice

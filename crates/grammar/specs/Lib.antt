@@ -3,3 +3,4 @@ pub mod Grammar
 pub mod Meaning
 pub mod Reader
 pub mod Text
+pub mod SignRows

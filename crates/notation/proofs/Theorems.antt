@@ -2,6 +2,7 @@
 -- That the reader accepts exactly the texts with a derivation, and that a text has at most one tree, stands in `grammar`.
 -- Assumes nothing.
 use mathlib.Core.Path.{_≡_, _∙_, sym}
+use mathlib.Core.Bool.{true}
 use mathlib.Core.Logic.{_↔_}
 use mathlib.Core.List.{List}
 use Prim.Native.Nat.{ℕ, _+_, _^_, _≤_, _<_}
@@ -10,12 +11,13 @@ use Rattle.ring.specs.declared.Choice.{Choice}
 use Rattle.ring.specs.Letters.{point}
 use Rattle.ring.specs.Polynomial.{value}
 use Rattle.ring.specs.Table.{present}
-use Rattle.grammar.specs.Symbols.{symbols}
+use Rattle.tables.specs.Questions.{lettersFit}
+use Rattle.grammar.specs.Symbols.{symbols, allSigns, allDeclared}
 use Rattle.grammar.specs.Grammar.{Tree, Sum}
 use Rattle.grammar.specs.Reader.{treeOf}
 use Rattle.grammar.specs.Text.{IsRead, Agree, textValue, textTable}
 use Rattle.grammar.proofs.Theorems as grammar
-use Rattle.notation.specs.Text.{textRefusal, Accepted}
+use Rattle.notation.specs.Text.{hasTextLength, textRefusal, Accepted}
 use Rattle.notation.proofs.Refusal.{fine, late-counts, not-late}
 
 -- no question is answered no exactly for an accepted text and a buffer with room
@@ -35,6 +37,14 @@ pub accepted-tree : (U G : ℕ) (text : List ℕ) → Accepted U G text → Sum 
 accepted-tree U G text a =
     let d = grammar.reads-derived text (a .grammar) in
     (d, λ t e. grammar.one-tree e d)
+
+-- so a text is accepted exactly if it passes questions 1, 3, 5 and 6 and has a derivation
+pub accepted-exactly : (U G : ℕ) (text : List ℕ)
+    → Accepted U G text ↔ ((lettersFit U G ≡ true) × (hasTextLength text ≡ true) × (allSigns text ≡ true) × (allDeclared U G text ≡ true) × (t : Tree) × Sum (symbols text) t)
+accepted-exactly U G text = (
+  λ a. (a .letters, a .bytes, a .signs, a .declared, treeOf text, grammar.reads-derived text (a .grammar)),
+  λ d. record { letters = d .0; bytes = d .1; signs = d .2; declared = d .3; grammar = grammar.derived-reads text (d .5) .0 },
+)
 
 -- the value of the table that an accepted text is read into is the text's, at every state and choice
 pub value-text : (U G : ℕ) (text : List ℕ) → Accepted U G text → (state : State) (choice : Choice) → choice .0 < 2 ^ U
