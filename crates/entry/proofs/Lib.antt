@@ -10,3 +10,4 @@ pub mod Bytes
 pub mod Bound
 pub mod Passes
 pub mod Theorems
+pub mod Examples
