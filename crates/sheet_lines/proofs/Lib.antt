@@ -4,3 +4,4 @@ pub mod Refusals
 pub mod Feeding
 pub mod Entries
 pub mod Examples
+pub mod Sample
