@@ -1,2 +1,5 @@
 pub mod Demand3
 pub mod StarredRows
+pub mod SignRows
+pub mod OneGiven
+pub mod Sample

@@ -1,2 +1,4 @@
 pub mod Demand3
 pub mod StarredRows
+pub mod SignRows
+pub mod Sample

@@ -41,7 +41,7 @@ not-zero n g h = go (everyBelow (2 ^ n) (λ p. not (value n g p))) refl
         ∙ same-values n g (λ m. false) (λ p l. not-true (value n g p) (every-all (2 ^ n) (λ p. not (value n g p)) e p l) ∙ sym (value-none n p)) (m .0) (m .1)))
     go false e = let p = every-not (2 ^ n) (λ p. not (value n g p)) e in (p .0, p .1, not-false (value n g (p .0)) (p .2))
 
-no-true : (b : Bool) → (b ≡ true → ⊥) → b ≡ false
+pub no-true : (b : Bool) → (b ≡ true → ⊥) → b ≡ false
 no-true true h = absurd (h refl)
 no-true false h = refl
 

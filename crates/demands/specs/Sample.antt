@@ -1,0 +1,46 @@
+-- The sample of document 01, 'Programs', in bytes: the two lines' texts and the records that are printed for them, ten in all. And one
+-- entry more, with nine letters, in which a mask has two bytes that differ.
+-- Assumes nothing.
+use mathlib.Core.List.{List, [], _∷_}
+use Prim.Native.Nat.{ℕ}
+
+-- `u+v`, of the line `7 2 0 u+v`
+unfoldable pub firstText : List ℕ
+firstText = 117 ∷ 43 ∷ 118 ∷ []
+
+-- its entry: 01070200, 020100, 020200, 03000200, 03010200, 0407 (start; monomials; answers u = v and v = v; end)
+unfoldable pub firstEntry : List ℕ
+firstEntry =
+    1 ∷ 7 ∷ 2 ∷ 0
+    ∷ 2 ∷ 1 ∷ 0
+    ∷ 2 ∷ 2 ∷ 0
+    ∷ 3 ∷ 0 ∷ 2 ∷ 0
+    ∷ 3 ∷ 1 ∷ 2 ∷ 0
+    ∷ 4 ∷ 7
+    ∷ []
+
+-- `a`, of the line `8 1 1 a`
+unfoldable pub secondText : List ℕ
+secondText = 97 ∷ []
+
+-- its entry: 01080101, 020200, 0501, 0408 (start, monomial a, 'none' at state 1, end)
+unfoldable pub secondEntry : List ℕ
+secondEntry =
+    1 ∷ 8 ∷ 1 ∷ 1
+    ∷ 2 ∷ 2 ∷ 0
+    ∷ 5 ∷ 1
+    ∷ 4 ∷ 8
+    ∷ []
+
+-- `h`, of a line `9 1 8 h`
+unfoldable pub wideText : List ℕ
+wideText = 104 ∷ []
+
+-- its entry: 01090108, 020001, 0580, 0409 (start, monomial h with the mask 256, 'none' at state 128, end)
+unfoldable pub wideEntry : List ℕ
+wideEntry =
+    1 ∷ 9 ∷ 1 ∷ 8
+    ∷ 2 ∷ 0 ∷ 1
+    ∷ 5 ∷ 128
+    ∷ 4 ∷ 9
+    ∷ []
