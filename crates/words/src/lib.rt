@@ -1,24 +1,16 @@
-// The bottom of words: truth values of a polynomial, 64 points to a word, and the passage between coefficients and values on them.
-// Nothing here is a public call of the library: the functions are for the crates above, which ask the questions first.
+// The bottom of words: truth values of a polynomial, 64 points to a word, and the work on them.
+// Words have six letters or more: a polynomial in fewer is taken as one in six. `c` is the number of letters beyond six.
+// Nothing here is a public call of the library: the functions are for the crates above, which ask the questions first
+// and then lend slices of exactly the length that is needed.
 ghost use mathlib.Core.Path.{_≡_};
-ghost use mathlib.Core.Bool.{true, false, _&&_};
+ghost use mathlib.Core.Bool.{true, false, _&&_, cond};
 ghost use Prim.Native.Nat.{_+_, _-_, _*_, _^_, _≤_, _<_};
-ghost use lib.ListN.{length};
+ghost use lib.ListN.{length, getD};
 ghost use Rattle.ring.specs.Letters.{digit, bit, assign};
-ghost use Rattle.ring.specs.Polynomial.{_⊕_, value, product};
+ghost use Rattle.ring.specs.Polynomial.{_⊕_, count, value};
 ghost use Rattle.ring.specs.Table.{AreBits, IsTable, present, tabulate, table};
 ghost use Rattle.tables.specs.Steps.{stepped, xorRun};
-ghost use Rattle.words.specs.Words.{wordOf, wordsOf, bitAt, IsWords, lowStepped, turned, spreadOf};
-
-// The six lowest letters at the 64 points of a word.
-const LOW_LETTERS: [u64; 6] = [
-    0xaaaa_aaaa_aaaa_aaaa,
-    0xcccc_cccc_cccc_cccc,
-    0xf0f0_f0f0_f0f0_f0f0,
-    0xff00_ff00_ff00_ff00,
-    0xffff_0000_ffff_0000,
-    0xffff_ffff_0000_0000,
-];
+ghost use Rattle.words.specs.Words.{wordOf, wordsOf, bitAt, First, lowLetters, steppedBelow, turned, spreadOf};
 
 // The number of words of n letters.
 pub fn word_count(n: usize) -> usize
@@ -29,6 +21,16 @@ pub fn word_count(n: usize) -> usize
         return 1;
     }
     tables::pow2(n - 6)
+}
+
+// The letters beyond six.
+fn further(n: usize) -> usize
+    ensures { λ r. ⌜ r ≡ n - 6 ⌝ }
+{
+    if n < 6 {
+        return 0;
+    }
+    n - 6
 }
 
 fn wide(byte: u8) -> u64
@@ -49,26 +51,6 @@ fn pack_word(t: &[u8]) -> u64
         word = word * 2 + wide(t[i]);
     }
     word
-}
-
-// One letter's step within a word.
-fn step_word(word: u64, j: usize) -> u64
-    requires { ⌜ j < 6 ⌝ }
-    ensures { λ r. ⌜ r ≡ wordOf (stepped (bit word) j) ⌝ }
-{
-    word ^ ((word << tables::pow2(j)) & LOW_LETTERS[j])
-}
-
-// The steps of the six lowest letters.
-fn word_values(word: u64) -> u64
-    ensures { λ r. ⌜ r ≡ wordOf (lowStepped (bit word)) ⌝ }
-{
-    let five = step_word(word, 5);
-    let four = step_word(five, 4);
-    let three = step_word(four, 3);
-    let two = step_word(three, 2);
-    let one = step_word(two, 1);
-    step_word(one, 0)
 }
 
 // A word for each 64 bytes.
@@ -157,6 +139,77 @@ pub fn unpack(words: &[u64], out: &mut [u8])
     }
 }
 
+// The value that words hold at a point.
+pub fn value_at(words: &[u64], p: usize) -> bool
+    requires { ⌜ p < 64 * length (now words) ⌝ }
+    ensures { λ r. ⌜ r ≡ bitAt (now (words .entry)) p ⌝ }
+{
+    bit_of(words[p >> 6], p & 63) == 1
+}
+
+// A letter below six at the 64 points of a word. By a match, since a constant array would be built anew at each call.
+fn low_letter(x: usize) -> u64
+    ensures { λ r. ⌜ r ≡ getD lowLetters x 0 ⌝ }
+{
+    match x {
+        0 => 0xaaaa_aaaa_aaaa_aaaa,
+        1 => 0xcccc_cccc_cccc_cccc,
+        2 => 0xf0f0_f0f0_f0f0_f0f0,
+        3 => 0xff00_ff00_ff00_ff00,
+        4 => 0xffff_0000_ffff_0000,
+        5 => 0xffff_ffff_0000_0000,
+        _ => 0,
+    }
+}
+
+// The word with one value at all its points.
+fn constant_word(value: bool) -> u64
+    ensures { λ r. ⌜ r ≡ cond value 0xffff_ffff_ffff_ffff 0 ⌝ }
+{
+    if value { 0xffff_ffff_ffff_ffff } else { 0 }
+}
+
+// Letter x at the points of word w.
+fn letter_word(x: usize, w: usize) -> u64
+    requires { ⌜ x < 10 ⌝ }
+    ensures { λ r. ⌜ r ≡ wordOf (λ i. bit (64 * w + i) x) ⌝ }
+{
+    if x < 6 {
+        return low_letter(x);
+    }
+    constant_word((w >> (x - 6)) % 2 == 1)
+}
+
+// One letter's step within a word.
+fn step_word(word: u64, j: usize) -> u64
+    requires { ⌜ j < 6 ⌝ }
+    ensures { λ r. ⌜ r ≡ wordOf (stepped (bit word) j) ⌝ }
+{
+    word ^ ((word << tables::pow2(j)) & low_letter(j))
+}
+
+// The steps of the six lowest letters.
+fn word_values(word: u64) -> u64
+    ensures { λ r. ⌜ r ≡ wordOf (steppedBelow 6 (bit word)) ⌝ }
+{
+    let mut v = word;
+    let mut j = 6;
+    while 0 < j {
+        j -= 1;
+        v = step_word(v, j);
+    }
+    v
+}
+
+// The steps of the six lowest letters, word by word.
+fn low_values(t: &mut [u64])
+    ensures { λ _. ⌜ now (t .exit) ≡ wordsOf (length (now (t .entry))) (steppedBelow 6 (bitAt (now (t .entry)))) ⌝ }
+{
+    for i in 0..t.len() {
+        t[i] = word_values(t[i]);
+    }
+}
+
 // A block of a step between words: w words, each added to the one w behind it.
 fn add_block(t: &mut [u64], lo: usize, w: usize)
     requires { ⌜ lo + w + w ≤ length (now t) ⌝ }
@@ -170,7 +223,7 @@ fn add_block(t: &mut [u64], lo: usize, w: usize)
 
 // The step of letter 6 + j of 6 + c.
 fn step_words(t: &mut [u64], j: usize, c: usize)
-    requires { ⌜ (j < c) × (c ≤ 4) × IsWords (2 ^ c) (now t) ⌝ }
+    requires { ⌜ (j < c) × (c ≤ 4) × (length (now t) ≡ 2 ^ c) ⌝ }
     ensures { λ _. ⌜ now (t .exit) ≡ wordsOf (2 ^ c) (stepped (bitAt (now (t .entry))) (6 + j)) ⌝ }
 {
     let w = tables::pow2(j);
@@ -180,19 +233,9 @@ fn step_words(t: &mut [u64], j: usize, c: usize)
     }
 }
 
-// The steps of the six lowest letters, word by word.
-fn low_values(t: &mut [u64])
-    requires { ⌜ IsWords (length (now t)) (now t) ⌝ }
-    ensures { λ _. ⌜ now (t .exit) ≡ wordsOf (length (now (t .entry))) (lowStepped (bitAt (now (t .entry)))) ⌝ }
-{
-    for i in 0..t.len() {
-        t[i] = word_values(t[i]);
-    }
-}
-
 // From coefficients to values, or back, in place, of 6 + c letters: the last letter first.
 pub fn to_values(t: &mut [u64], c: usize)
-    requires { ⌜ (c ≤ 4) × IsWords (2 ^ c) (now t) ⌝ }
+    requires { ⌜ (c ≤ 4) × (length (now t) ≡ 2 ^ c) ⌝ }
     ensures { λ _. ⌜ now (t .exit) ≡ wordsOf (2 ^ c) (value (6 + c) (bitAt (now (t .entry)))) ⌝ }
 {
     let mut j = c;
@@ -201,26 +244,6 @@ pub fn to_values(t: &mut [u64], c: usize)
         step_words(t, j, c);
     }
     low_values(t);
-}
-
-// The product of values.
-pub fn multiply_into(d: &mut [u64], s: &[u64])
-    requires { ⌜ IsWords (length (now d)) (now d) × IsWords (length (now d)) (now s) ⌝ }
-    ensures { λ _. ⌜ now (d .exit) ≡ wordsOf (length (now (d .entry))) (λ p. bitAt (now (d .entry)) p && bitAt (now (s .entry)) p) ⌝ }
-{
-    for i in 0..d.len() {
-        d[i] = d[i] & s[i];
-    }
-}
-
-// The letters beyond six.
-fn further(n: usize) -> usize
-    ensures { λ r. ⌜ r ≡ n - 6 ⌝ }
-{
-    if n < 6 {
-        return 0;
-    }
-    n - 6
 }
 
 // The values of a table of coefficients, in words.
@@ -234,96 +257,76 @@ pub fn take_values(n: usize, t: &[u8], words: &mut [u64])
 
 // The table of coefficients whose values stand in words, which it uses up.
 pub fn put_table(n: usize, words: &mut [u64], out: &mut [u8])
-    requires { ⌜ (n ≤ 10) × IsWords (2 ^ (n - 6)) (now words) × (length (now out) ≡ 2 ^ n) ⌝ }
+    requires { ⌜ (n ≤ 10) × (length (now words) ≡ 2 ^ (n - 6)) × (length (now out) ≡ 2 ^ n) ⌝ }
     ensures { λ _. ⌜ now (out .exit) ≡ table n (value n (bitAt (now (words .entry)))) ⌝ }
 {
     to_values(words, further(n));
     unpack(words, out);
 }
 
-fn multiply_with(
-    n: usize,
-    a: &[u8],
-    b: &[u8],
-    out: &mut [u8],
-    first: &mut [u64],
-    second: &mut [u64],
-)
-    requires { ⌜ (n ≤ 10) × IsTable n (now a) × IsTable n (now b) × (length (now out) ≡ 2 ^ n) × (length (now first) ≡ 2 ^ (n - 6)) × (length (now second) ≡ 2 ^ (n - 6)) ⌝ }
-    ensures { λ _. ⌜ now (out .exit) ≡ table n (product n (present (now (a .entry))) (present (now (b .entry)))) ⌝ }
+fn put_copy_with(n: usize, slot: &[u64], out: &mut [u8], own: &mut [u64])
+    requires { ⌜ (n ≤ 10) × (length (now slot) ≡ 2 ^ (n - 6)) × (length (now out) ≡ 2 ^ n) × (length (now own) ≡ 2 ^ (n - 6)) ⌝ }
+    ensures { λ _. ⌜ now (out .exit) ≡ table n (value n (bitAt (now (slot .entry)))) ⌝ }
 {
-    take_values(n, a, first);
-    take_values(n, b, second);
-    multiply_into(first, second);
-    put_table(n, first, out);
+    copy(own, slot);
+    put_table(n, own, out);
 }
 
-// The product of two tables, into a third: by values, and back. The scratch words live here.
-pub fn multiply(n: usize, a: &[u8], b: &[u8], out: &mut [u8])
-    requires { ⌜ (n ≤ 10) × IsTable n (now a) × IsTable n (now b) × (length (now out) ≡ 2 ^ n) ⌝ }
-    ensures { λ _. ⌜ now (out .exit) ≡ table n (product n (present (now (a .entry))) (present (now (b .entry)))) ⌝ }
+// The table of coefficients whose values stand in words, which stay. The scratch words live here.
+pub fn put_copy(n: usize, slot: &[u64], out: &mut [u8])
+    requires { ⌜ (n ≤ 10) × (length (now slot) ≡ 2 ^ (n - 6)) × (length (now out) ≡ 2 ^ n) ⌝ }
+    ensures { λ _. ⌜ now (out .exit) ≡ table n (value n (bitAt (now (slot .entry)))) ⌝ }
 {
     let k = word_count(n);
-    let mut first = [0u64; 16];
-    let mut second = [0u64; 16];
-    multiply_with(n, a, b, out, &mut first[..k], &mut second[..k]);
+    let mut own = [0u64; 16];
+    put_copy_with(n, slot, out, &mut own[..k]);
 }
 
-const ONES: u64 = 0xffff_ffff_ffff_ffff;
+pub fn copy(d: &mut [u64], s: &[u64])
+    requires { ⌜ length (now d) ≡ length (now s) ⌝ }
+    ensures { λ _. ⌜ now (d .exit) ≡ now (s .entry) ⌝ }
+{
+    for i in 0..d.len() {
+        d[i] = s[i];
+    }
+}
 
-// Letter x at the points of word w.
-fn letter_word(x: usize, w: usize) -> u64
+// The values of letter x.
+pub fn letter(x: usize, out: &mut [u64])
     requires { ⌜ x < 10 ⌝ }
-    ensures { λ r. ⌜ r ≡ wordOf (λ i. bit (64 * w + i) x) ⌝ }
-{
-    if x < 6 {
-        return LOW_LETTERS[x];
-    }
-    if (w >> (x - 6)) % 2 == 1 {
-        return ONES;
-    }
-    0
-}
-
-// A word with each point's value at the point with letter x turned over.
-fn turn_word(word: u64, x: usize) -> u64
-    requires { ⌜ x < 6 ⌝ }
-    ensures { λ r. ⌜ r ≡ wordOf (λ i. bit word (turned x i)) ⌝ }
-{
-    let mask = LOW_LETTERS[x];
-    let width = tables::pow2(x);
-    ((word & mask) >> width) | ((word << width) & mask)
-}
-
-// Word i of f with letter x turned over.
-fn turned_word(f: &[u64], x: usize, i: usize, c: usize) -> u64
-    requires { ⌜ (x < 6 + c) × (c ≤ 4) × (length (now f) ≡ 2 ^ c) × (i < 2 ^ c) ⌝ }
-    ensures { λ r. ⌜ r ≡ wordOf (λ b. bitAt (now (f .entry)) (turned x (64 * i + b))) ⌝ }
-{
-    if x < 6 {
-        return turn_word(f[i], x);
-    }
-    f[i ^ tables::pow2(x - 6)]
-}
-
-// The product of the two cases of letter x.
-pub fn both_cases(f: &[u64], x: usize, c: usize, out: &mut [u64])
-    requires { ⌜ (x < 6 + c) × (c ≤ 4) × (length (now f) ≡ 2 ^ c) × (length (now out) ≡ 2 ^ c) ⌝ }
-    ensures { λ _. ⌜ now (out .exit) ≡ wordsOf (2 ^ c) (λ p. bitAt (now (f .entry)) (assign p x true) && bitAt (now (f .entry)) (assign p x false)) ⌝ }
+    ensures { λ _. ⌜ now (out .exit) ≡ wordsOf (length (now (out .entry))) (λ p. bit p x) ⌝ }
 {
     for i in 0..out.len() {
-        out[i] = f[i] & turned_word(f, x, i, c);
+        out[i] = letter_word(x, i);
     }
 }
 
-// f with the values a put for letter x.
-pub fn replace(f: &[u64], x: usize, a: &[u64], c: usize, out: &mut [u64])
-    requires { ⌜ (x < 6 + c) × (c ≤ 4) × (length (now f) ≡ 2 ^ c) × (length (now a) ≡ 2 ^ c) × (length (now out) ≡ 2 ^ c) ⌝ }
-    ensures { λ _. ⌜ now (out .exit) ≡ wordsOf (2 ^ c) (λ p. bitAt (now (f .entry)) (assign p x (bitAt (now (a .entry)) p))) ⌝ }
+// The sum.
+pub fn add_into(d: &mut [u64], s: &[u64])
+    requires { ⌜ length (now d) ≡ length (now s) ⌝ }
+    ensures { λ _. ⌜ now (d .exit) ≡ wordsOf (length (now (d .entry))) (λ p. bitAt (now (d .entry)) p ⊕ bitAt (now (s .entry)) p) ⌝ }
 {
-    for i in 0..out.len() {
-        let own = f[i];
-        out[i] = own ^ ((a[i] ^ letter_word(x, i)) & (own ^ turned_word(f, x, i, c)));
+    for i in 0..d.len() {
+        d[i] = d[i] ^ s[i];
+    }
+}
+
+// The product.
+pub fn multiply_into(d: &mut [u64], s: &[u64])
+    requires { ⌜ length (now d) ≡ length (now s) ⌝ }
+    ensures { λ _. ⌜ now (d .exit) ≡ wordsOf (length (now (d .entry))) (λ p. bitAt (now (d .entry)) p && bitAt (now (s .entry)) p) ⌝ }
+{
+    for i in 0..d.len() {
+        d[i] = d[i] & s[i];
+    }
+}
+
+// The complement.
+pub fn complement(d: &mut [u64])
+    ensures { λ _. ⌜ now (d .exit) ≡ wordsOf (length (now (d .entry))) (λ p. bitAt (now (d .entry)) p ⊕ true) ⌝ }
+{
+    for i in 0..d.len() {
+        d[i] = d[i] ^ 0xffff_ffff_ffff_ffff;
     }
 }
 
@@ -337,12 +340,73 @@ pub fn add_letter(d: &mut [u64], x: usize)
     }
 }
 
-pub fn copy(d: &mut [u64], s: &[u64])
-    requires { ⌜ length (now d) ≡ length (now s) ⌝ }
-    ensures { λ _. ⌜ now (d .exit) ≡ now (s .entry) ⌝ }
+// f with a letter below six turned over: the two halves of each pair of blocks change places.
+fn turn_low(f: &[u64], x: usize, out: &mut [u64])
+    requires { ⌜ (x < 6) × (length (now f) ≡ length (now out)) ⌝ }
+    ensures { λ _. ⌜ now (out .exit) ≡ wordsOf (length (now (out .entry))) (λ p. bitAt (now (f .entry)) (turned x p)) ⌝ }
 {
-    for i in 0..d.len() {
-        d[i] = s[i];
+    let mask = low_letter(x);
+    let width = tables::pow2(x);
+    for i in 0..out.len() {
+        let word = f[i];
+        out[i] = ((word & mask) >> width) | ((word << width) & mask);
+    }
+}
+
+// f with letter 6 + j of 6 + c turned over: whole words change places.
+fn turn_high(f: &[u64], j: usize, c: usize, out: &mut [u64])
+    requires { ⌜ (j < c) × (c ≤ 4) × (length (now f) ≡ 2 ^ c) × (length (now out) ≡ 2 ^ c) ⌝ }
+    ensures { λ _. ⌜ now (out .exit) ≡ wordsOf (2 ^ c) (λ p. bitAt (now (f .entry)) (turned (6 + j) p)) ⌝ }
+{
+    let width = tables::pow2(j);
+    for i in 0..out.len() {
+        out[i] = f[i ^ width];
+    }
+}
+
+// f with letter x turned over.
+pub fn turn(f: &[u64], x: usize, c: usize, out: &mut [u64])
+    requires { ⌜ (x < 6 + c) × (c ≤ 4) × (length (now f) ≡ 2 ^ c) × (length (now out) ≡ 2 ^ c) ⌝ }
+    ensures { λ _. ⌜ now (out .exit) ≡ wordsOf (2 ^ c) (λ p. bitAt (now (f .entry)) (turned x p)) ⌝ }
+{
+    if x < 6 {
+        turn_low(f, x, out);
+    } else {
+        turn_high(f, x - 6, c, out);
+    }
+}
+
+// f with letter x set to a value.
+pub fn restrict(f: &[u64], x: usize, value: bool, c: usize, out: &mut [u64])
+    requires { ⌜ (x < 6 + c) × (c ≤ 4) × (length (now f) ≡ 2 ^ c) × (length (now out) ≡ 2 ^ c) ⌝ }
+    ensures { λ _. ⌜ now (out .exit) ≡ wordsOf (2 ^ c) (λ p. bitAt (now (f .entry)) (assign p x value)) ⌝ }
+{
+    turn(f, x, c, out);
+    let set = constant_word(value);
+    for i in 0..out.len() {
+        let own = f[i];
+        out[i] = own ^ ((set ^ letter_word(x, i)) & (own ^ out[i]));
+    }
+}
+
+// The product of the two cases of letter x.
+pub fn both_cases(f: &[u64], x: usize, c: usize, out: &mut [u64])
+    requires { ⌜ (x < 6 + c) × (c ≤ 4) × (length (now f) ≡ 2 ^ c) × (length (now out) ≡ 2 ^ c) ⌝ }
+    ensures { λ _. ⌜ now (out .exit) ≡ wordsOf (2 ^ c) (λ p. bitAt (now (f .entry)) (assign p x true) && bitAt (now (f .entry)) (assign p x false)) ⌝ }
+{
+    turn(f, x, c, out);
+    multiply_into(out, f);
+}
+
+// f with the values a put for letter x.
+pub fn replace(f: &[u64], x: usize, a: &[u64], c: usize, out: &mut [u64])
+    requires { ⌜ (x < 6 + c) × (c ≤ 4) × (length (now f) ≡ 2 ^ c) × (length (now a) ≡ 2 ^ c) × (length (now out) ≡ 2 ^ c) ⌝ }
+    ensures { λ _. ⌜ now (out .exit) ≡ wordsOf (2 ^ c) (λ p. bitAt (now (f .entry)) (assign p x (bitAt (now (a .entry)) p))) ⌝ }
+{
+    turn(f, x, c, out);
+    for i in 0..out.len() {
+        let own = f[i];
+        out[i] = own ^ ((a[i] ^ letter_word(x, i)) & (own ^ out[i]));
     }
 }
 
@@ -364,32 +428,6 @@ pub fn replace_in(a: &mut [u64], x: usize, slot: &[u64], c: usize)
     replace_with(a, x, slot, c, &mut old[..k]);
 }
 
-// The value that words hold at a point.
-pub fn value_at(words: &[u64], p: usize) -> bool
-    requires { ⌜ p < 64 * length (now words) ⌝ }
-    ensures { λ r. ⌜ r ≡ bitAt (now (words .entry)) p ⌝ }
-{
-    bit_of(words[p >> 6], p & 63) == 1
-}
-
-fn put_copy_with(n: usize, slot: &[u64], out: &mut [u8], own: &mut [u64])
-    requires { ⌜ (n ≤ 10) × (length (now slot) ≡ 2 ^ (n - 6)) × (length (now out) ≡ 2 ^ n) × (length (now own) ≡ 2 ^ (n - 6)) ⌝ }
-    ensures { λ _. ⌜ now (out .exit) ≡ table n (value n (bitAt (now (slot .entry)))) ⌝ }
-{
-    copy(own, slot);
-    put_table(n, own, out);
-}
-
-// The table of coefficients whose values stand in words, which stay. The scratch words live here.
-pub fn put_copy(n: usize, slot: &[u64], out: &mut [u8])
-    requires { ⌜ (n ≤ 10) × (length (now slot) ≡ 2 ^ (n - 6)) × (length (now out) ≡ 2 ^ n) ⌝ }
-    ensures { λ _. ⌜ now (out .exit) ≡ table n (value n (bitAt (now (slot .entry)))) ⌝ }
-{
-    let k = word_count(n);
-    let mut own = [0u64; 16];
-    put_copy_with(n, slot, out, &mut own[..k]);
-}
-
 // Löwenheim's formula at every point: x + f*(x + b).
 pub fn mix(f: &[u64], x: usize, b: &[u64], out: &mut [u64])
     requires { ⌜ (x < 10) × (length (now f) ≡ length (now out)) × (length (now b) ≡ length (now out)) ⌝ }
@@ -399,4 +437,30 @@ pub fn mix(f: &[u64], x: usize, b: &[u64], out: &mut [u64])
         let letter = letter_word(x, i);
         out[i] = letter ^ (f[i] & (letter ^ b[i]));
     }
+}
+
+// The first point with the value 1, the number of points if there is none.
+pub fn first_one(words: &[u64]) -> usize
+    requires { ⌜ length (now words) ≤ 16 ⌝ }
+    ensures { λ r. ⌜ First (64 * length (now (words .entry))) (bitAt (now (words .entry))) r ⌝ }
+{
+    for i in 0..words.len() {
+        let word = words[i];
+        if word != 0 {
+            return 64 * i + u64::trailing_zeros(word) as usize;
+        }
+    }
+    64 * words.len()
+}
+
+// The number of points with the value 1.
+pub fn count_ones(words: &[u64]) -> usize
+    requires { ⌜ length (now words) ≤ 16 ⌝ }
+    ensures { λ r. ⌜ r ≡ count (64 * length (now (words .entry))) (bitAt (now (words .entry))) ⌝ }
+{
+    let mut sum = 0;
+    for i in 0..words.len() {
+        sum += u64::count_ones(words[i]) as usize;
+    }
+    sum
 }
