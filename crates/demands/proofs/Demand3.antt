@@ -1,20 +1,24 @@
 -- THE THEOREM: demand 3 holds of the bytes that are archived for every accepted text, every U and G, every route and every list of letters.
--- The bytes are `entry route U G t`, which `write_entry` writes and `read_entry` and `audit` read; t is the table that `read_text` reads the text into.
+-- The bytes are `entry route U G t`, where t is the text's table; that the calls hand these over is `over-the-calls`.
 -- What the entry's records say is right (`entry-right`), and a written entry reads back (`reads-back`); both are put into the demand's own words here.
 -- Assumes nothing.
-use mathlib.Core.Path.{_≡_, refl, sym, _∙_}
+use mathlib.Core.Path.{_≡_, refl, sym, ap, _∙_}
 use mathlib.Core.Bool.{Bool, true, false, _||_, cond}
 use mathlib.Core.Logic.{_↔_}
 use mathlib.Core.List.{List, [], _∷_, _++_}
-use Prim.Native.Nat.{ℕ, _+_}
+use Prim.Native.Nat.{ℕ, _+_, _<_}
 use native.Mathlib.Omega.{arith}
+use lib.Dec.{ltb}
+use borrow.Author.Tests.{ltb-true}
 use Rattle.ring.specs.declared.State.{State}
+use Rattle.ring.specs.Polynomial.{Polynomial, value}
 use Rattle.ring.specs.Table.{present}
-use Rattle.solution.specs.Letters.{Letter, HoldsGivens}
-use Rattle.solution.specs.Substitution.{Substitution, ownLetters, MakesZero}
+use Rattle.ring.proofs.Points.{pointWhere-cong}
+use Rattle.solution.specs.Letters.{Letter, HoldsGivens, Valuation, valueOver}
+use Rattle.solution.specs.Substitution.{Substitution, letterAt, ownLetters, MakesZero}
 use Rattle.solution.specs.Elimination.{solved, none, defaultOrder, solve}
 use Rattle.solution.specs.General.{RightVerdict}
-use Rattle.solution.proofs.Letters.{own-holds}
+use Rattle.solution.proofs.Letters.{replacedValue, value-putIn, own-holds}
 use Rattle.grammar.specs.Text.{textTable}
 use Rattle.notation.specs.Text.{Accepted}
 use Rattle.notation.proofs.Refusal.{text-is-table}
@@ -47,6 +51,19 @@ says-solved a (r ∷ rs) h = go (isNone r) (says-solved a rs) h
     go true ih e = let z : _≡_ {A = ℕ} 0 1 = cc in absurd (omega arith)
     go false ih e = ih e
 
+-- a substitution of the same values makes the condition zero too
+same-zero : (U G : ℕ) (f : Polynomial) (L : List Letter) → HoldsGivens G L → (σ τ : Substitution)
+    → ((j : ℕ) → j < U → (v : Valuation) → valueOver L (σ j) v ≡ valueOver L (τ j) v) → MakesZero U G f L σ → MakesZero U G f L τ
+unfolding replacedValue
+same-zero U G f L givens σ τ same zero-of v =
+    value-putIn U G L givens f τ v
+    ∙ ap (value (U + G) f) (pointWhere-cong (U + G) _ _ (λ j l. go j (ltb j U) refl))
+    ∙ sym (value-putIn U G L givens f σ v) ∙ zero-of v
+  where
+    go : (j : ℕ) (b : Bool) → ltb j U ≡ b → cond b (valueOver L (τ j) v) (v (letterAt U j)) ≡ cond b (valueOver L (σ j) v) (v (letterAt U j))
+    go j true e = sym (same j (ltb-true j U e) v)
+    go j false e = refl
+
 -- the demand, of records whose verdict is right
 module _ (U G : ℕ) (t e : List ℕ) (r : RightVerdict U G (defaultOrder U) (present t) (says (records e))) where
   one-list : (L : List Letter) → HoldsGivens G L → (hasNone (records e) ≡ true) ↔ ((σ : Substitution) → ¬ MakesZero U G (present t) L σ)
@@ -67,7 +84,7 @@ module _ (U G : ℕ) (t e : List ℕ) (r : RightVerdict U G (defaultOrder U) (pr
   unfolding says
   without-none h = says-solved (answersIn (records e)) (records e) h
 
-  right-demand : heldCondition (records e) ≡ t → heldVerdict (records e) ≡ solve U G (defaultOrder U) t → Demand3 U G t e
+  pub right-demand : heldCondition (records e) ≡ t → heldVerdict (records e) ≡ solve U G (defaultOrder U) t → Demand3 U G t e
   right-demand condition verdict =
       record {
         none-exactly = (λ h L g. one-list L g .0 h, λ all. one-list (ownLetters U G) (own-holds U G) .1 (all (ownLetters U G) (own-holds U G)));
@@ -75,6 +92,7 @@ module _ (U G : ℕ) (t e : List ℕ) (r : RightVerdict U G (defaultOrder U) (pr
         smallest-state = r .state;
         holds-booles = λ h. r .booles _ (without-none h);
         makes-zero = λ h. r .general _ (without-none h) .makes-zero;
+        each-makes-zero = λ h L g σ i v. same-zero U G (present t) L g _ σ (i .1) (r .general _ (without-none h) .each-makes-zero L g (i .0)) v;
         every-instance = λ h. r .general _ (without-none h) .every-instance;
         each-other = λ h. r .lowenheims _ (without-none h);
         condition-read = condition;

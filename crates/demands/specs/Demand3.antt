@@ -34,9 +34,12 @@ pub record Demand3 (U G : ℕ) (t e : List ℕ) : Type 0 where
       → answersIn (records e) j m ≡ booleAnswers (U + G) (present t) (defaultOrder U) j m
   -- .. they make the condition zero ..
   pub makes-zero : hasNone (records e) ≡ false → MakesZero U G (present t) (ownLetters U G) (answersIn (records e))
+  -- .. every instance of them, over any list that holds the givens, makes the condition zero ..
+  pub each-makes-zero : hasNone (records e) ≡ false → (L : List Letter) → HoldsGivens G L → (σ : Substitution)
+      → InstanceOf U G (answersIn (records e)) L σ → MakesZero U G (present t) L σ
   -- .. every substitution that makes the condition zero, over any list that holds the givens, is an instance of them ..
-  pub every-instance : hasNone (records e) ≡ false → (L : List Letter) → HoldsGivens G L → (σ : Substitution) → MakesZero U G (present t) L σ
-      → InstanceOf U G (answersIn (records e)) L σ
+  pub every-instance : hasNone (records e) ≡ false → (L : List Letter) → HoldsGivens G L → (σ : Substitution)
+      → MakesZero U G (present t) L σ → InstanceOf U G (answersIn (records e)) L σ
   -- .. and they and the engine's own Löwenheim answers are instances of each other
   pub each-other : hasNone (records e) ≡ false → InstancesOfEachOther U G (answersIn (records e)) (ownLowenheim U G (defaultOrder U) (present t))
   -- reading gives the same condition, and the same answers or 'none' and the state
