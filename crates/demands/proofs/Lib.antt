@@ -1,3 +1,4 @@
+pub mod Refuted
 pub mod Demand3
 pub mod OverTheCalls
 pub mod StarredRows

@@ -1,0 +1,338 @@
+-- Wrong archives: for a small condition each, the bytes that a wrong program would archive contradict demand 3 (document 01, 'Agreement').
+-- Each refutation rests on the one field of `Demand3` that stands beside it in brackets, so that none can be left out or turned round.
+-- The bytes of an archive stand a record to a line, those of a table by masks, as in the bench table. The route is 7.
+-- Assumes nothing.
+use mathlib.Core.Path.{_≡_, refl, sym, ap, _∙_}
+use mathlib.Core.Bool.{true, false, true≢false}
+use mathlib.Core.List.{List, [], _∷_}
+use Prim.Native.Nat.{ℕ, zero, suc, _<_}
+use native.Mathlib.Omega.{arith}
+use lib.ListN.{getD}
+use Rattle.ring.specs.Letters.{bit, point, pointWhere}
+use Rattle.ring.specs.Polynomial.{count, odd, within, value, constant, letter, sum, product, restrict, monomial, substitute, everyBelow}
+use Rattle.ring.specs.Table.{present, tabulate, table, answerTable}
+use Rattle.ring.specs.Lists.{listed}
+use Rattle.solution.specs.Letters.{Letter, unknown, given, other, HoldsGivens, place, Valuation, pointOf, valueOver}
+use Rattle.solution.specs.Substitution.{Substitution, letterAt, ownLetters, putIn, MakesZero, InstanceOf}
+use Rattle.solution.specs.Elimination.{solved, nextCondition, remains, answerFrom, booleAnswers, particular, lowenheim, ownLowenheim, defaultOrder, isZero, solvable, solve}
+use Rattle.solution.specs.General.{SmallestBlocked}
+use Rattle.solution.proofs.Letters.{value-putIn, own-holds}
+use Rattle.entry.specs.Held.{next, firstRecords, records, hasMonomial, conditionIn, answersIn, unlessNone, says, heldCondition, heldVerdict}
+use Rattle.demands.specs.Demand3.{hasNone, Demand3}
+
+no-givens : (L : List Letter) → HoldsGivens 0 L
+no-givens L i h = absurd (omega arith)
+
+-- ---- the conditions
+
+-- (0,0) `1`
+abbrev the-one : List ℕ
+the-one = 1 ∷ []
+
+-- (0,1) `1`
+abbrev one-beside-a : List ℕ
+one-beside-a = 1 ∷ 0 ∷ []
+
+-- (1,0) `u`
+abbrev u : List ℕ
+u = 0 ∷ 1 ∷ []
+
+-- (1,1) `a`
+abbrev a : List ℕ
+a = 0 ∷ 0 ∷ 1 ∷ 0 ∷ []
+
+-- (2,0) `u+v`
+abbrev u+v : List ℕ
+u+v = 0 ∷ 1 ∷ 1 ∷ 0 ∷ []
+
+-- (2,0) `u*v`
+abbrev u*v : List ℕ
+u*v = 0 ∷ 0 ∷ 0 ∷ 1 ∷ []
+
+-- ---- solutions left out
+
+-- u = 1, v = 0 solves u*v
+one-zero : Substitution
+one-zero zero = constant true
+one-zero (suc j) = constant false
+
+one-zero-solves : MakesZero 2 0 (present u*v) [] one-zero
+unfolding valueOver putIn substitute monomial product odd count value within constant letter place letterAt bit pointOf present one-zero
+one-zero-solves v = refl
+
+-- the particular solution archived as the general one: u = 0, v = 0 for u*v leaves u = 1, v = 0 out (every-instance)
+abbrev particular-archived : List ℕ
+particular-archived =
+    1 ∷ 7 ∷ 2 ∷ 0
+    ∷ 2 ∷ 3 ∷ 0
+    ∷ 4 ∷ 7
+    ∷ []
+
+pub particular-refuted : Demand3 2 0 u*v particular-archived → ⊥
+unfolding hasNone records firstRecords next answersIn hasMonomial valueOver putIn substitute product odd count value within constant pointOf one-zero
+particular-refuted h =
+    let instance : InstanceOf 2 0 (answersIn (records particular-archived)) [] one-zero = h .every-instance refl [] (no-givens []) one-zero one-zero-solves in
+    true≢false (sym (instance .1 0 (omega arith) (λ l. true)))
+
+only-u : Valuation
+only-u (unknown zero) = true
+only-u (unknown (suc j)) = false
+only-u (given i) = false
+only-u (other k) = false
+
+-- u = 0, v = v for u*v: Löwenheim's answer u = u + u*v is no instance, since it is 1 where u alone is (each-other)
+abbrev left-out-archived : List ℕ
+left-out-archived =
+    1 ∷ 7 ∷ 2 ∷ 0
+    ∷ 2 ∷ 3 ∷ 0
+    ∷ 3 ∷ 1 ∷ 2 ∷ 0
+    ∷ 4 ∷ 7
+    ∷ []
+
+pub left-out-refuted : Demand3 2 0 u*v left-out-archived → ⊥
+unfolding hasNone records firstRecords next answersIn hasMonomial valueOver putIn substitute monomial product odd count value within constant letter pointOf present listed ownLetters letterAt place bit sum restrict nextCondition answerFrom booleAnswers particular lowenheim ownLowenheim defaultOrder only-u
+left-out-refuted h =
+    let instance : InstanceOf 2 0 (answersIn (records left-out-archived)) (ownLetters 2 0) (ownLowenheim 2 0 (defaultOrder 2) (present u*v)) = h .each-other refl .forth in
+    true≢false (sym (instance .1 0 (omega arith) only-u))
+
+-- ---- answers that do not make the condition zero
+
+-- u = 1
+one : Substitution
+one j = constant true
+
+-- the untouched unknown, u = u for u: its instance u = 1 does not make u zero (each-makes-zero)
+abbrev unknowns-archived : List ℕ
+unknowns-archived =
+    1 ∷ 7 ∷ 1 ∷ 0
+    ∷ 2 ∷ 1 ∷ 0
+    ∷ 3 ∷ 0 ∷ 1 ∷ 0
+    ∷ 4 ∷ 7
+    ∷ []
+
+one-instance : InstanceOf 1 0 (answersIn (records unknowns-archived)) [] one
+unfolding records firstRecords next answersIn hasMonomial valueOver putIn substitute monomial product odd count value within constant pointOf bit one
+one-instance = (one, same)
+  where
+    same : (j : ℕ) → j < 1 → (v : Valuation) → valueOver [] (putIn 1 0 [] (answersIn (records unknowns-archived) j) one) v ≡ valueOver [] (one j) v
+    same zero l v = refl
+    same (suc j) l v = absurd (omega arith)
+
+pub unknowns-refuted : Demand3 1 0 u unknowns-archived → ⊥
+unfolding hasNone records firstRecords next valueOver putIn substitute monomial product odd count value within constant bit pointOf present one
+unknowns-refuted h = true≢false (h .each-makes-zero refl [] (no-givens []) one one-instance (λ l. true))
+
+-- r and s exchanged: x*(r + s + 1) + r is 1 for u (makes-zero)
+abbrev exchanged-archived : List ℕ
+exchanged-archived =
+    1 ∷ 7 ∷ 1 ∷ 0
+    ∷ 2 ∷ 1 ∷ 0
+    ∷ 3 ∷ 0 ∷ 0 ∷ 0
+    ∷ 4 ∷ 7
+    ∷ []
+
+pub exchanged-refuted : Demand3 1 0 u exchanged-archived → ⊥
+unfolding hasNone records firstRecords next answersIn hasMonomial valueOver putIn substitute monomial product odd count value within constant letter bit pointOf present ownLetters listed
+exchanged-refuted h = true≢false (h .makes-zero refl (λ l. true))
+
+-- ---- 'none' and solved
+
+-- 'none' where there is a solution: u = 0 solves u (none-exactly, and none-on-list)
+abbrev none-archived : List ℕ
+none-archived =
+    1 ∷ 7 ∷ 1 ∷ 0
+    ∷ 2 ∷ 1 ∷ 0
+    ∷ 5 ∷ 0
+    ∷ 4 ∷ 7
+    ∷ []
+
+zero-solves : MakesZero 1 0 (present u) [] (λ j. constant false)
+unfolding valueOver putIn substitute monomial product odd count value within constant pointOf present bit
+zero-solves v = refl
+
+pub none-refuted : Demand3 1 0 u none-archived → ⊥
+unfolding hasNone records firstRecords next
+none-refuted h =
+    let nothing-solves : (L : List Letter) → HoldsGivens 0 L → (σ : Substitution) → ¬ MakesZero 1 0 (present u) L σ = h .none-exactly .0 refl in
+    nothing-solves [] (no-givens []) (λ j. constant false) zero-solves
+
+pub none-refuted-on-list : Demand3 1 0 u none-archived → ⊥
+unfolding hasNone records firstRecords next
+none-refuted-on-list h =
+    let nothing-solves : (σ : Substitution) → ¬ MakesZero 1 0 (present u) [] σ = h .none-on-list [] (no-givens []) .0 refl in
+    nothing-solves (λ j. constant false) zero-solves
+
+-- solved where there is no solution: nothing makes 1 zero, over any list (none-exactly)
+abbrev solved-archived : List ℕ
+solved-archived =
+    1 ∷ 7 ∷ 0 ∷ 0
+    ∷ 2 ∷ 0 ∷ 0
+    ∷ 4 ∷ 7
+    ∷ []
+
+one-unsolved : (L : List Letter) → HoldsGivens 0 L → (σ : Substitution) → ¬ MakesZero 0 0 (present the-one) L σ
+unfolding value odd count within present pointWhere
+one-unsolved L g σ z = true≢false (sym (value-putIn 0 0 L g (present the-one) σ (λ l. true)) ∙ z (λ l. true))
+
+pub solved-refuted : Demand3 0 0 the-one solved-archived → ⊥
+unfolding hasNone records firstRecords next
+solved-refuted h = true≢false (sym (h .none-exactly .1 one-unsolved))
+
+-- 'none' only when the condition is the polynomial 1: a is not, and no answer makes it zero (none-on-list)
+abbrev not-one-archived : List ℕ
+not-one-archived =
+    1 ∷ 7 ∷ 1 ∷ 1
+    ∷ 2 ∷ 2 ∷ 0
+    ∷ 4 ∷ 7
+    ∷ []
+
+a-unsolved : (σ : Substitution) → ¬ MakesZero 1 1 (present a) (ownLetters 1 1) σ
+unfolding valueOver putIn substitute monomial product odd count value within constant letter place letterAt bit pointOf present ownLetters listed
+a-unsolved σ z = true≢false (z (λ l. true))
+
+pub not-one-refuted : Demand3 1 1 a not-one-archived → ⊥
+unfolding hasNone records firstRecords next
+not-one-refuted h = true≢false (sym (h .none-on-list (ownLetters 1 1) (own-holds 1 1) .1 a-unsolved))
+
+-- ---- the state
+
+-- a later state than the smallest: 1 for the condition 1, which is blocked in 0 (smallest-state)
+abbrev later-archived : List ℕ
+later-archived =
+    1 ∷ 7 ∷ 0 ∷ 1
+    ∷ 2 ∷ 0 ∷ 0
+    ∷ 5 ∷ 1
+    ∷ 4 ∷ 7
+    ∷ []
+
+pub later-refuted : Demand3 0 1 one-beside-a later-archived → ⊥
+unfolding records firstRecords next says unlessNone value odd count within present point
+later-refuted h =
+    let smallest : SmallestBlocked 0 1 (present one-beside-a) (record { 0 = 1 }) = h .smallest-state (record { 0 = 1 }) refl in
+    smallest .smallest (record { 0 = 0 }) (omega arith) (λ choice l. refl)
+
+-- a state that was not examined: 0 for a, which is blocked in 1 alone (smallest-state)
+abbrev open-archived : List ℕ
+open-archived =
+    1 ∷ 7 ∷ 1 ∷ 1
+    ∷ 2 ∷ 2 ∷ 0
+    ∷ 5 ∷ 0
+    ∷ 4 ∷ 7
+    ∷ []
+
+pub open-refuted : Demand3 1 1 a open-archived → ⊥
+unfolding records firstRecords next says unlessNone value odd count within present point
+open-refuted h =
+    let smallest : SmallestBlocked 1 1 (present a) (record { 0 = 0 }) = h .smallest-state (record { 0 = 0 }) refl in
+    true≢false (sym (smallest .blocked (record { 0 = 0 }) (omega arith)))
+
+-- ---- to the monomial
+
+-- Löwenheim's answers, u*v for both, in the place of Boole's for u+v: a general solution too, and not the one that is promised (holds-booles)
+abbrev lowenheim-archived : List ℕ
+lowenheim-archived =
+    1 ∷ 7 ∷ 2 ∷ 0
+    ∷ 2 ∷ 1 ∷ 0
+    ∷ 2 ∷ 2 ∷ 0
+    ∷ 3 ∷ 0 ∷ 3 ∷ 0
+    ∷ 3 ∷ 1 ∷ 3 ∷ 0
+    ∷ 4 ∷ 7
+    ∷ []
+
+pub lowenheim-refuted : Demand3 2 0 u+v lowenheim-archived → ⊥
+unfolding hasNone records firstRecords next answersIn hasMonomial booleAnswers answerFrom nextCondition defaultOrder listed substitute monomial product restrict sum constant letter odd count bit present
+lowenheim-refuted h = true≢false (h .holds-booles refl 0 3 (omega arith) (omega arith))
+
+-- one monomial less in an answer: u = u for u*v, whose answer is u + u*v (holds-booles)
+abbrev less-archived : List ℕ
+less-archived =
+    1 ∷ 7 ∷ 2 ∷ 0
+    ∷ 2 ∷ 3 ∷ 0
+    ∷ 3 ∷ 0 ∷ 1 ∷ 0
+    ∷ 3 ∷ 1 ∷ 2 ∷ 0
+    ∷ 4 ∷ 7
+    ∷ []
+
+pub less-refuted : Demand3 2 0 u*v less-archived → ⊥
+unfolding hasNone records firstRecords next answersIn hasMonomial booleAnswers answerFrom nextCondition defaultOrder listed substitute monomial product restrict sum constant letter odd count bit present
+less-refuted h = true≢false (sym (h .holds-booles refl 0 3 (omega arith) (omega arith)))
+
+-- the answer tables of u+v: u = v, v = v
+abbrev u=v : List ℕ
+u=v = 0 ∷ 0 ∷ 1 ∷ 0 ∷ 0 ∷ 0 ∷ 1 ∷ 0 ∷ []
+
+same-tables : {x y : List ℕ} → solved x ≡ solved y → x ≡ y
+same-tables e = cc
+
+-- and one more: v = v + u*v for u+v, whose answer is v (verdict-read)
+abbrev more-archived : List ℕ
+more-archived =
+    1 ∷ 7 ∷ 2 ∷ 0
+    ∷ 2 ∷ 1 ∷ 0
+    ∷ 2 ∷ 2 ∷ 0
+    ∷ 3 ∷ 0 ∷ 2 ∷ 0
+    ∷ 3 ∷ 1 ∷ 2 ∷ 0
+    ∷ 3 ∷ 1 ∷ 3 ∷ 0
+    ∷ 4 ∷ 7
+    ∷ []
+
+pub more-refuted : Demand3 2 0 u+v more-archived → ⊥
+unfolding records firstRecords next heldVerdict unlessNone answersIn hasMonomial answerTable tabulate solve solvable isZero everyBelow remains booleAnswers answerFrom nextCondition defaultOrder listed substitute monomial product restrict sum constant letter odd count bit present
+more-refuted h =
+    let read : 0 ∷ 0 ∷ 1 ∷ 0 ∷ 0 ∷ 0 ∷ 1 ∷ 1 ∷ [] ≡ u=v = same-tables (h .verdict-read) in
+    let z : _≡_ {A = ℕ} 1 0 = ap (λ (l : List ℕ). getD l 7 0) read in
+    omega arith
+
+-- U and G exchanged in the record of kind 1: reading u+v finds no answer tables (verdict-read)
+abbrev counts-exchanged-archived : List ℕ
+counts-exchanged-archived =
+    1 ∷ 7 ∷ 0 ∷ 2
+    ∷ 2 ∷ 1 ∷ 0
+    ∷ 2 ∷ 2 ∷ 0
+    ∷ 3 ∷ 0 ∷ 2 ∷ 0
+    ∷ 3 ∷ 1 ∷ 2 ∷ 0
+    ∷ 4 ∷ 7
+    ∷ []
+
+pub counts-exchanged-refuted : Demand3 2 0 u+v counts-exchanged-archived → ⊥
+unfolding records firstRecords next heldVerdict unlessNone answersIn hasMonomial answerTable tabulate solve solvable isZero everyBelow remains booleAnswers answerFrom nextCondition defaultOrder listed substitute monomial product restrict sum constant letter odd count bit present
+counts-exchanged-refuted h =
+    let read : [] ≡ u=v = same-tables (h .verdict-read) in
+    let z : _≡_ {A = ℕ} 0 1 = ap (λ (l : List ℕ). getD l 2 0) read in
+    omega arith
+
+-- a monomial of the condition left out, v of u+v, beside the right answers (condition-read)
+abbrev condition-less-archived : List ℕ
+condition-less-archived =
+    1 ∷ 7 ∷ 2 ∷ 0
+    ∷ 2 ∷ 1 ∷ 0
+    ∷ 3 ∷ 0 ∷ 2 ∷ 0
+    ∷ 3 ∷ 1 ∷ 2 ∷ 0
+    ∷ 4 ∷ 7
+    ∷ []
+
+pub condition-less-refuted : Demand3 2 0 u+v condition-less-archived → ⊥
+unfolding records firstRecords next heldCondition conditionIn hasMonomial table tabulate
+condition-less-refuted h =
+    let read : 0 ∷ 1 ∷ 0 ∷ 0 ∷ [] ≡ u+v = h .condition-read in
+    let z : _≡_ {A = ℕ} 0 1 = ap (λ (l : List ℕ). getD l 2 0) read in
+    omega arith
+
+-- and one more, u*v (condition-read)
+abbrev condition-more-archived : List ℕ
+condition-more-archived =
+    1 ∷ 7 ∷ 2 ∷ 0
+    ∷ 2 ∷ 1 ∷ 0
+    ∷ 2 ∷ 2 ∷ 0
+    ∷ 2 ∷ 3 ∷ 0
+    ∷ 3 ∷ 0 ∷ 2 ∷ 0
+    ∷ 3 ∷ 1 ∷ 2 ∷ 0
+    ∷ 4 ∷ 7
+    ∷ []
+
+pub condition-more-refuted : Demand3 2 0 u+v condition-more-archived → ⊥
+unfolding records firstRecords next heldCondition conditionIn hasMonomial table tabulate
+condition-more-refuted h =
+    let read : 0 ∷ 1 ∷ 1 ∷ 1 ∷ [] ≡ u+v = h .condition-read in
+    let z : _≡_ {A = ℕ} 1 0 = ap (λ (l : List ℕ). getD l 3 0) read in
+    omega arith
