@@ -2,18 +2,26 @@
 -- what the writer leaves is right and reads back by `writer`, and what the reader gives of it is known by `reader`.
 -- Assumes nothing.
 use mathlib.Core.Path.{_≡_, _∙_}
+use mathlib.Core.Bool.{true}
 use mathlib.Core.List.{List}
-use Prim.Native.Nat.{ℕ, _+_, _*_, _^_}
-use lib.ListN.{length, take}
+use Prim.Native.Nat.{ℕ, _+_, _*_, _^_, _≤_}
+use native.Mathlib.Omega.{arith}
+use lib.Dec.{leb}
+use lib.ListN.{length, take, length-append}
 use lib.Seq.{take-at}
 use borrow.Author.Tests.{le-leb}
+use Rattle.tables.specs.Questions.{firstNo, lettersFit, hasRoom, holdsBits}
 use Rattle.tables.specs.Reply.{reply, after}
+use Rattle.tables.proofs.Bits.{bits-are}
 use Rattle.grammar.specs.Text.{textTable}
 use Rattle.notation.specs.Text.{textRefusal}
 use Rattle.notation.proofs.Refusal.{text-is-table}
+use Rattle.notation.proofs.Theorems.{done-exactly}
+use Rattle.entry.specs.Entry.{entry}
+use Rattle.entry.specs.Questions.{routeFits}
 use Rattle.entry.specs.Held.{records}
 use Rattle.entry.proofs.Theorems as entries
-use Rattle.writer.specs.Writing.{archived, writeRefusal}
+use Rattle.writer.specs.Writing.{archived, outputFits, writeQuestions, writeRefusal}
 use Rattle.writer.proofs.Theorems.{written-reads-back, written-right}
 use Rattle.reader.specs.Reading.{readRefusal}
 use Rattle.reader.proofs.Theorems.{only-room, values-back, answers-back}
@@ -52,8 +60,22 @@ front-of : (U G : ℕ) (text lent : List ℕ) → textRefusal U G text (length l
 unfolding after
 front-of U G text lent z = rw z (take-at (textTable U G text) _ (2 ^ (U + G)) (text-is-table U G text .size))
 
+front-room : (U G : ℕ) (text lent : List ℕ) → textRefusal U G text (length lent) ≡ 0 → 2 ^ (U + G) ≤ length (textRead U G text lent)
+unfolding after
+front-room U G text lent z = rw (z, length-append) (omega (arith, text-is-table U G text .size))
+
 -- demand 3, from the text and the lent buffers to what is read back, by the calls' contracts
 pub over-the-calls : (U G route : ℕ) (text lent out : List ℕ) → textRefusal U G text (length lent) ≡ 0
     → writeRefusal route U G (textRead U G text lent) (length out) ≡ 0
     → OverTheCalls route U G (textTable U G text) (textRead U G text lent) out
 over-the-calls U G route text lent out read written = archives route U G (textTable U G text) (textRead U G text lent) out (front-of U G text lent read) written
+
+-- and writing is refused for another route than 1 to 250 or too short an output alone, so that every accepted text can be archived
+pub written-if-room : (U G route : ℕ) (text lent out : List ℕ) → textRefusal U G text (length lent) ≡ 0 → routeFits route ≡ true
+    → length (entry route U G (textTable U G text)) ≤ length out → writeRefusal route U G (textRead U G text lent) (length out) ≡ 0
+unfolding writeRefusal writeQuestions firstNo hasRoom holdsBits outputFits archived
+written-if-room U G route text lent out z route-fits fits =
+    let t : List ℕ = textTable U G text in
+    let letters : lettersFit U G ≡ true = done-exactly U G text (length lent) .0 z .0 .letters in
+    let room : leb (2 ^ (U + G)) (length (textRead U G text lent)) ≡ true = le-leb _ _ (front-room U G text lent z) in
+    rw (letters, route-fits, room, front-of U G text lent z, bits-are t (text-is-table U G text .bits), le-leb (length (entry route U G t)) (length out) fits)
