@@ -1,6 +1,6 @@
-pub mod Refuted
 pub mod Demand3
 pub mod OverTheCalls
+pub mod Refuted
 pub mod StarredRows
 pub mod SignRows
 pub mod OneGiven
