@@ -1,20 +1,24 @@
--- Decoding: the laws of `symbol` for bytes, by computed tests, and the loops over a text.
+-- Decoding: the laws of `symbol` for bytes, by computed tests, and the loops over a text and over its symbols.
 -- Assumes nothing.
 use mathlib.Core.Path.{_≡_, refl, ap, _∙_, sym}
-use mathlib.Core.Bool.{Bool, true, false, not, _&&_, _||_, cond, Bool·beq, false≢true}
+use mathlib.Core.Bool.{Bool, true, false, not, _&&_, _||_, cond, Bool·beq, false≢true, and-true, and-assoc}
 use mathlib.Core.List.{List, [], _∷_, _++_, append-nil}
 use Prim.Native.Nat.{ℕ, suc, _+_, _-_, _≤_, _<_}
 use native.Mathlib.Numerals.{add-one}
 use native.Mathlib.Omega.{arith}
-use borrow.Author.Tests.{eq-eqb, ne-eqb, eqb-true, lt-ltb, le-ltb, ltb-true, ltb-false, not-true, not-false}
+use borrow.Author.Tests.{eq-eqb, ne-eqb, eqb-true, lt-ltb, le-ltb, ltb-true, ltb-false, not-true}
 use lib.Dec.{eqb, ltb}
-use lib.ListN.{length, getD, take, drop, set, length-set, drop-of-length-le}
-use lib.Seq.{take-suc, take-suc-set, take-all, drop-cons}
+use lib.Bits.{bitOr}
+use lib.ListN.{length, getD, take, set, length-set, length-append}
+use lib.Seq.{take-suc, take-suc-set, take-set-le, take-all, take-at}
+use Rattle.ring.specs.Letters.{digit}
+use Rattle.ring.specs.Lists.{listed}
 use Rattle.ring.specs.Polynomial.{everyBelow}
 use Rattle.ring.proofs.Bool.{and-left, and-right, same-bool}
 use Rattle.ring.proofs.Every.{every-all}
+use Rattle.ring.proofs.Lists.{length-listed}
 use Rattle.grammar.specs.Symbols.{space, foreign, isUnknown, isGiven, isSingle, symbol, symbols, isSign, every, allSigns, isDeclared, allDeclared}
-use Rattle.parser.specs.Questions.{isKnown, isLetterDeclared}
+use Rattle.parser.specs.Questions.{unspaced, isKnown, isLetterDeclared}
 
 -- ---- one byte
 
@@ -107,60 +111,98 @@ pub declared-of-symbols : (U G : ℕ) (text : List ℕ) → ((i : ℕ) → getD 
 unfolding allDeclared isDeclared isUnknown isGiven
 declared-of-symbols U G text bytes = of-symbols (isLetterDeclared U G) (isDeclared U G) refl (λ c h n. declared-symbol U G c h) text bytes
 
--- a symbol at a time
-module _ (test : ℕ → Bool) (text : List ℕ) (i : ℕ) (left : every test text ≡ every test (drop i text)) where
-  pub every-end : length text ≤ i → true ≡ every test text
+-- ---- a loop over symbols that notes a no: `no` is 1 as soon as one has failed the test
+every-append : (test : ℕ → Bool) (l m : List ℕ) → every test (l ++ m) ≡ (every test l && every test m)
+unfolding every
+every-append test [] m = refl
+every-append test (c ∷ l) m = rw (every-append test l m) (sym (and-assoc (test c) (every test l) (every test m)))
+
+or-noted : (a b : Bool) → bitOr (digit (not a)) (digit (not b)) ≡ digit (not (a && b))
+or-noted true true = refl
+or-noted true false = refl
+or-noted false true = refl
+or-noted false false = refl
+
+module _ (test : ℕ → Bool) (s : List ℕ) where
+  pub none-noted : (i : ℕ) → i ≡ 0 → 0 ≡ digit (not (every test (take i s)))
   unfolding every
-  every-end h = let e : drop i text ≡ [] = drop-of-length-le text h in sym (left ∙ rw e)
+  none-noted i e = rw e
 
-  module _ (h : i < length text) (r : Bool) (asked : r ≡ test (getD text i 0)) where
-    next : every test text ≡ (test (getD text i 0) && every test (drop (i + 1) text))
+  module _ (no i : ℕ) (noted : no ≡ digit (not (every test (take i s)))) where
+    pub one-noted : (r : ℕ) → i < length s → r ≡ digit (not (test (getD s i 0))) → bitOr no r ≡ digit (not (every test (take (i + 1) s)))
     unfolding every
-    next = left ∙ rw (add-one, drop-cons text i 0)
+    one-noted r h e =
+        let more : every test (take (i + 1) s) ≡ (every test (take i s) && test (getD s i 0)) =
+          rw (add-one, take-suc s i 0) (every-append test (take i s) (getD s i 0 ∷ []) ∙ ap (λ (b : Bool). every test (take i s) && b) (and-true (test (getD s i 0)))) in
+        rw (noted, e, more) (or-noted (every test (take i s)) (test (getD s i 0)))
 
-    pub every-more : not r ≡ false → every test text ≡ every test (drop (i + 1) text)
-    every-more n = next ∙ rw (sym asked ∙ not-false r n)
+    pub all-noted : length s ≤ i → eqb no 0 ≡ every test s
+    all-noted h = rw (noted, take-all i s h) (go (every test s))
+      where
+        go : (b : Bool) → eqb (digit (not b)) 0 ≡ b
+        go true = refl
+        go false = refl
 
-    pub every-fails : not r ≡ true → false ≡ every test text
-    every-fails n = sym (next ∙ rw (sym asked ∙ not-true r n))
-
--- ---- the symbols of a text, a byte at a time
-pub record Decoding (text out₀ out : List ℕ) (n i : ℕ) : Type 0 where
+-- ---- a text without its spaces, a byte at a time
+pub record Unspacing (text out₀ out : List ℕ) (n i : ℕ) : Type 0 where
   pub read : i ≤ length text
   pub fewer : n ≤ i
   pub same : length out ≡ length out₀
-  pub written : take n out ≡ symbols (take i text)
+  pub written : take n out ≡ unspaced (take i text)
 
-pub decoding : (text out : List ℕ) → Decoding text out out 0 0
-unfolding symbols
-decoding text out = record { read = omega arith; fewer = omega arith; same = refl; written = refl }
+pub unspacing : (text out : List ℕ) → Unspacing text out out 0 0
+unfolding unspaced
+unspacing text out = record { read = omega arith; fewer = omega arith; same = refl; written = refl }
 
-pub decoded : (text out₀ out : List ℕ) (n i : ℕ) → Decoding text out₀ out n i → length text ≤ i → length text ≤ length out₀ → (n ≤ length out) × (take n out ≡ symbols text)
-decoded text out₀ out n i d h k = (omega (arith, d .fewer, d .read, d .same), d .written ∙ ap symbols (take-all i text h))
+pub all-unspaced : (text out₀ out : List ℕ) (n i : ℕ) → Unspacing text out₀ out n i → length text ≤ i → length text ≤ length out₀ → (n ≤ length out) × (take n out ≡ unspaced text)
+all-unspaced text out₀ out n i d h k = (omega (arith, d .fewer, d .read, d .same), d .written ∙ ap unspaced (take-all i text h))
 
 cond-append : (b : Bool) (x : ℕ) (l m : List ℕ) → cond b (l ++ m) (x ∷ (l ++ m)) ≡ cond b l (x ∷ l) ++ m
 cond-append true x l m = refl
 cond-append false x l m = refl
 
-symbols-append : (l m : List ℕ) → symbols (l ++ m) ≡ symbols l ++ symbols m
-unfolding symbols
-symbols-append [] m = refl
-symbols-append (c ∷ l) m = rw (symbols-append l m) (cond-append (eqb c space) (symbol c) (symbols l) (symbols m))
+unspaced-append : (l m : List ℕ) → unspaced (l ++ m) ≡ unspaced l ++ unspaced m
+unfolding unspaced
+unspaced-append [] m = refl
+unspaced-append (c ∷ l) m = rw (unspaced-append l m) (cond-append (eqb c space) c (unspaced l) (unspaced m))
 
-module _ (text out₀ out : List ℕ) (n i : ℕ) (d : Decoding text out₀ out n i) (h : i < length text) where
-  one-more : symbols (take (i + 1) text) ≡ symbols (take i text) ++ symbols (getD text i 0 ∷ [])
-  one-more = rw (add-one, take-suc text i 0) (symbols-append (take i text) (getD text i 0 ∷ []))
+module _ (text out₀ out : List ℕ) (n i : ℕ) (d : Unspacing text out₀ out n i) (h : i < length text) where
+  one-more : unspaced (take (i + 1) text) ≡ unspaced (take i text) ++ unspaced (getD text i 0 ∷ [])
+  one-more = rw (add-one, take-suc text i 0) (unspaced-append (take i text) (getD text i 0 ∷ []))
 
-  pub past-space : getD text i 0 ≡ space → Decoding text out₀ out n (i + 1)
-  unfolding symbols
-  past-space q = record { read = omega arith; fewer = omega (arith, d .fewer); same = d .same; written = d .written ∙ sym (one-more ∙ rw (eq-eqb _ _ q) (append-nil _)) }
+  pub past-space : getD text i 0 ≡ space → Unspacing text out₀ (set out n (getD text i 0)) n (i + 1)
+  unfolding unspaced
+  past-space q =
+      record {
+        read = omega arith;
+        fewer = omega (arith, d .fewer);
+        same = simp length-set (d .same);
+        written = take-set-le n out n _ (omega arith) ∙ d .written ∙ sym (one-more ∙ rw (eq-eqb _ _ q) (append-nil _));
+      }
 
-  pub past-symbol : (getD text i 0 ≡ space → ⊥) → length text ≤ length out₀ → Decoding text out₀ (set out n (symbol (getD text i 0))) (n + 1) (i + 1)
-  unfolding symbols
-  past-symbol q k =
+  pub past-sign : (getD text i 0 ≡ space → ⊥) → length text ≤ length out₀ → Unspacing text out₀ (set out n (getD text i 0)) (n + 1) (i + 1)
+  unfolding unspaced
+  past-sign q k =
       record {
         read = omega arith;
         fewer = omega (arith, d .fewer);
         same = simp length-set (d .same);
         written = rw (add-one n, take-suc-set out n _ (omega (arith, d .fewer, d .same)), d .written) (sym (one-more ∙ rw (ne-eqb _ _ q)));
       }
+
+-- the symbols are those of the bytes that are left
+symbols-unspaced : (text : List ℕ) → listed (length (unspaced text)) (λ i. symbol (getD (unspaced text) i 0)) ≡ symbols text
+unfolding symbols unspaced listed
+symbols-unspaced [] = refl
+symbols-unspaced (c ∷ text) = go (eqb c space) (symbols-unspaced text)
+  where
+    go : (x : Bool) → listed (length (unspaced text)) (λ i. symbol (getD (unspaced text) i 0)) ≡ symbols text
+        → listed (length (cond x (unspaced text) (c ∷ unspaced text))) (λ i. symbol (getD (cond x (unspaced text) (c ∷ unspaced text)) i 0)) ≡ cond x (symbols text) (symbol c ∷ symbols text)
+    go true e = e
+    go false e = ap (λ (l : List ℕ). symbol c ∷ l) e
+
+pub symbols-written : (text front front′ rest : List ℕ) (n : ℕ) → front ≡ unspaced text → front′ ≡ listed (length front) (λ i. symbol (getD front i 0)) → n ≡ length front
+    → (n ≤ length (front′ ++ rest)) × (take n (front′ ++ rest) ≡ symbols text)
+symbols-written text front front′ rest n e e′ en =
+    let size : length front′ ≡ n = ap length e′ ∙ length-listed (length front) (λ i. symbol (getD front i 0)) ∙ sym en in
+    (omega (arith, length-append front′ rest), take-at front′ rest n size ∙ e′ ∙ rw e (symbols-unspaced text))

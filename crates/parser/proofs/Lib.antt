@@ -1,4 +1,4 @@
-pub mod Words
 pub mod Decoding
+pub mod Blocks
 mod Readers
 pub mod WholeText

@@ -1,31 +1,35 @@
--- The readers in terms of places: what `IsUpTo` is, step by step.
+-- The readers in terms of places and stacks: what `IsUpTo` is, step by step.
 -- A reader with a loop, `sum` or `product`, is a part, then any number of a sign and a part: `Loop` serves both.
 -- Assumes nothing.
-use mathlib.Core.Path.{_≡_, refl, _∙_, sym, subst}
+use mathlib.Core.Path.{_≡_, refl, _∙_, sym, subst, ap}
 use mathlib.Core.Bool.{Bool, true, false, cond}
-use mathlib.Core.List.{List, [], _∷_}
-use Prim.Native.Nat.{ℕ, _+_, _-_, _≤_, _<_}
+use mathlib.Core.List.{List, [], _∷_, _++_}
+use Prim.Native.Nat.{ℕ, _+_, _-_, _*_, _≤_, _<_}
 use native.Mathlib.Numerals.{add-one}
 use native.Mathlib.Omega.{arith}
 use borrow.Author.Tests.{ne-eqb, le-leb, lt-leb, lt-ltb, le-ltb}
-use lib.ListN.{length, getD, drop, drop-of-length-le}
-use lib.Seq.{drop-cons}
+use lib.ListN.{length, getD, drop, take, drop-of-length-le, length-append, length-drop}
+use lib.Seq.{drop-cons, length-take-le, take-append-le}
+use borrow.Rule.Slice.PartMut.{putMid, postOf, same-len-mid}
 use lib.Dec.{eqb}
-use Rattle.grammar.specs.Symbols.{zeroSign, oneSign, notSign, openSign, closeSign, timesSign, orSign}
+use Rattle.tables.proofs.Filled.{filled}
+use Rattle.ring.specs.Letters.{bit}
+use Rattle.grammar.specs.Symbols.{zeroSign, oneSign, notSign, openSign, closeSign, timesSign, plusSign, orSign}
 use Rattle.grammar.specs.Grammar.{Tree, constant, unknown, given, negation, times}
+use Rattle.grammar.specs.Meaning.{atPoint}
 use Rattle.grammar.specs.Reader.{Reading, found, Reader, sum, product, factor, sumFrom, productFrom, andThen, joinsSum, joined, closed, factorAt, reads}
-use Rattle.parser.specs.Words.{ones, word}
 use Rattle.grammar.proofs.Fixed.{fixed, then-nothing, then-found}
-use Rattle.parser.specs.Parts.{fourFrom, valuesFrom, letterValues, joinedValues, bothValues, negatedValues, IsUpTo, IsMissing, Agrees}
-use Rattle.parser.specs.declared.Values.{Values}
-use Rattle.parser.specs.declared.Part.{Part}
-use Rattle.parser.specs.declared.Part.the-variants.{Missing, UpTo}
+use Rattle.words.specs.Words.{wordsOf}
+use Rattle.parser.specs.Blocks.{ones, wordAt, joinOf, paired, IsUpTo, IsMissing, Agrees}
+use Rattle.parser.specs.declared.Place.{Place}
+use Rattle.parser.specs.declared.Place.the-variants.{Missing, UpTo}
+use Rattle.parser.proofs.Blocks.{front-values, front-joined, size-filled, times-word, sum-word, constant-values, negation-values}
 
-pub missing : {s : List ℕ} (U w : ℕ) {at : ℕ} {o : Reading} {r : Part} → r ≡ Missing → Agrees U s w at o r → IsMissing s at o
-missing {s} U w {at} {o} h = subst (Agrees U s w at o) h
+pub missing : {s : List ℕ} (U k : ℕ) {at : ℕ} (size : ℕ) (stack : List ℕ) {o : Reading} {r : Place} → r ≡ Missing → Agrees U k s at size stack o r → IsMissing s at o
+missing {s} U k {at} size stack {o} h = subst (Agrees U k s at size stack o) h
 
-pub up-to : {U : ℕ} {s : List ℕ} {w at n : ℕ} {v : Values} {o : Reading} {r : Part} → r ≡ UpTo n v → Agrees U s w at o r → IsUpTo U s w at o n v
-up-to {U} {s} {w} {at} {n} {v} {o} h = subst (Agrees U s w at o) h
+pub up-to : {U k : ℕ} {s : List ℕ} {at size n : ℕ} {stack : List ℕ} {o : Reading} {r : Place} → r ≡ UpTo n → Agrees U k s at size stack o r → IsUpTo U k s at size stack o n
+up-to {U} {k} {s} {at} {size} {n} {stack} {o} h = subst (Agrees U k s at size stack o) h
 
 next : (s : List ℕ) (n : ℕ) → n < length s → drop n s ≡ getD s n 0 ∷ drop (n + 1) s
 next s n h = rw (add-one, drop-cons s n 0)
@@ -37,59 +41,86 @@ pub record Loop : Type 0 where
   pub from : Tree → Reader
   pub joins : ℕ → Bool
   pub join : ℕ → Tree → Tree → Tree
-  pub joinValues : ℕ → Values → Values → Values
+  pub sign : ℕ → ℕ
   pub begins : (l : List ℕ) → reads whole l ≡ andThen (reads part l) (λ e r. reads (from e) r)
   pub stops : (e : Tree) → reads (from e) [] ≡ found e []
   pub goes : (e : Tree) (x : ℕ) (r : List ℕ) → reads (from e) (x ∷ r) ≡ cond (joins x) (andThen (reads part r) (λ f r′. reads (from (join x e f)) r′)) (found e (x ∷ r))
-  pub values : (x : ℕ) (U : ℕ) (e f : Tree) (w : ℕ) → valuesFrom U (join x e f) w ≡ joinValues x (valuesFrom U e w) (valuesFrom U f w)
+  pub words : (x : ℕ) → joins x ≡ true → (U : ℕ) (e f : Tree) (w : ℕ) → joinOf (sign x) (wordAt (atPoint U e) w) (wordAt (atPoint U f) w) ≡ wordAt (atPoint U (join x e f)) w
 
--- what holds in the loop: what is left to read goes on from the tree so far
-pub record Going (L : Loop) (U : ℕ) (s : List ℕ) (w at n : ℕ) (v : Values) : Type 0 where
+-- what holds in the loop: what is left to read goes on from the tree so far, whose words stand at the front of the stack
+pub record Going (L : Loop) (U k : ℕ) (s : List ℕ) (at size n : ℕ) (stack : List ℕ) : Type 0 where
   pub tree : Tree
   pub same : reads (L .whole) (drop at s) ≡ reads (L .from tree) (drop n s)
-  pub values : v ≡ valuesFrom U tree w
+  pub values : take k stack ≡ wordsOf k (atPoint U tree)
+  pub kept : length stack ≡ size
   pub past : at < n
   pub inside : n ≤ length s
 
 pub begin-missing : (L : Loop) (s : List ℕ) (at : ℕ) → IsMissing s at (reads (L .part) (drop at s)) → IsMissing s at (reads (L .whole) (drop at s))
 begin-missing L s at h = record { none = L .begins (drop at s) ∙ then-nothing _ (h .none) }
 
-module _ (L : Loop) (U : ℕ) (s : List ℕ) (w at : ℕ) where
-  pub begin : {n : ℕ} {v : Values} → IsUpTo U s w at (reads (L .part) (drop at s)) n v → Going L U s w at n v
-  begin g = record { tree = g .tree; same = L .begins (drop at s) ∙ then-found _ (g .read); values = g .values; past = g .past; inside = g .inside }
+module _ (L : Loop) (U k : ℕ) (s : List ℕ) (at size : ℕ) where
+  module _ {m : ℕ} {stack₀ : List ℕ} (first : IsUpTo U k s at size stack₀ (reads (L .part) (drop at s)) m) where
+    pub begin : Going L U k s at (length stack₀) m stack₀
+    begin =
+        record { tree = first .tree; same = L .begins (drop at s) ∙ then-found _ (first .read); values = first .values; kept = refl; past = first .past; inside = first .inside }
 
-  module _ {n : ℕ} {v : Values} (g : Going L U s w at n v) where
-    pub ended : length s ≤ n → IsUpTo U s w at (reads (L .whole) (drop at s)) n v
-    ended h =
-        let e : drop n s ≡ [] = drop-of-length-le s h in
-        record { tree = g .tree; read = g .same ∙ rw e (L .stops (g .tree)); values = g .values; past = g .past; inside = g .inside }
+    module _ {n : ℕ} {stack : List ℕ} (g : Going L U k s at (length stack₀) n stack) where
+      pub ended : length s ≤ n → IsUpTo U k s at size stack (reads (L .whole) (drop at s)) n
+      ended h =
+          let e : drop n s ≡ [] = drop-of-length-le s h in
+          record { tree = g .tree; read = g .same ∙ rw e (L .stops (g .tree)); values = g .values; kept = g .kept ∙ first .kept; past = g .past; inside = g .inside }
 
-    module _ (h : n < length s) where
-      pub other-sign : L .joins (getD s n 0) ≡ false → IsUpTo U s w at (reads (L .whole) (drop at s)) n v
-      other-sign t =
-          record { tree = g .tree; read = g .same ∙ rw (next s n h) (L .goes (g .tree) _ _ ∙ rw t); values = g .values; past = g .past; inside = g .inside }
+      module _ (h : n < length s) where
+        pub other-sign : L .joins (getD s n 0) ≡ false → IsUpTo U k s at size stack (reads (L .whole) (drop at s)) n
+        other-sign t =
+            record { tree = g .tree; read = g .same ∙ rw (next s n h) (L .goes (g .tree) _ _ ∙ rw t); values = g .values; kept = g .kept ∙ first .kept; past = g .past; inside = g .inside }
 
-      pub more-missing : L .joins (getD s n 0) ≡ true → IsMissing s (n + 1) (reads (L .part) (drop (n + 1) s)) → IsMissing s at (reads (L .whole) (drop at s))
-      more-missing t q = record { none = g .same ∙ rw (next s n h) (L .goes (g .tree) _ _ ∙ rw t (then-nothing _ (q .none))) }
+        module _ (small : k ≤ 16) (room : 8 * (length s - at) + 8 ≤ size) where
+          -- what the loop asks before it calls
+          pub part-start : k ≤ length stack
+          part-start = omega (arith, g .kept, first .kept, g .past)
 
-      pub more : {k : ℕ} {y : Values} → L .joins (getD s n 0) ≡ true → IsUpTo U s w (n + 1) (reads (L .part) (drop (n + 1) s)) k y → Going L U s w at k (L .joinValues (getD s n 0) v y)
-      more t q =
-          record {
-            tree = L .join (getD s n 0) (g .tree) (q .tree);
-            same = g .same ∙ rw (next s n h) (L .goes (g .tree) _ _ ∙ rw t (then-found _ (q .read)));
-            values = rw (g .values, q .values) (sym (L .values _ _ _ _ _));
-            past = omega (arith, g .past, q .past);
-            inside = q .inside;
-          }
+          behind : length (take (length stack - k) (drop k stack)) ≡ length stack - k
+          behind = length-take-le (length stack - k) (drop k stack) (omega (arith, length-drop k stack))
+
+          pub part-room : 8 * (length s - (n + 1)) + 8 ≤ length (take (length stack - k) (drop k stack))
+          part-room = omega (arith, behind, g .kept, first .kept, g .past)
+
+          module _ {m′ : ℕ} {rest : List ℕ} (q : IsUpTo U k s (n + 1) (length (take (length stack - k) (drop k stack))) rest (reads (L .part) (drop (n + 1) s)) m′) where
+            mid : length (putMid k (length stack - k) stack rest) ≡ length stack
+            mid = same-len-mid k (length stack - k) stack rest (q .kept)
+
+            pub both-room : k + k ≤ length (putMid k (length stack - k) stack rest)
+            both-room = omega (arith, mid, g .kept, first .kept, g .past, q .past, q .inside)
+
+            second : take k (rest ++ postOf k (length stack - k) stack) ≡ wordsOf k (atPoint U (q .tree))
+            second = take-append-le k rest (postOf k (length stack - k) stack) (omega (arith, both-room, mid, behind, q .kept)) ∙ q .values
+
+            pub more : (new : List ℕ) → L .joins (getD s n 0) ≡ true
+                → new ≡ filled k (paired (L .sign (getD s n 0)) k (putMid k (length stack - k) stack rest)) (putMid k (length stack - k) stack rest) → Going L U k s at (length stack₀) m′ new
+            more new t e =
+                record {
+                  tree = L .join (getD s n 0) (g .tree) (q .tree);
+                  same = g .same ∙ rw (next s n h) (L .goes (g .tree) _ _ ∙ rw t (then-found _ (q .read)));
+                  values = front-joined (L .sign (getD s n 0)) k (atPoint U (g .tree)) (atPoint U (q .tree)) stack (rest ++ postOf k (length stack - k) stack) (g .values) second _ new e (L .words (getD s n 0) t U (g .tree) (q .tree));
+                  kept = size-filled k _ _ new e (omega (arith, both-room)) ∙ mid ∙ g .kept;
+                  past = omega (arith, g .past, q .past);
+                  inside = q .inside;
+                }
+
+  module _ {n : ℕ} {stack : List ℕ} (g : Going L U k s at size n stack) (h : n < length s) where
+    pub more-missing : L .joins (getD s n 0) ≡ true → IsMissing s (n + 1) (reads (L .part) (drop (n + 1) s)) → IsMissing s at (reads (L .whole) (drop at s))
+    more-missing t q = record { none = g .same ∙ rw (next s n h) (L .goes (g .tree) _ _ ∙ rw t (then-nothing _ (q .none))) }
+
+-- the stack is as long as it was, whatever was found
+pub stays : (k : ℕ) (stack rest : List ℕ) {size₀ size : ℕ} → length rest ≡ length (take (length stack - k) (drop k stack)) → length stack ≡ size₀ → size₀ ≡ size
+    → length (putMid k (length stack - k) stack rest) ≡ size
+stays k stack rest e g f = same-len-mid k (length stack - k) stack rest e ∙ g ∙ f
 
 -- the test of `sum`'s loop, by way of what `joins_sum` returned
 pub sum-test : (r b : Bool) (x : ℕ) → r ≡ joinsSum x → r ≡ b → joinsSum x ≡ b
 sum-test r b x p q = sym p ∙ q
-
-pub joined-values : (b : Bool) (U : ℕ) (e f : Tree) (w : ℕ) → valuesFrom U (joined b e f) w ≡ joinedValues b (valuesFrom U e w) (valuesFrom U f w)
-unfolding valuesFrom word
-joined-values true U e f w = refl
-joined-values false U e f w = refl
 
 abbrev pub sumLoop : Loop
 sumLoop = record {
@@ -98,16 +129,12 @@ sumLoop = record {
   from = sumFrom;
   joins = joinsSum;
   join = λ x. joined (eqb x orSign);
-  joinValues = λ x. joinedValues (eqb x orSign);
+  sign = λ x. x;
   begins = λ l. fixed sum l;
   stops = λ e. fixed (sumFrom e) [];
   goes = λ e x r. fixed (sumFrom e) (x ∷ r);
-  values = λ x. joined-values (eqb x orSign);
+  words = sum-word;
 }
-
-pub times-values : (U : ℕ) (e f : Tree) (w : ℕ) → valuesFrom U (times e f) w ≡ bothValues (valuesFrom U e w) (valuesFrom U f w)
-unfolding valuesFrom word
-times-values U e f w = refl
 
 abbrev pub productLoop : Loop
 productLoop = record {
@@ -116,11 +143,11 @@ productLoop = record {
   from = productFrom;
   joins = λ x. eqb x timesSign;
   join = λ x. times;
-  joinValues = λ x. bothValues;
+  sign = λ x. timesSign;
   begins = λ l. fixed product l;
   stops = λ e. fixed (productFrom e) [];
   goes = λ e x r. fixed (productFrom e) (x ∷ r);
-  values = λ x. times-values;
+  words = λ x t. times-word;
 }
 
 -- ---- a factor
@@ -151,46 +178,54 @@ module _ (s : List ℕ) (at : ℕ) (h : at < length s) where
   other-missing r a =
       record { none = here ∙ simp (ne-eqb _ _ (r .0 .0 .0 .1), ne-eqb _ _ (r .0 .0 .1), ne-eqb _ _ (r .0 .1), ne-eqb _ _ (r .1), le-ltb (getD s at 0) 6 (omega arith), le-leb 8 (getD s at 0) (omega arith), le-ltb (getD s at 0) 16 a) }
 
-  module _ (U w : ℕ) where
-    one-symbol : (e : Tree) (v : Values) → factorAt reads (getD s at 0) (drop (at + 1) s) ≡ found e (drop (at + 1) s) → v ≡ valuesFrom U e w → IsUpTo U s w at (reads factor (drop at s)) (at + 1) v
-    one-symbol e v q r = record { tree = e; read = here ∙ q; values = r; past = omega arith; inside = omega arith }
+  module _ (U k : ℕ) (stack : List ℕ) (small : k ≤ 16) (room : 8 * (length s - at) + 8 ≤ length stack) where
+    one-symbol : (e : Tree) (new : List ℕ) → factorAt reads (getD s at 0) (drop (at + 1) s) ≡ found e (drop (at + 1) s) → take k new ≡ wordsOf k (atPoint U e) → length new ≡ length stack
+        → IsUpTo U k s at (length stack) new (reads factor (drop at s)) (at + 1)
+    one-symbol e new q v l = record { tree = e; read = here ∙ q; values = v; kept = l; past = omega arith; inside = omega arith }
 
-    pub reads-zero : getD s at 0 ≡ zeroSign → IsUpTo U s w at (reads factor (drop at s)) (at + 1) (fourFrom (λ x. 0) w)
-    unfolding valuesFrom word
-    reads-zero q = one-symbol (constant false) (fourFrom (λ x. 0) w) (rw q) refl
+    pub reads-zero : getD s at 0 ≡ zeroSign → {new : List ℕ} → new ≡ filled k (λ i. joinOf 0 (getD stack i 0) 0) stack → IsUpTo U k s at (length stack) new (reads factor (drop at s)) (at + 1)
+    reads-zero q {new} z = one-symbol (constant false) new (rw q) (constant-values U k stack new false z) (size-filled k _ stack new z (omega arith))
 
-    pub reads-one : getD s at 0 ≡ oneSign → IsUpTo U s w at (reads factor (drop at s)) (at + 1) (fourFrom (λ x. ones) w)
-    unfolding valuesFrom word
-    reads-one q = one-symbol (constant true) (fourFrom (λ x. ones) w) (rw q) refl
+    pub reads-one : getD s at 0 ≡ oneSign → {new : List ℕ} → new ≡ filled k (λ i. joinOf 0 (getD stack i 0) ones) stack → IsUpTo U k s at (length stack) new (reads factor (drop at s)) (at + 1)
+    reads-one q {new} z = one-symbol (constant true) new (rw q) (constant-values U k stack new true z) (size-filled k _ stack new z (omega arith))
 
-    pub reads-unknown : NoSign (getD s at 0) → getD s at 0 < 6 → {v : Values} → v ≡ letterValues (getD s at 0) w → IsUpTo U s w at (reads factor (drop at s)) (at + 1) v
-    unfolding valuesFrom word
-    reads-unknown r b {v} q =
-        one-symbol (unknown (getD s at 0)) v
-        (simp (ne-eqb _ _ (r .0 .0 .0 .1), ne-eqb _ _ (r .0 .0 .1), ne-eqb _ _ (r .0 .1), ne-eqb _ _ (r .1), lt-ltb _ _ b)) q
+    pub reads-unknown : NoSign (getD s at 0) → getD s at 0 < 6 → {new : List ℕ} → new ≡ filled k (wordAt (λ p. bit p (getD s at 0))) stack → IsUpTo U k s at (length stack) new (reads factor (drop at s)) (at + 1)
+    unfolding atPoint
+    reads-unknown r b {new} z =
+        one-symbol (unknown (getD s at 0)) new
+        (simp (ne-eqb _ _ (r .0 .0 .0 .1), ne-eqb _ _ (r .0 .0 .1), ne-eqb _ _ (r .0 .1), ne-eqb _ _ (r .1), lt-ltb _ _ b)) (front-values k _ _ stack new z (λ w l. refl)) (size-filled k _ stack new z (omega arith))
 
-    pub reads-given : NoSign (getD s at 0) → 8 ≤ getD s at 0 → getD s at 0 < 16 → {v : Values} → v ≡ letterValues (U + (getD s at 0 - 8)) w → IsUpTo U s w at (reads factor (drop at s)) (at + 1) v
-    unfolding valuesFrom word
-    reads-given r a b {v} q =
-        one-symbol (given (getD s at 0 - 8)) v
-        (simp (ne-eqb _ _ (r .0 .0 .0 .1), ne-eqb _ _ (r .0 .0 .1), ne-eqb _ _ (r .0 .1), ne-eqb _ _ (r .1), le-ltb (getD s at 0) 6 (omega arith), le-leb _ _ a, lt-ltb _ _ b)) q
+    pub reads-given : NoSign (getD s at 0) → 8 ≤ getD s at 0 → getD s at 0 < 16 → {new : List ℕ} → new ≡ filled k (wordAt (λ p. bit p (U + (getD s at 0 - 8)))) stack → IsUpTo U k s at (length stack) new (reads factor (drop at s)) (at + 1)
+    unfolding atPoint
+    reads-given r a b {new} z =
+        one-symbol (given (getD s at 0 - 8)) new
+        (simp (ne-eqb _ _ (r .0 .0 .0 .1), ne-eqb _ _ (r .0 .0 .1), ne-eqb _ _ (r .0 .1), ne-eqb _ _ (r .1), le-ltb (getD s at 0) 6 (omega arith), le-leb _ _ a, lt-ltb _ _ b)) (front-values k _ _ stack new z (λ w l. refl)) (size-filled k _ stack new z (omega arith))
 
-    pub reads-not : getD s at 0 ≡ notSign → {n : ℕ} {v : Values} → IsUpTo U s w (at + 1) (reads factor (drop (at + 1) s)) n v → IsUpTo U s w at (reads factor (drop at s)) n (negatedValues v)
-    unfolding valuesFrom word
-    reads-not q g = record { tree = negation (g .tree); read = here ∙ rw q (then-found _ (g .read)); values = rw (g .values); past = omega (arith, g .past); inside = g .inside }
+  module _ (U k size : ℕ) (small : k ≤ 16) (room : 8 * (length s - at) + 8 ≤ size) where
+    pub reads-not : getD s at 0 ≡ notSign → {n : ℕ} {stack : List ℕ} (new : List ℕ) → IsUpTo U k s (at + 1) size stack (reads factor (drop (at + 1) s)) n
+        → new ≡ filled k (λ i. joinOf plusSign (getD stack i 0) ones) stack → IsUpTo U k s at size new (reads factor (drop at s)) n
+    reads-not q {n} {stack} new g z =
+        record {
+          tree = negation (g .tree);
+          read = here ∙ rw q (then-found _ (g .read));
+          values = negation-values U k stack new (g .tree) (g .values) z;
+          kept = size-filled k _ stack new z (omega (arith, g .kept)) ∙ g .kept;
+          past = omega (arith, g .past);
+          inside = g .inside;
+        }
 
-    module _ (q : getD s at 0 ≡ openSign) {n : ℕ} {v : Values} (g : IsUpTo U s w (at + 1) (reads sum (drop (at + 1) s)) n v) where
+    module _ (q : getD s at 0 ≡ openSign) {n : ℕ} {stack : List ℕ} (g : IsUpTo U k s (at + 1) size stack (reads sum (drop (at + 1) s)) n) where
       opened : reads factor (drop at s) ≡ closed (g .tree) (drop n s)
       opened = here ∙ rw q (then-found _ (g .read))
 
       pub close-at-end : length s ≤ n → IsMissing s at (reads factor (drop at s))
-      close-at-end k =
-          let e : drop n s ≡ [] = drop-of-length-le s k in
+      close-at-end l =
+          let e : drop n s ≡ [] = drop-of-length-le s l in
           record { none = opened ∙ rw e }
 
-      module _ (k : n < length s) where
+      module _ (l : n < length s) where
         pub close-missing : (getD s n 0 ≡ closeSign → ⊥) → IsMissing s at (reads factor (drop at s))
-        close-missing r = record { none = opened ∙ rw (next s n k, ne-eqb _ _ r) }
+        close-missing r = record { none = opened ∙ rw (next s n l, ne-eqb _ _ r) }
 
-        pub reads-brackets : getD s n 0 ≡ closeSign → IsUpTo U s w at (reads factor (drop at s)) (n + 1) v
-        reads-brackets r = record { tree = g .tree; read = opened ∙ rw (next s n k, r); values = g .values; past = omega (arith, g .past); inside = omega arith }
+        pub reads-brackets : getD s n 0 ≡ closeSign → IsUpTo U k s at size stack (reads factor (drop at s)) (n + 1)
+        reads-brackets r = record { tree = g .tree; read = opened ∙ rw (next s n l, r); values = g .values; kept = g .kept; past = omega (arith, g .past); inside = omega arith }

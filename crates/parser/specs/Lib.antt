@@ -1,3 +1,2 @@
-pub mod Words
-pub mod Parts
 pub mod Questions
+pub mod Blocks

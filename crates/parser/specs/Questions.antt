@@ -1,10 +1,16 @@
--- Inner work: questions 5 and 6 as they are put to a text's symbols. That this is the same as to put them to its bytes is
--- `signs-of-symbols` and `declared-of-symbols` (`proofs/Decoding.antt`).
+-- Inner work: a text without its spaces, and questions 5 and 6 as they are put to a text's symbols. That this is the same as to put them
+-- to its bytes is `signs-of-symbols` and `declared-of-symbols` (`proofs/Decoding.antt`).
 -- Assumes nothing.
 use mathlib.Core.Bool.{Bool, true, not, cond}
+use mathlib.Core.List.{List, [], _∷_}
 use Prim.Native.Nat.{ℕ, _-_}
 use lib.Dec.{eqb, ltb}
-use Rattle.grammar.specs.Symbols.{foreign}
+use Rattle.grammar.specs.Symbols.{space, foreign}
+
+-- the bytes of a text that are no spaces
+unfoldable pub unspaced : List ℕ → List ℕ
+unspaced [] = []
+unspaced (byte ∷ text) = cond (eqb byte space) (unspaced text) (byte ∷ unspaced text)
 
 -- 5, of a symbol: it stands for a sign
 abbrev pub isKnown : ℕ → Bool

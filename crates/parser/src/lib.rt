@@ -1,47 +1,35 @@
 // The readers of the notation: a text's bytes are decoded to symbols, and `sum`, `product` and `factor` call each other as the grammar does.
-// They work on truth values, 256 points in four machine words. Each is held to the grammar's executable form (`grammar/specs/Reader.antt`).
-// Nothing here is a public call of the library: `notation` has it.
+// They go through a text once for all points: each writes its truth values, 64 points to a word, to the front of a lent stack of words, a
+// block of k words to a tree, and uses what lies behind it for the trees inside. Each is held to the grammar's executable form
+// (`grammar/specs/Reader.antt`). Nothing here is a public call of the library: `notation` has it.
 ghost use mathlib.Core.Path.{_≡_};
-ghost use Prim.Native.Nat.{_≤_, _<_};
-ghost use lib.ListN.{length, drop, take};
-ghost use lib.Dec.{eqb};
-ghost use Rattle.grammar.specs.Symbols.{symbol, symbols, every, orSign};
+ghost use mathlib.Core.Bool.{not};
+ghost use Prim.Native.Nat.{_+_, _-_, _*_, _≤_, _<_};
+ghost use lib.ListN.{length, drop, take, getD};
+ghost use Rattle.ring.specs.Letters.{digit, bit};
+ghost use Rattle.ring.specs.Lists.{listed};
+ghost use Rattle.tables.proofs.Filled.{filled};
+ghost use Rattle.grammar.specs.Symbols.{symbol, symbols, every};
 ghost use Rattle.grammar.specs.Reader as reader;
-ghost use Rattle.grammar.specs.Reader.{reads, joinsSum};
-ghost use Rattle.parser.specs.Questions.{isKnown, isLetterDeclared};
-ghost use Rattle.parser.specs.Words.{letterWord};
-ghost use Rattle.parser.specs.Parts.{Agrees, joinedValues, bothValues, negatedValues, letterValues, wholeValues};
+ghost use Rattle.grammar.specs.Reader.{reads, joinsSum, isWhole};
+ghost use Rattle.words.specs.Words.{lowLetters};
+ghost use Rattle.parser.specs.Questions.{unspaced, isKnown, isLetterDeclared};
+ghost use Rattle.parser.specs.Blocks.{wordAt, joinOf, paired, Agrees, wholeWords};
 
 // A symbol is a number: unknown j is j, given i is GIVEN + i, every other sign is its own byte.
 const GIVEN: u8 = 8;
 
 const FOREIGN: u8 = 255;
 
+// The code that puts a block in another's place; the codes that join two are their signs.
+const PUT: u8 = 0;
+
 const ONES: u64 = 0xffff_ffff_ffff_ffff;
 
-// The six lowest letters at the 64 points of a word.
-const LOW_LETTERS: [u64; 6] = [
-    0xaaaa_aaaa_aaaa_aaaa,
-    0xcccc_cccc_cccc_cccc,
-    0xf0f0_f0f0_f0f0_f0f0,
-    0xff00_ff00_ff00_ff00,
-    0xffff_0000_ffff_0000,
-    0xffff_ffff_0000_0000,
-];
-
-// The values at 256 points, 64 to a word, the first points in the first word.
-pub struct Values(pub u64, pub u64, pub u64, pub u64);
-
-// What a reader finds: nothing, or the place behind what it has read and its values.
-pub enum Part {
+// What a reader finds: nothing, or the place behind what it has read.
+pub enum Place {
     Missing,
-    UpTo(usize, Values),
-}
-
-// What the grammar makes of a whole text: nothing, or its values.
-pub enum Whole {
-    Unread,
-    Read(Values),
+    UpTo(usize),
 }
 
 // 'Decoding goes by byte ranges: u to z, a to h, then the single signs.'
@@ -56,17 +44,18 @@ fn decode(byte: u8) -> u8
     }
 }
 
-// The symbols of a text, at the front of `out`; returns how many there are.
-pub fn write_symbols(text: &[u8], out: &mut [u8]) -> usize
+// The bytes of a text without its spaces, at the front of `out`; returns how many there are. Every byte is stored, and one that is a
+// space is written over: no branch hangs on it.
+fn drop_spaces(text: &[u8], out: &mut [u8]) -> usize
     requires { ⌜ length (now text) ≤ length (now out) ⌝ }
-    ensures { λ r. ⌜ (r ≤ length (now (out .exit))) × (take r (now (out .exit)) ≡ symbols (now (text .entry))) ⌝ }
+    ensures { λ r. ⌜ (r ≤ length (now (out .exit))) × (take r (now (out .exit)) ≡ unspaced (now (text .entry))) ⌝ }
 {
     let mut n = 0;
     let mut i = 0;
     while i < text.len() {
         let byte = text[i];
+        out[n] = byte;
         if byte != b' ' {
-            out[n] = decode(byte);
             n += 1;
         }
         i += 1;
@@ -74,42 +63,74 @@ pub fn write_symbols(text: &[u8], out: &mut [u8]) -> usize
     n
 }
 
+// Each byte's symbol in its place.
+fn decode_all(s: &mut [u8])
+    ensures { λ _. ⌜ now (s .exit) ≡ listed (length (now (s .entry))) (λ i. symbol (getD (now (s .entry)) i 0)) ⌝ }
+{
+    for i in 0..s.len() {
+        s[i] = decode(s[i]);
+    }
+}
+
+// The symbols of a text, at the front of `out`; returns how many there are.
+pub fn write_symbols(text: &[u8], out: &mut [u8]) -> usize
+    requires { ⌜ length (now text) ≤ length (now out) ⌝ }
+    ensures { λ r. ⌜ (r ≤ length (now (out .exit))) × (take r (now (out .exit)) ≡ symbols (now (text .entry))) ⌝ }
+{
+    let n = drop_spaces(text, out);
+    decode_all(&mut out[..n]);
+    n
+}
+
+// 1 for a symbol that stands for no sign.
+fn foreign(c: u8) -> u8
+    ensures { λ r. ⌜ r ≡ digit (not (isKnown c)) ⌝ }
+{
+    if c == FOREIGN {
+        return 1;
+    }
+    0
+}
+
 // Question 5, of a text's symbols.
 pub fn all_signs(s: &[u8]) -> bool
     ensures { λ r. ⌜ r ≡ every isKnown (now (s .entry)) ⌝ }
 {
+    let mut fault = 0u8;
     for i in 0..s.len() {
-        if s[i] == FOREIGN {
-            return false;
-        }
+        fault = fault | foreign(s[i]);
     }
-    true
+    fault == 0
 }
 
-fn is_declared(unknowns: usize, givens: usize, c: u8) -> bool
-    ensures { λ r. ⌜ r ≡ isLetterDeclared unknowns givens c ⌝ }
+// 1 for a letter that is not declared. Symbols below 8 are unknowns, those from 8 to 15 givens.
+fn undeclared(unknowns: u8, givens: u8, c: u8) -> u8
+    ensures { λ r. ⌜ r ≡ digit (not (isLetterDeclared unknowns givens c)) ⌝ }
 {
-    // Symbols below 8 are unknowns, those from 8 to 15 givens.
-    let symbol = c as usize;
-    if symbol < 8 {
-        return symbol < unknowns;
+    if c < 8 {
+        if c < unknowns {
+            return 0;
+        }
+        return 1;
     }
-    if symbol < 16 {
-        return symbol - 8 < givens;
+    if c < 16 {
+        if c - 8 < givens {
+            return 0;
+        }
+        return 1;
     }
-    true
+    0
 }
 
 // Question 6, of a text's symbols.
-pub fn all_declared(unknowns: usize, givens: usize, s: &[u8]) -> bool
+pub fn all_declared(unknowns: u8, givens: u8, s: &[u8]) -> bool
     ensures { λ r. ⌜ r ≡ every (isLetterDeclared unknowns givens) (now (s .entry)) ⌝ }
 {
+    let mut fault = 0u8;
     for i in 0..s.len() {
-        if !is_declared(unknowns, givens, s[i]) {
-            return false;
-        }
+        fault = fault | undeclared(unknowns, givens, s[i]);
     }
-    true
+    fault == 0
 }
 
 fn joins_sum(c: u8) -> bool
@@ -118,161 +139,279 @@ fn joins_sum(c: u8) -> bool
     c == b'+' || c == b'|'
 }
 
-fn joined(c: u8, v: Values, y: Values) -> Values
-    ensures { λ r. ⌜ r ≡ joinedValues (eqb c orSign) v y ⌝ }
+// One of the six lowest letters at the 64 points of any word.
+fn low_letter(j: usize) -> u64
+    requires { ⌜ j < 6 ⌝ }
+    ensures { λ r. ⌜ r ≡ getD lowLetters j 0 ⌝ }
 {
-    if c == b'|' {
-        Values(v.0 | y.0, v.1 | y.1, v.2 | y.2, v.3 | y.3)
-    } else {
-        Values(v.0 ^ y.0, v.1 ^ y.1, v.2 ^ y.2, v.3 ^ y.3)
+    match j {
+        0 => 0xaaaa_aaaa_aaaa_aaaa,
+        1 => 0xcccc_cccc_cccc_cccc,
+        2 => 0xf0f0_f0f0_f0f0_f0f0,
+        3 => 0xff00_ff00_ff00_ff00,
+        4 => 0xffff_0000_ffff_0000,
+        _ => 0xffff_ffff_0000_0000,
     }
 }
 
-fn both(v: Values, y: Values) -> Values
-    ensures { λ r. ⌜ r ≡ bothValues v y ⌝ }
+// A letter from 6 on at the points of word w, which are 64 * w and those after it.
+fn high_letter(j: usize, w: usize) -> u64
+    requires { ⌜ (6 ≤ j) × (j < 64) ⌝ }
+    ensures { λ r. ⌜ r ≡ wordAt (λ p. bit p j) w ⌝ }
 {
-    Values(v.0 & y.0, v.1 & y.1, v.2 & y.2, v.3 & y.3)
-}
-
-fn negated(v: Values) -> Values
-    ensures { λ r. ⌜ r ≡ negatedValues v ⌝ }
-{
-    Values(v.0 ^ ONES, v.1 ^ ONES, v.2 ^ ONES, v.3 ^ ONES)
-}
-
-// Letter j at the points of word w, which are 64 * w and those after it.
-fn letter_word(j: usize, w: u64) -> u64
-    requires { ⌜ j < 64 ⌝ }
-    ensures { λ r. ⌜ r ≡ letterWord j w ⌝ }
-{
-    if j < 6 {
-        LOW_LETTERS[j]
-    } else if (w >> (j - 6)) % 2 == 1 {
+    if (w >> (j - 6)) % 2 == 1 {
         ONES
     } else {
         0
     }
 }
 
-// Letter j at the points of the four words from w on.
-fn letter_values(j: usize, w: u64) -> Values
-    requires { ⌜ (j < 64) × (w ≤ 12) ⌝ }
-    ensures { λ r. ⌜ r ≡ letterValues j w ⌝ }
+fn combine(op: u8, a: u64, b: u64) -> u64
+    ensures { λ r. ⌜ r ≡ joinOf op a b ⌝ }
 {
-    Values(
-        letter_word(j, w),
-        letter_word(j, w + 1),
-        letter_word(j, w + 2),
-        letter_word(j, w + 3),
-    )
+    match op {
+        b'*' => a & b,
+        b'|' => a | b,
+        b'+' => a ^ b,
+        _ => b,
+    }
 }
 
-fn sum(s: &[u8], at: usize, unknowns: usize, w: u64) -> Part
-    requires { ⌜ (at ≤ length (now s)) × (unknowns ≤ 6) × (w ≤ 12) ⌝ }
-    ensures { λ r. ⌜ Agrees unknowns (now (s .entry)) w at (reads reader.Reader.sum (drop at (now (s .entry)))) r ⌝ }
+// The second block joined to the first.
+fn join_blocks(op: u8, stack: &mut [u64], k: usize)
+    requires { ⌜ k + k ≤ length (now stack) ⌝ }
+    ensures { λ _. ⌜ now (stack .exit) ≡ filled k (paired op k (now (stack .entry))) (now (stack .entry)) ⌝ }
 {
-    match product(s, at, unknowns, w) {
-        Part::Missing => Part::Missing,
-        Part::UpTo(m, x) => {
+    for i in 0..k {
+        stack[i] = combine(op, stack[i], stack[k + i]);
+    }
+}
+
+// Ten letters have 16 words, eight have 4: a loop whose end is known is one run of wide operations.
+fn join(op: u8, stack: &mut [u64], k: usize)
+    requires { ⌜ k + k ≤ length (now stack) ⌝ }
+    ensures { λ _. ⌜ now (stack .exit) ≡ filled k (paired op k (now (stack .entry))) (now (stack .entry)) ⌝ }
+{
+    if k == 16 {
+        join_blocks(op, stack, 16);
+    } else if k == 4 {
+        join_blocks(op, stack, 4);
+    } else {
+        join_blocks(op, stack, k);
+    }
+}
+
+// A word joined to each of the first block.
+fn join_each(op: u8, stack: &mut [u64], k: usize, word: u64)
+    requires { ⌜ k ≤ length (now stack) ⌝ }
+    ensures { λ _. ⌜ now (stack .exit) ≡ filled k (λ i. joinOf op (getD (now (stack .entry)) i 0) word) (now (stack .entry)) ⌝ }
+{
+    for i in 0..k {
+        stack[i] = combine(op, stack[i], word);
+    }
+}
+
+fn join_word(op: u8, stack: &mut [u64], k: usize, word: u64)
+    requires { ⌜ k ≤ length (now stack) ⌝ }
+    ensures { λ _. ⌜ now (stack .exit) ≡ filled k (λ i. joinOf op (getD (now (stack .entry)) i 0) word) (now (stack .entry)) ⌝ }
+{
+    if k == 16 {
+        join_each(op, stack, 16, word);
+    } else if k == 4 {
+        join_each(op, stack, 4, word);
+    } else {
+        join_each(op, stack, k, word);
+    }
+}
+
+// A block of the words of a letter from 6 on.
+fn fill_high(stack: &mut [u64], k: usize, j: usize)
+    requires { ⌜ (k ≤ length (now stack)) × (6 ≤ j) × (j < 64) ⌝ }
+    ensures { λ _. ⌜ now (stack .exit) ≡ filled k (wordAt (λ p. bit p j)) (now (stack .entry)) ⌝ }
+{
+    for i in 0..k {
+        stack[i] = high_letter(j, i);
+    }
+}
+
+fn put_high(stack: &mut [u64], k: usize, j: usize)
+    requires { ⌜ (k ≤ length (now stack)) × (6 ≤ j) × (j < 64) ⌝ }
+    ensures { λ _. ⌜ now (stack .exit) ≡ filled k (wordAt (λ p. bit p j)) (now (stack .entry)) ⌝ }
+{
+    if k == 16 {
+        fill_high(stack, 16, j);
+    } else if k == 4 {
+        fill_high(stack, 4, j);
+    } else {
+        fill_high(stack, k, j);
+    }
+}
+
+// A block of letter j's words.
+fn put_letter(stack: &mut [u64], k: usize, j: usize)
+    requires { ⌜ (k ≤ length (now stack)) × (j < 64) ⌝ }
+    ensures { λ _. ⌜ now (stack .exit) ≡ filled k (wordAt (λ p. bit p j)) (now (stack .entry)) ⌝ }
+{
+    if j < 6 {
+        join_word(PUT, stack, k, low_letter(j));
+    } else {
+        put_high(stack, k, j);
+    }
+}
+
+fn sum(s: &[u8], at: usize, unknowns: usize, k: usize, stack: &mut [u64]) -> Place
+    requires { ⌜ (at ≤ length (now s)) × (unknowns ≤ 6) × (k ≤ 16) × (8 * (length (now s) - at) + 8 ≤ length (now stack)) ⌝ }
+    ensures { λ r. ⌜ Agrees unknowns k (now (s .entry)) at (length (now (stack .entry))) (now (stack .exit)) (reads reader.Reader.sum (drop at (now (s .entry)))) r ⌝ }
+{
+    match product(s, at, unknowns, k, stack) {
+        Place::Missing => Place::Missing,
+        Place::UpTo(m) => {
             let mut n = m;
-            let mut v = x;
             while n < s.len() {
                 let c = s[n];
                 if joins_sum(c) {
-                    match product(s, n + 1, unknowns, w) {
-                        Part::Missing => return Part::Missing,
-                        Part::UpTo(k, y) => {
-                            n = k;
-                            v = joined(c, v, y);
+                    match product(s, n + 1, unknowns, k, &mut stack[k..]) {
+                        Place::Missing => return Place::Missing,
+                        Place::UpTo(next) => {
+                            n = next;
+                            join(c, stack, k);
                         }
                     }
                 } else {
-                    return Part::UpTo(n, v);
+                    return Place::UpTo(n);
                 }
             }
-            Part::UpTo(n, v)
+            Place::UpTo(n)
         }
     }
 }
 
-fn product(s: &[u8], at: usize, unknowns: usize, w: u64) -> Part
-    requires { ⌜ (at ≤ length (now s)) × (unknowns ≤ 6) × (w ≤ 12) ⌝ }
-    ensures { λ r. ⌜ Agrees unknowns (now (s .entry)) w at (reads reader.Reader.product (drop at (now (s .entry)))) r ⌝ }
+fn product(s: &[u8], at: usize, unknowns: usize, k: usize, stack: &mut [u64]) -> Place
+    requires { ⌜ (at ≤ length (now s)) × (unknowns ≤ 6) × (k ≤ 16) × (8 * (length (now s) - at) + 8 ≤ length (now stack)) ⌝ }
+    ensures { λ r. ⌜ Agrees unknowns k (now (s .entry)) at (length (now (stack .entry))) (now (stack .exit)) (reads reader.Reader.product (drop at (now (s .entry)))) r ⌝ }
 {
-    match factor(s, at, unknowns, w) {
-        Part::Missing => Part::Missing,
-        Part::UpTo(m, x) => {
+    match factor(s, at, unknowns, k, stack) {
+        Place::Missing => Place::Missing,
+        Place::UpTo(m) => {
             let mut n = m;
-            let mut v = x;
             while n < s.len() {
                 if s[n] == b'*' {
-                    match factor(s, n + 1, unknowns, w) {
-                        Part::Missing => return Part::Missing,
-                        Part::UpTo(k, y) => {
-                            n = k;
-                            v = both(v, y);
+                    match factor(s, n + 1, unknowns, k, &mut stack[k..]) {
+                        Place::Missing => return Place::Missing,
+                        Place::UpTo(next) => {
+                            n = next;
+                            join(b'*', stack, k);
                         }
                     }
                 } else {
-                    return Part::UpTo(n, v);
+                    return Place::UpTo(n);
                 }
             }
-            Part::UpTo(n, v)
+            Place::UpTo(n)
         }
     }
 }
 
-fn factor(s: &[u8], at: usize, unknowns: usize, w: u64) -> Part
-    requires { ⌜ (at ≤ length (now s)) × (unknowns ≤ 6) × (w ≤ 12) ⌝ }
-    ensures { λ r. ⌜ Agrees unknowns (now (s .entry)) w at (reads reader.Reader.factor (drop at (now (s .entry)))) r ⌝ }
+fn factor(s: &[u8], at: usize, unknowns: usize, k: usize, stack: &mut [u64]) -> Place
+    requires { ⌜ (at ≤ length (now s)) × (unknowns ≤ 6) × (k ≤ 16) × (8 * (length (now s) - at) + 8 ≤ length (now stack)) ⌝ }
+    ensures { λ r. ⌜ Agrees unknowns k (now (s .entry)) at (length (now (stack .entry))) (now (stack .exit)) (reads reader.Reader.factor (drop at (now (s .entry)))) r ⌝ }
 {
     if at < s.len() {
         let c = s[at];
         let next = at + 1;
         match c {
-            b'0' => Part::UpTo(next, Values(0, 0, 0, 0)),
-            b'1' => Part::UpTo(next, Values(ONES, ONES, ONES, ONES)),
-            b'!' => match factor(s, next, unknowns, w) {
-                Part::Missing => Part::Missing,
-                Part::UpTo(n, v) => Part::UpTo(n, negated(v)),
+            b'0' => {
+                join_word(PUT, stack, k, 0);
+                Place::UpTo(next)
+            }
+            b'1' => {
+                join_word(PUT, stack, k, ONES);
+                Place::UpTo(next)
+            }
+            b'!' => match factor(s, next, unknowns, k, stack) {
+                Place::Missing => Place::Missing,
+                Place::UpTo(n) => {
+                    join_word(b'+', stack, k, ONES);
+                    Place::UpTo(n)
+                }
             },
-            b'(' => match sum(s, next, unknowns, w) {
-                Part::Missing => Part::Missing,
-                Part::UpTo(n, v) => {
+            b'(' => match sum(s, next, unknowns, k, stack) {
+                Place::Missing => Place::Missing,
+                Place::UpTo(n) => {
                     if n < s.len() {
                         if s[n] == b')' {
-                            Part::UpTo(n + 1, v)
+                            Place::UpTo(n + 1)
                         } else {
-                            Part::Missing
+                            Place::Missing
                         }
                     } else {
-                        Part::Missing
+                        Place::Missing
                     }
                 }
             },
             // an unknown, a given
-            0..=5 => Part::UpTo(next, letter_values(c as usize, w)),
-            8..=15 => Part::UpTo(next, letter_values(unknowns + (c - GIVEN) as usize, w)),
-            _ => Part::Missing,
+            0..=5 => {
+                put_letter(stack, k, c as usize);
+                Place::UpTo(next)
+            }
+            8..=15 => {
+                put_letter(stack, k, unknowns + (c - GIVEN) as usize);
+                Place::UpTo(next)
+            }
+            _ => Place::Missing,
         }
     } else {
-        Part::Missing
+        Place::Missing
     }
 }
 
-// Question 7 of a text's symbols and, where the answer is yes, the values at the points of the four words from w on.
-pub fn whole_values(s: &[u8], unknowns: usize, w: u64) -> Whole
-    requires { ⌜ (unknowns ≤ 6) × (w ≤ 12) ⌝ }
-    ensures { λ r. ⌜ r ≡ wholeValues unknowns (reads reader.Reader.sum (now (s .entry))) w ⌝ }
+// Question 7 of a text's symbols and, where the answer is yes, the values at the points of the words.
+fn read_with(s: &[u8], unknowns: usize, words: &mut [u64], stack: &mut [u64]) -> bool
+    requires { ⌜ (unknowns ≤ 6) × (length (now words) ≤ 16) × (8 * length (now s) + 8 ≤ length (now stack)) ⌝ }
+    ensures { λ r. ⌜ r ≡ isWhole (reads reader.Reader.sum (now (s .entry))) ⌝ }
+    ensures { λ _. ⌜ now (words .exit) ≡ wholeWords unknowns (reads reader.Reader.sum (now (s .entry))) (now (words .entry)) ⌝ }
 {
-    match sum(s, 0, unknowns, w) {
-        Part::Missing => Whole::Unread,
-        Part::UpTo(n, v) => {
+    let k = words.len();
+    match sum(s, 0, unknowns, k, stack) {
+        Place::Missing => false,
+        Place::UpTo(n) => {
             if n == s.len() {
-                Whole::Read(v)
+                words::copy(words, &stack[..k]);
+                true
             } else {
-                Whole::Unread
+                false
             }
         }
     }
+}
+
+// A short text needs a small stack. The stacks live here.
+fn read_short(s: &[u8], unknowns: usize, words: &mut [u64]) -> bool
+    requires { ⌜ (length (now s) ≤ 31) × (unknowns ≤ 6) × (length (now words) ≤ 16) ⌝ }
+    ensures { λ r. ⌜ r ≡ isWhole (reads reader.Reader.sum (now (s .entry))) ⌝ }
+    ensures { λ _. ⌜ now (words .exit) ≡ wholeWords unknowns (reads reader.Reader.sum (now (s .entry))) (now (words .entry)) ⌝ }
+{
+    let mut stack = [0u64; 256];
+    read_with(s, unknowns, words, &mut stack)
+}
+
+fn read_long(s: &[u8], unknowns: usize, words: &mut [u64]) -> bool
+    requires { ⌜ (length (now s) ≤ 200) × (unknowns ≤ 6) × (length (now words) ≤ 16) ⌝ }
+    ensures { λ r. ⌜ r ≡ isWhole (reads reader.Reader.sum (now (s .entry))) ⌝ }
+    ensures { λ _. ⌜ now (words .exit) ≡ wholeWords unknowns (reads reader.Reader.sum (now (s .entry))) (now (words .entry)) ⌝ }
+{
+    let mut stack = [0u64; 1608];
+    read_with(s, unknowns, words, &mut stack)
+}
+
+// Question 7 of a text's symbols and, where the answer is yes, the values of its tree in `words`, 64 points to a word.
+pub fn read_values(s: &[u8], unknowns: usize, words: &mut [u64]) -> bool
+    requires { ⌜ (length (now s) ≤ 200) × (unknowns ≤ 6) × (length (now words) ≤ 16) ⌝ }
+    ensures { λ r. ⌜ r ≡ isWhole (reads reader.Reader.sum (now (s .entry))) ⌝ }
+    ensures { λ _. ⌜ now (words .exit) ≡ wholeWords unknowns (reads reader.Reader.sum (now (s .entry))) (now (words .entry)) ⌝ }
+{
+    if s.len() < 32 {
+        return read_short(s, unknowns, words);
+    }
+    read_long(s, unknowns, words)
 }

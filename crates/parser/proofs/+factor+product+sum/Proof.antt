@@ -1,12 +1,14 @@
 -- The proof of the cycle of calls {factor, product, sum}. The measure is three for each symbol that is left, and the reader's place in the descent.
 -- What each answer cites is a law of `Readers`; `search` finds its premises in what is known there. Assumes nothing.
-use Prim.Native.Nat.{ℕ, _+_, _*_, _-_, _<_}
+use mathlib.Core.Path.{_≡_, refl, _∙_}
+use Prim.Native.Nat.{_+_, _*_, _-_, _≤_}
 use native.Mathlib.Omega.{arith}
 use borrow.Author.Needs.{needs}
 use borrow.Author.Tests.{eq-eqb, ne-eqb}
-use lib.ListN.{length}
+use lib.ListN.{length, getD}
 use Rattle.parser.proofs.Readers.{Going, sumLoop, productLoop, missing, up-to}
 use Rattle.parser.proofs.Readers as readers
+use Prim.Native.Nat.{ℕ, _<_}
 use borrow.Fn.Kinds.{In}
 use borrow.Fn.PlainCycle.{Measures, is, falls, and}
 use Rattle.parser.proofs.factor.Reads as factor
@@ -18,58 +20,69 @@ use Rattle.parser.proofs.+factor+product+sum.Lts-product as product-lts
 use Rattle.parser.proofs.sum.Reads as sum
 use Rattle.parser.proofs.sum.Kinds as sum-kinds
 use Rattle.parser.proofs.+factor+product+sum.Lts-sum as sum-lts
-use Rattle.parser.proofs.both.Reads as both-reads
-use Rattle.parser.proofs.joined.Reads as joined-reads
+use Rattle.parser.proofs.join.Reads as join-reads
 use Rattle.parser.proofs.joins_sum.Reads as joins-sum-reads
-use Rattle.parser.proofs.negated.Reads as negated-reads
-use Rattle.parser.proofs.letter_values.Reads as letter-values-reads
+use Rattle.parser.proofs.put_letter.Reads as put-letter-reads
+use Rattle.parser.proofs.join_word.Reads as join-word-reads
 use Rattle.parser.proofs.+factor+product+sum.{statement}
 use Rattle.parser.proofs.+factor+product+sum.Tie.{close}
 
-abbrev μ-factor : Measures 1 factor-kinds.ps ℕ
+abbrev μ-factor : Measures 2 factor-kinds.ps ℕ
 μ-factor κs a = 3 * (length (a .0 .now) - a .1 .0)
 
-abbrev μ-product : Measures 1 product-kinds.ps ℕ
+abbrev μ-product : Measures 2 product-kinds.ps ℕ
 μ-product κs a = 3 * (length (a .0 .now) - a .1 .0) + 1
 
-abbrev μ-sum : Measures 1 sum-kinds.ps ℕ
+abbrev μ-sum : Measures 2 sum-kinds.ps ℕ
 μ-sum κs a = 3 * (length (a .0 .now) - a .1 .0) + 2
 
-abbrev factor-at : ℕ → In 1 factor-kinds.ps
-factor-at t = and 1 factor-kinds.ps (is 1 factor-kinds.ps μ-factor t) factor.Pre
+abbrev factor-at : ℕ → In 2 factor-kinds.ps
+factor-at t = and 2 factor-kinds.ps (is 2 factor-kinds.ps μ-factor t) factor.Pre
 
-abbrev factor-below : ℕ → In 1 factor-kinds.ps
-factor-below t = and 1 factor-kinds.ps (falls 1 factor-kinds.ps _<_ μ-factor t) factor.Pre
+abbrev factor-below : ℕ → In 2 factor-kinds.ps
+factor-below t = and 2 factor-kinds.ps (falls 2 factor-kinds.ps _<_ μ-factor t) factor.Pre
 
-abbrev product-at : ℕ → In 1 product-kinds.ps
-product-at t = and 1 product-kinds.ps (is 1 product-kinds.ps μ-product t) product.Pre
+abbrev product-at : ℕ → In 2 product-kinds.ps
+product-at t = and 2 product-kinds.ps (is 2 product-kinds.ps μ-product t) product.Pre
 
-abbrev product-below : ℕ → In 1 product-kinds.ps
-product-below t = and 1 product-kinds.ps (falls 1 product-kinds.ps _<_ μ-product t) product.Pre
+abbrev product-below : ℕ → In 2 product-kinds.ps
+product-below t = and 2 product-kinds.ps (falls 2 product-kinds.ps _<_ μ-product t) product.Pre
 
-abbrev sum-at : ℕ → In 1 sum-kinds.ps
-sum-at t = and 1 sum-kinds.ps (is 1 sum-kinds.ps μ-sum t) sum.Pre
+abbrev sum-at : ℕ → In 2 sum-kinds.ps
+sum-at t = and 2 sum-kinds.ps (is 2 sum-kinds.ps μ-sum t) sum.Pre
 
-abbrev sum-below : ℕ → In 1 sum-kinds.ps
-sum-below t = and 1 sum-kinds.ps (falls 1 sum-kinds.ps _<_ μ-sum t) sum.Pre
+abbrev sum-below : ℕ → In 2 sum-kinds.ps
+sum-below t = and 2 sum-kinds.ps (falls 2 sum-kinds.ps _<_ μ-sum t) sum.Pre
 
 abbrev product-Inv-loop : product-lts.InvT-loop
-product-Inv-loop s at unknowns w m n₀ v₀ n v = Going productLoop unknowns s w at n v
+product-Inv-loop s at unknowns k stack₀ m n₀ stack n = Going productLoop unknowns k s at (length stack₀) n stack
 
 abbrev product-μ-loop : product-lts.MeasureT-loop
-product-μ-loop s at unknowns w m n₀ v₀ n v = length s - n
+product-μ-loop s at unknowns k stack₀ m n₀ stack n = length s - n
 
 abbrev sum-Inv-loop : sum-lts.InvT-loop
-sum-Inv-loop s at unknowns w m n₀ v₀ n v = Going sumLoop unknowns s w at n v
+sum-Inv-loop s at unknowns k stack₀ m n₀ stack n = Going sumLoop unknowns k s at (length stack₀) n stack
 
 abbrev sum-μ-loop : sum-lts.MeasureT-loop
-sum-μ-loop s at unknowns w m n₀ v₀ n v = length s - n
+sum-μ-loop s at unknowns k stack₀ m n₀ stack n = length s - n
 
 pub +factor+product+sum-spec : {M : Type 1} → statement M
-+factor+product+sum-spec = close μ-factor μ-product μ-sum
-    (λ t. factor-lts.spec (factor-below t, factor.Post, negated-reads.Asked, negated-reads.Learnt, sum-below t, sum.Post, letter-values-reads.Asked, letter-values-reads.Learnt) (factor-at t) factor.Post
++factor+product+sum-spec = close μ-factor μ-product μ-sum (λ t. factor-lts.spec (
+  join-word-reads.Asked,
+  join-word-reads.Learnt,
+  factor-below t,
+  factor.Post,
+  sum-below t,
+  sum.Post,
+  put-letter-reads.Asked,
+  put-letter-reads.Learnt,
+)
+    (factor-at t)
+    factor.Post
     (λ c. search needs)
     (λ c. search needs)
+    (λ c κs. search needs)
+    (λ c κs. search needs)
     (λ c κs. search needs)
     (λ c. search needs)
     (λ c. search needs)
@@ -84,41 +97,67 @@ pub +factor+product+sum-spec : {M : Type 1} → statement M
     (λ c. search needs)
     (λ c. search needs)
     (λ c κs. search needs)
+    (λ c. search needs)
     (λ c. search (readers.reads-zero))
+    (λ c. search needs)
     (λ c. search (readers.reads-one))
+    (λ c. search needs)
     (λ c. search (readers.not-missing, missing))
-    (λ c. rw (c .negated .ensures) (search (readers.reads-not, up-to)))
+    (λ c. search needs)
+    (λ c. search (readers.reads-not, up-to))
+    (λ c. search needs)
     (λ c. search (readers.open-missing, missing))
+    (λ c. search needs)
     (λ c. search (readers.reads-brackets, up-to))
-    (λ c. readers.close-missing _ _ (search needs) _ _ (search needs) (up-to (c .before .before .before .before .n2 .given .1) (c .before .before .before .before .before .before .sum .ensures)) (c .before .before .if2 .taken) (c .if3 .left))
-    (λ c. readers.close-at-end _ _ (search needs) _ _ (search needs) (up-to (c .before .before .n2 .given .1) (c .before .before .before .before .sum .ensures)) (c .if2 .left))
+    (λ c. search needs)
+    (λ c. readers.close-missing _ _ (search needs) _ _ _ ((c .before .before .before .before .before .before .before .before .before .before .before .before .before .before .before .pre) .1 .2) ((c .before .before .before .before .before .before .before .before .before .before .before .before .before .before .before .pre) .1 .3) (search needs) (up-to ((c .before .before .before .before .n2) .given .1) ((c .before .before .before .before .before .before .before .before .sum) .ensures)) ((c .before .before .if2) .taken) ((c .if3) .left))
+    (λ c. search needs)
+    (λ c. readers.close-at-end _ _ (search needs) _ _ _ ((c .before .before .before .before .before .before .before .before .before .before .before .before .before .pre) .1 .2) ((c .before .before .before .before .before .before .before .before .before .before .before .before .before .pre) .1 .3) (search needs) (up-to ((c .before .before .n2) .given .1) ((c .before .before .before .before .before .before .sum) .ensures)) ((c .if2) .left))
+    (λ c. search needs)
     (λ c. search (readers.reads-unknown))
+    (λ c. search needs)
     (λ c. search (readers.reads-given))
     (λ c. search (readers.between-missing))
     (λ c. search (readers.other-missing))
     (λ c. search (readers.at-end)))
     (λ t. product-lts.spec
-    (factor-below t, factor.Post, both-reads.Asked, both-reads.Learnt) (product-at t)
+    (factor-below t, factor.Post, join-reads.Asked, join-reads.Learnt)
+    (product-at t)
     product.Post
     product-Inv-loop
     product-μ-loop
     (λ c κs. search needs)
     (λ c. search needs)
     (λ c. search needs)
-    (λ c. search (readers.begin productLoop, up-to))
+    (λ c. readers.begin productLoop _ _ _ _ _ (up-to ((c .before .m) .given .1) ((c .before .before .before .before .before .factor) .ensures)))
     (λ c. search needs)
     (λ c. search needs)
-    (λ c κs. search needs)
+    (λ c. omega (arith, (c .before .before .before .before .before .before .before .before .before .before .before .before .before .pre) .1 .2))
+    (λ c. readers.part-start productLoop _ _ _ _ _ (up-to ((c .before .before .before .before .before .m) .given .1) ((c .before .before .before .before .before .before .before .before .before .factor) .ensures)) ((c .before .before .before .loop) .inv) ((c .before .before .loop-test) .taken) ((c .before .before .before .before .before .before .before .before .before .before .before .before .before .pre) .1 .2) ((c .before .before .before .before .before .before .before .before .before .before .before .before .before .pre) .1 .3))
+    (λ c. omega (arith, readers.part-start productLoop _ _ _ _ _ (up-to ((c .before .before .before .before .before .m) .given .1) ((c .before .before .before .before .before .before .before .before .before .factor) .ensures)) ((c .before .before .before .loop) .inv) ((c .before .before .loop-test) .taken) ((c .before .before .before .before .before .before .before .before .before .before .before .before .before .pre) .1 .2) ((c .before .before .before .before .before .before .before .before .before .before .before .before .before .pre) .1 .3)))
+    (λ c. omega (arith, readers.part-start productLoop _ _ _ _ _ (up-to ((c .before .before .before .before .before .m) .given .1) ((c .before .before .before .before .before .before .before .before .before .factor) .ensures)) ((c .before .before .before .loop) .inv) ((c .before .before .loop-test) .taken) ((c .before .before .before .before .before .before .before .before .before .before .before .before .before .pre) .1 .2) ((c .before .before .before .before .before .before .before .before .before .before .before .before .before .pre) .1 .3)))
+    (λ c κs. (omega (arith, (c .before .before .before .before .before .before .before .before .before .before .before .before .before .before .pre) .0, (c .before .before .before .before .loop) .inv .past, (c .before .before .before .loop-test) .taken), (omega (arith, (c .before .before .before .loop-test) .taken), (c .before .before .before .before .before .before .before .before .before .before .before .before .before .before .pre) .1 .1, (c .before .before .before .before .before .before .before .before .before .before .before .before .before .before .pre) .1 .2, readers.part-room productLoop _ _ _ _ _ (up-to ((c .before .before .before .before .before .before .m) .given .1) ((c .before .before .before .before .before .before .before .before .before .before .factor) .ensures)) ((c .before .before .before .before .loop) .inv) ((c .before .before .before .loop-test) .taken) ((c .before .before .before .before .before .before .before .before .before .before .before .before .before .before .pre) .1 .2) ((c .before .before .before .before .before .before .before .before .before .before .before .before .before .before .pre) .1 .3))))
     (λ c. search needs)
+    (λ c. let g = (up-to ((c .before .before .before .before .before .before .before .before .before .before .before .m) .given .1) ((c .before .before .before .before .before .before .before .before .before .before .before .before .before .before .before .factor) .ensures)) in readers.stays ((c .before .before .before .before .before .before .before .before .before .before .before .before .before .before .before .before .before .before .before .args) .k) ((c .before .before .before .before .before .before .before .before .before .loop) .stack) ((c .before .before .before .before .factor2) .last .1 .1 .1 .1 .0) ((c .before .before .before .before .factor2) .kept .1 .1 .1 .1 .0) ((c .before .before .before .before .before .before .before .before .before .loop) .inv .kept) (g .kept))
     (λ c. search (readers.more-missing productLoop, missing, eq-eqb))
     (λ c. search needs)
-    (λ c κs. search needs)
-    (λ c. let g = up-to (c .before .before .k .given .1) (c .before .before .before .before .factor2 .ensures) in omega (arith, g .past, g .inside, c .before .before .before .before .before .before .before .loop-test .taken))
-    (λ c. rw (c .both .ensures) (search (readers.more productLoop, up-to, eq-eqb)))
-    (λ c. search (readers.other-sign productLoop, ne-eqb))
+    (λ c κs. readers.both-room productLoop _ _ _ _ _ (up-to ((c .before .before .before .before .before .before .before .before .before .before .before .before .before .m) .given .1) ((c .before .before .before .before .before .before .before .before .before .before .before .before .before .before .before .before .before .factor) .ensures)) ((c .before .before .before .before .before .before .before .before .before .before .before .loop) .inv) ((c .before .before .before .before .before .before .before .before .before .before .loop-test) .taken) ((c .before .before .before .before .before .before .before .before .before .before .before .before .before .before .before .before .before .before .before .before .before .pre) .1 .2) ((c .before .before .before .before .before .before .before .before .before .before .before .before .before .before .before .before .before .before .before .before .before .pre) .1 .3) (up-to ((c .before .before .next) .given .1) ((c .before .before .before .before .before .before .factor2) .ensures)))
+    (λ c. let g = (up-to ((c .before .before .before .before .before .next) .given .1) ((c .before .before .before .before .before .before .before .before .before .factor2) .ensures)) in omega (arith, g .past, g .inside, (c .before .before .before .before .before .before .before .before .before .before .before .before .before .loop-test) .taken))
+    (λ c. readers.more productLoop _ _ _ _ _ (up-to ((c .before .before .before .before .before .before .before .before .before .before .before .before .before .before .before .before .m) .given .1) ((c .before .before .before .before .before .before .before .before .before .before .before .before .before .before .before .before .before .before .before .before .factor) .ensures)) ((c .before .before .before .before .before .before .before .before .before .before .before .before .before .before .loop) .inv) ((c .before .before .before .before .before .before .before .before .before .before .before .before .before .loop-test) .taken) ((c .before .before .before .before .before .before .before .before .before .before .before .before .before .before .before .before .before .before .before .before .before .before .before .before .pre) .1 .2) ((c .before .before .before .before .before .before .before .before .before .before .before .before .before .before .before .before .before .before .before .before .before .before .before .before .pre) .1 .3) (up-to ((c .before .before .before .before .before .next) .given .1) ((c .before .before .before .before .before .before .before .before .before .factor2) .ensures)) _ (eq-eqb _ _ ((c .before .before .before .before .before .before .before .before .before .before .before .if1) .taken)) ((c .before .before .join) .ensures))
+    (λ c. let g = (up-to ((c .before .before .before .before .before .m) .given .1) ((c .before .before .before .before .before .before .before .before .before .factor) .ensures)) in (c .before .before .before .loop) .inv .kept ∙ g .kept)
+    (λ c. readers.other-sign productLoop _ _ _ _ _ (up-to ((c .before .before .before .before .before .m) .given .1) ((c .before .before .before .before .before .before .before .before .before .factor) .ensures)) ((c .before .before .before .loop) .inv) ((c .before .before .loop-test) .taken) (ne-eqb _ _ ((c .if1) .left)))
+    (λ c. search needs)
     (λ c. search (readers.begin-missing productLoop, missing))
-    (λ c. search (readers.ended productLoop)))
-    λ t. sum-lts.spec (product-below t, product.Post, joins-sum-reads.Asked, joins-sum-reads.Learnt, joined-reads.Asked, joined-reads.Learnt)
+    (λ c. let g = (up-to ((c .before .before .before .m) .given .1) ((c .before .before .before .before .before .before .before .factor) .ensures)) in (c .before .loop) .inv .kept ∙ g .kept)
+    (λ c. readers.ended productLoop _ _ _ _ _ (up-to ((c .before .before .before .m) .given .1) ((c .before .before .before .before .before .before .before .factor) .ensures)) ((c .before .loop) .inv) ((c .loop-test) .left)))
+    λ t. sum-lts.spec (
+      product-below t,
+      product.Post,
+      joins-sum-reads.Asked,
+      joins-sum-reads.Learnt,
+      join-reads.Asked,
+      join-reads.Learnt,
+    )
     (sum-at t)
     sum.Post
     sum-Inv-loop
@@ -126,17 +165,25 @@ pub +factor+product+sum-spec : {M : Type 1} → statement M
     (λ c κs. search needs)
     (λ c. search needs)
     (λ c. search needs)
-    (λ c. search (readers.begin sumLoop, up-to))
+    (λ c. readers.begin sumLoop _ _ _ _ _ (up-to ((c .before .m) .given .1) ((c .before .before .before .before .before .product) .ensures)))
     (λ c. search needs)
     (λ c κs. search needs)
     (λ c. search needs)
-    (λ c κs. search needs)
+    (λ c. omega (arith, (c .before .before .before .before .before .before .before .before .before .before .before .before .before .before .pre) .1 .2))
+    (λ c. readers.part-start sumLoop _ _ _ _ _ (up-to ((c .before .before .before .before .before .before .m) .given .1) ((c .before .before .before .before .before .before .before .before .before .before .product) .ensures)) ((c .before .before .before .before .loop) .inv) ((c .before .before .before .loop-test) .taken) ((c .before .before .before .before .before .before .before .before .before .before .before .before .before .before .pre) .1 .2) ((c .before .before .before .before .before .before .before .before .before .before .before .before .before .before .pre) .1 .3))
+    (λ c. omega (arith, readers.part-start sumLoop _ _ _ _ _ (up-to ((c .before .before .before .before .before .before .m) .given .1) ((c .before .before .before .before .before .before .before .before .before .before .product) .ensures)) ((c .before .before .before .before .loop) .inv) ((c .before .before .before .loop-test) .taken) ((c .before .before .before .before .before .before .before .before .before .before .before .before .before .before .pre) .1 .2) ((c .before .before .before .before .before .before .before .before .before .before .before .before .before .before .pre) .1 .3)))
+    (λ c. omega (arith, readers.part-start sumLoop _ _ _ _ _ (up-to ((c .before .before .before .before .before .before .m) .given .1) ((c .before .before .before .before .before .before .before .before .before .before .product) .ensures)) ((c .before .before .before .before .loop) .inv) ((c .before .before .before .loop-test) .taken) ((c .before .before .before .before .before .before .before .before .before .before .before .before .before .before .pre) .1 .2) ((c .before .before .before .before .before .before .before .before .before .before .before .before .before .before .pre) .1 .3)))
+    (λ c κs. (omega (arith, (c .before .before .before .before .before .before .before .before .before .before .before .before .before .before .before .pre) .0, (c .before .before .before .before .before .loop) .inv .past, (c .before .before .before .before .loop-test) .taken), (omega (arith, (c .before .before .before .before .loop-test) .taken), (c .before .before .before .before .before .before .before .before .before .before .before .before .before .before .before .pre) .1 .1, (c .before .before .before .before .before .before .before .before .before .before .before .before .before .before .before .pre) .1 .2, readers.part-room sumLoop _ _ _ _ _ (up-to ((c .before .before .before .before .before .before .before .m) .given .1) ((c .before .before .before .before .before .before .before .before .before .before .before .product) .ensures)) ((c .before .before .before .before .before .loop) .inv) ((c .before .before .before .before .loop-test) .taken) ((c .before .before .before .before .before .before .before .before .before .before .before .before .before .before .before .pre) .1 .2) ((c .before .before .before .before .before .before .before .before .before .before .before .before .before .before .before .pre) .1 .3))))
     (λ c. search needs)
+    (λ c. let g = (up-to ((c .before .before .before .before .before .before .before .before .before .before .before .before .m) .given .1) ((c .before .before .before .before .before .before .before .before .before .before .before .before .before .before .before .before .product) .ensures)) in readers.stays ((c .before .before .before .before .before .before .before .before .before .before .before .before .before .before .before .before .before .before .before .before .args) .k) ((c .before .before .before .before .before .before .before .before .before .before .loop) .stack) ((c .before .before .before .before .product2) .last .1 .1 .1 .1 .0) ((c .before .before .before .before .product2) .kept .1 .1 .1 .1 .0) ((c .before .before .before .before .before .before .before .before .before .before .loop) .inv .kept) (g .kept))
     (λ c. search (readers.more-missing sumLoop, missing, readers.sum-test))
     (λ c. search needs)
-    (λ c κs. search needs)
-    (λ c. let g = up-to (c .before .before .k .given .1) (c .before .before .before .before .product2 .ensures) in omega (arith, g .past, g .inside, c .before .before .before .before .before .before .before .before .loop-test .taken))
-    (λ c. rw (c .joined .ensures) (search (readers.more sumLoop, up-to, readers.sum-test)))
-    (λ c. search (readers.other-sign sumLoop, readers.sum-test))
+    (λ c κs. readers.both-room sumLoop _ _ _ _ _ (up-to ((c .before .before .before .before .before .before .before .before .before .before .before .before .before .before .m) .given .1) ((c .before .before .before .before .before .before .before .before .before .before .before .before .before .before .before .before .before .before .product) .ensures)) ((c .before .before .before .before .before .before .before .before .before .before .before .before .loop) .inv) ((c .before .before .before .before .before .before .before .before .before .before .before .loop-test) .taken) ((c .before .before .before .before .before .before .before .before .before .before .before .before .before .before .before .before .before .before .before .before .before .before .pre) .1 .2) ((c .before .before .before .before .before .before .before .before .before .before .before .before .before .before .before .before .before .before .before .before .before .before .pre) .1 .3) (up-to ((c .before .before .next) .given .1) ((c .before .before .before .before .before .before .product2) .ensures)))
+    (λ c. let g = (up-to ((c .before .before .before .before .before .next) .given .1) ((c .before .before .before .before .before .before .before .before .before .product2) .ensures)) in omega (arith, g .past, g .inside, (c .before .before .before .before .before .before .before .before .before .before .before .before .before .before .loop-test) .taken))
+    (λ c. readers.more sumLoop _ _ _ _ _ (up-to ((c .before .before .before .before .before .before .before .before .before .before .before .before .before .before .before .before .before .m) .given .1) ((c .before .before .before .before .before .before .before .before .before .before .before .before .before .before .before .before .before .before .before .before .before .product) .ensures)) ((c .before .before .before .before .before .before .before .before .before .before .before .before .before .before .before .loop) .inv) ((c .before .before .before .before .before .before .before .before .before .before .before .before .before .before .loop-test) .taken) ((c .before .before .before .before .before .before .before .before .before .before .before .before .before .before .before .before .before .before .before .before .before .before .before .before .before .pre) .1 .2) ((c .before .before .before .before .before .before .before .before .before .before .before .before .before .before .before .before .before .before .before .before .before .before .before .before .before .pre) .1 .3) (up-to ((c .before .before .before .before .before .next) .given .1) ((c .before .before .before .before .before .before .before .before .before .product2) .ensures)) _ (readers.sum-test _ _ (getD ((c .before .before .before .before .before .before .before .before .before .before .before .before .before .before .before .before .before .before .before .before .before .before .before .before .before .args) .s .now) ((c .before .before .before .before .before .before .before .before .before .before .before .before .before .before .before .loop) .n) 0) ((c .before .before .before .before .before .before .before .before .before .before .before .before .joins-sum) .ensures) ((c .before .before .before .before .before .before .before .before .before .before .before .if1) .taken)) ((c .before .before .join) .ensures))
+    (λ c. let g = (up-to ((c .before .before .before .before .before .before .m) .given .1) ((c .before .before .before .before .before .before .before .before .before .before .product) .ensures)) in (c .before .before .before .before .loop) .inv .kept ∙ g .kept)
+    (λ c. readers.other-sign sumLoop _ _ _ _ _ (up-to ((c .before .before .before .before .before .before .m) .given .1) ((c .before .before .before .before .before .before .before .before .before .before .product) .ensures)) ((c .before .before .before .before .loop) .inv) ((c .before .before .before .loop-test) .taken) (readers.sum-test _ _ (getD ((c .before .before .before .before .before .before .before .before .before .before .before .before .before .before .args) .s .now) ((c .before .before .before .before .loop) .n) 0) ((c .before .joins-sum) .ensures) ((c .if1) .left)))
+    (λ c. search needs)
     (λ c. search (readers.begin-missing sumLoop, missing))
-    (λ c. search (readers.ended sumLoop))
+    (λ c. let g = (up-to ((c .before .before .before .m) .given .1) ((c .before .before .before .before .before .before .before .product) .ensures)) in (c .before .loop) .inv .kept ∙ g .kept)
+    (λ c. readers.ended sumLoop _ _ _ _ _ (up-to ((c .before .before .before .m) .given .1) ((c .before .before .before .before .before .before .before .product) .ensures)) ((c .before .loop) .inv) ((c .loop-test) .left))
