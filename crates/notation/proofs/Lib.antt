@@ -1,3 +1,3 @@
-mod Values
 pub mod Refusal
+pub mod Values
 pub mod Theorems

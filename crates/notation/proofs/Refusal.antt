@@ -3,7 +3,7 @@
 use mathlib.Core.Path.{_≡_, refl, sym, _∙_}
 use mathlib.Core.Bool.{true, false}
 use mathlib.Core.List.{List, [], _++_, append-nil}
-use Prim.Native.Nat.{ℕ, _+_, _^_, _≤_, _<_}
+use Prim.Native.Nat.{ℕ, _+_, _-_, _^_, _≤_, _<_}
 use native.Mathlib.Omega.{arith}
 use lib.Dec.{leb}
 use lib.ListN.{length, take, drop, take-append-drop, drop-of-length-le}
@@ -21,11 +21,39 @@ use Rattle.ring.proofs.Bool.{and-right}
 use Rattle.grammar.specs.Reader.{grammarReads}
 use Rattle.grammar.specs.Text.{textTable}
 use Rattle.notation.specs.Text.{hasTextLength, textQuestions, textRefusal, Accepted}
-use Rattle.notation.specs.Work.{Ready, earlyRefusal, lateRefusal}
+use Rattle.notation.specs.Work.{Ready, earlyRefusal, symbolQuestions, lateRefusal, valuesRefusal}
 
 pub text-short : (text : List ℕ) → hasTextLength text ≡ true → length text ≤ 200
 unfolding hasTextLength
 text-short text h = leb-true (length text) 200 (and-right (leb 1 (length text)) (leb (length text) 200) h)
+
+module _ (U G : ℕ) (text : List ℕ) where
+  pub refused-signs : allSigns text ≡ false → 5 ≡ lateRefusal U G text
+  unfolding lateRefusal symbolQuestions firstNo
+  refused-signs s = rw s
+
+  module _ (s : allSigns text ≡ true) where
+    pub refused-declared : allDeclared U G text ≡ false → 6 ≡ lateRefusal U G text
+    unfolding lateRefusal symbolQuestions firstNo
+    refused-declared d = rw (s, d)
+
+    module _ (d : allDeclared U G text ≡ true) where
+      pub refused-grammar : grammarReads text ≡ false → 7 ≡ lateRefusal U G text
+      unfolding lateRefusal symbolQuestions firstNo
+      refused-grammar g = rw (s, d, g)
+
+      pub not-late : grammarReads text ≡ true → 0 ≡ lateRefusal U G text
+      unfolding lateRefusal symbolQuestions firstNo
+      not-late g = rw (s, d, g)
+
+  -- with question 3 before them
+  pub values-refused-length : hasTextLength text ≡ false → 3 ≡ valuesRefusal U G text
+  unfolding valuesRefusal firstNo
+  values-refused-length t = rw t
+
+  pub values-late : hasTextLength text ≡ true → valuesRefusal U G text ≡ lateRefusal U G text
+  unfolding valuesRefusal lateRefusal firstNo
+  values-late t = rw t
 
 module _ (U G : ℕ) (text : List ℕ) (room : ℕ) where
   pub refused-letters : lettersFit U G ≡ false → 1 ≡ earlyRefusal U G text room
@@ -45,24 +73,6 @@ module _ (U G : ℕ) (text : List ℕ) (room : ℕ) where
       pub not-early : k ≤ room → 0 ≡ earlyRefusal U G text room
       unfolding earlyRefusal textQuestions firstNo hasRoom
       not-early r = rw (l, t, ← e, le-leb k room r)
-
-  pub refused-signs : allSigns text ≡ false → 5 ≡ lateRefusal U G text room
-  unfolding lateRefusal textQuestions firstNo
-  refused-signs s = rw s
-
-  module _ (s : allSigns text ≡ true) where
-    pub refused-declared : allDeclared U G text ≡ false → 6 ≡ lateRefusal U G text room
-    unfolding lateRefusal textQuestions firstNo
-    refused-declared d = rw (s, d)
-
-    module _ (d : allDeclared U G text ≡ true) where
-      pub refused-grammar : grammarReads text ≡ false → 7 ≡ lateRefusal U G text room
-      unfolding lateRefusal textQuestions firstNo
-      refused-grammar g = rw (s, d, g)
-
-      pub not-late : grammarReads text ≡ true → 0 ≡ lateRefusal U G text room
-      unfolding lateRefusal textQuestions firstNo
-      not-late g = rw (s, d, g)
 
   -- what no early refusal tells
   pub record Early : Type 0 where
@@ -89,8 +99,8 @@ module _ (U G : ℕ) (text : List ℕ) (room : ℕ) where
   unfolding earlyRefusal textRefusal textQuestions
   early-counts q e n = e ∙ sym (first-counts (take 3 (textQuestions U G text room)) (drop 3 (textQuestions U G text room)) (λ z. n (e ∙ z)))
 
-  pub late-counts : Early → textRefusal U G text room ≡ lateRefusal U G text room
-  unfolding lateRefusal textRefusal textQuestions firstNo hasRoom
+  pub late-counts : Early → textRefusal U G text room ≡ lateRefusal U G text
+  unfolding lateRefusal symbolQuestions textRefusal textQuestions firstNo hasRoom
   late-counts f = rw (f .letters, f .bytes, le-leb _ _ (f .room-fits))
 
   -- what no refusal tells
@@ -99,7 +109,7 @@ module _ (U G : ℕ) (text : List ℕ) (room : ℕ) where
     pub room-fits : 2 ^ (U + G) ≤ room
 
   pub fine : textRefusal U G text room ≡ 0 → Fine
-  unfolding earlyRefusal lateRefusal textRefusal textQuestions firstNo
+  unfolding earlyRefusal lateRefusal symbolQuestions textRefusal textQuestions firstNo
   fine z =
       let f = early (asked-before (take 3 (textQuestions U G text room)) (drop 3 (textQuestions U G text room)) z) in
       let s = yes-to (allSigns text) _ 4 (sym (late-counts f) ∙ z) in
@@ -118,33 +128,28 @@ text-is-table U G text = is-table (U + G) _
 pub table-length : (U G : ℕ) (text : List ℕ) (k : ℕ) → k ≡ 2 ^ (U + G) → k ≡ length (textTable U G text)
 table-length U G text k e = e ∙ sym (text-is-table U G text .size)
 
-pub ready : (U G : ℕ) (text condition : List ℕ) (k : ℕ) → Early U G text (length condition) → k ≡ 2 ^ (U + G) → Ready U G text (take k condition)
-ready U G text condition k f e =
-    record {
-      unknowns = unknowns-small U G (f .letters);
-      small = letters-small U G (f .letters);
-      short = text-short text (f .bytes);
-      size = length-take-le k condition (rw e (f .room-fits)) ∙ e;
-    }
+pub ready : (U G : ℕ) (text words : List ℕ) → lettersFit U G ≡ true → hasTextLength text ≡ true → length words ≡ 2 ^ (U + G - 6) → Ready U G text words
+ready U G text words l t e = record { unknowns = unknowns-small U G l; small = letters-small U G l; short = text-short text t; size = e }
 
--- the work on a text ends: refused, or with its table in all of `lent`
-pub work-refused : (U G : ℕ) (text lent : List ℕ) (q : ℕ) → q ≡ lateRefusal U G text (length lent) → (q ≡ 0 → ⊥)
-    → (q ≡ lateRefusal U G text (length lent)) × (lent ≡ after q (textTable U G text) lent)
-work-refused U G text lent q e n = (e, after-refused q q refl (textTable U G text) lent n)
-
-pub work-done : (U G : ℕ) (text lent table : List ℕ) → 0 ≡ lateRefusal U G text (length lent) → length lent ≡ 2 ^ (U + G) → table ≡ textTable U G text
-    → (0 ≡ lateRefusal U G text (length lent)) × (table ≡ after 0 (textTable U G text) lent)
+-- a buffer that the answer fills
+pub after-all : (q : ℕ) (answer lent : List ℕ) → q ≡ 0 → length lent ≡ length answer → after q answer lent ≡ answer
 unfolding after
-work-done U G text lent table e size et =
-    let k : length (textTable U G text) ≡ 2 ^ (U + G) = text-is-table U G text .size in
-    let none : drop (length (textTable U G text)) lent ≡ [] = drop-of-length-le lent {i = length (textTable U G text)} (omega arith) in
-    (e, et ∙ rw none (sym (append-nil (textTable U G text))))
+after-all q answer lent z e =
+    let none : drop (length answer) lent ≡ [] = drop-of-length-le lent {i = length answer} (omega arith) in
+    rw (z, none) (append-nil answer)
+
+-- the work on a text ends: refused, or with the answer in all of `lent`
+pub work-refused : (U G : ℕ) (text answer lent : List ℕ) (q : ℕ) → q ≡ lateRefusal U G text → (q ≡ 0 → ⊥) → (q ≡ lateRefusal U G text) × (lent ≡ after q answer lent)
+work-refused U G text answer lent q e n = (e, after-refused q q refl answer lent n)
+
+pub work-done : (U G : ℕ) (text answer lent out : List ℕ) → 0 ≡ lateRefusal U G text → length lent ≡ length answer → out ≡ answer
+    → (0 ≡ lateRefusal U G text) × (out ≡ after 0 answer lent)
+work-done U G text answer lent out e size eo = (e, eo ∙ sym (after-all 0 answer lent refl size))
 
 -- a call with no early no ends as its work does: q is the first late no, and `front` what the work leaves of the first k bytes
 module _ (U G : ℕ) (text lent : List ℕ) (k : ℕ) (f : Early U G text (length lent)) (ek : k ≡ 2 ^ (U + G)) (q : ℕ) (front : List ℕ)
-    (done : (q ≡ lateRefusal U G text (length (take k lent))) × (front ≡ after q (textTable U G text) (take k lent))) where
+    (done : (q ≡ lateRefusal U G text) × (front ≡ after q (textTable U G text) (take k lent))) where
   same : q ≡ textRefusal U G text (length lent)
-  unfolding lateRefusal textQuestions
   same = done .0 ∙ sym (late-counts U G text (length lent) f)
 
   pub ends-refused : (q ≡ 0 → ⊥)
@@ -156,8 +161,6 @@ module _ (U G : ℕ) (text lent : List ℕ) (k : ℕ) (f : Early U G text (lengt
 
   pub ends-done : q ≡ 0
       → (accepted [] ≡ reply (textRefusal U G text (length lent)) []) × (front ++ drop k lent ≡ after (textRefusal U G text (length lent)) (textTable U G text) lent)
-  unfolding after
   ends-done z =
       let size = table-length U G text k ek in
-      let none : drop (length (textTable U G text)) (take k lent) ≡ [] = drop-of-length-le (take k lent) {i = length (textTable U G text)} (omega (arith, size, length-take-le k lent (early-room U G text (length lent) f k ek))) in
-      call-done q _ same [] _ lent k front z (done .1 ∙ rw (z, none) (append-nil (textTable U G text))) size
+      call-done q _ same [] _ lent k front z (done .1 ∙ after-all q (textTable U G text) (take k lent) z (length-take-le k lent (early-room U G text (length lent) f k ek) ∙ size)) size

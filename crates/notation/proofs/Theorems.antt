@@ -26,7 +26,7 @@ done-exactly U G text room = (
   λ z. (fine U G text room z .accepted, fine U G text room z .room-fits),
   λ f.
       let a = f .0 in
-      late-counts U G text room (record { letters = a .letters; bytes = a .bytes; room-fits = f .1 }) ∙ sym (not-late U G text room (a .signs) (a .declared) (a .grammar)),
+      late-counts U G text room (record { letters = a .letters; bytes = a .bytes; room-fits = f .1 }) ∙ sym (not-late U G text (a .signs) (a .declared) (a .grammar)),
 )
 
 pub is-read : (U G : ℕ) (text : List ℕ) → Accepted U G text → IsRead U G text

@@ -133,7 +133,7 @@ module _ (test : ℕ → Bool) (s : List ℕ) where
     unfolding every
     one-noted r h e =
         let more : every test (take (i + 1) s) ≡ (every test (take i s) && test (getD s i 0)) =
-          rw (add-one, take-suc s i 0) (every-append test (take i s) (getD s i 0 ∷ []) ∙ ap (λ (b : Bool). every test (take i s) && b) (and-true (test (getD s i 0)))) in
+        rw (add-one, take-suc s i 0) (every-append test (take i s) (getD s i 0 ∷ []) ∙ ap (λ (b : Bool). every test (take i s) && b) (and-true (test (getD s i 0)))) in
         rw (noted, e, more) (or-noted (every test (take i s)) (test (getD s i 0)))
 
     pub all-noted : length s ≤ i → eqb no 0 ≡ every test s

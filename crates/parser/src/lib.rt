@@ -159,11 +159,7 @@ fn high_letter(j: usize, w: usize) -> u64
     requires { ⌜ (6 ≤ j) × (j < 64) ⌝ }
     ensures { λ r. ⌜ r ≡ wordAt (λ p. bit p j) w ⌝ }
 {
-    if (w >> (j - 6)) % 2 == 1 {
-        ONES
-    } else {
-        0
-    }
+    if (w >> (j - 6)) % 2 == 1 { ONES } else { 0 }
 }
 
 fn combine(op: u8, a: u64, b: u64) -> u64

@@ -6,6 +6,7 @@ use lib.ListN.{length}
 use lib.Seq.{length-take-le}
 use borrow.Author.Needs.{needs}
 use Rattle.tables.proofs.Reply.{call-refused}
+use Rattle.words.proofs.Letters.{count-small}
 use Rattle.notation.proofs.Refusal.{Early, early, early-small, early-room, early-counts, ready, ends-refused, ends-done}
 use Rattle.notation.proofs.read_text.Statement.{statement}
 use Rattle.notation.proofs.read_text.Tie as tie
@@ -19,23 +20,31 @@ returns c =
 yes : (c : tie.Else1) → Early (c .before .before .before .before .args .unknowns) (c .before .before .before .before .args .givens) (c .before .before .before .before .args .text .now) (length (c .before .before .before .before .args .condition .now))
 yes c = early _ _ _ _ (sym (c .before .early-refusal .ensures) ∙ c .if1 .left)
 
-add-pow2 : tie.Need-add-pow2
-add-pow2 c = omega (arith, early-small _ _ _ _ (yes c))
+few : tie.Need-array-borrow-prefix-words
+few c = omega (arith, count-small _ _ (c .before .word-count .ensures) (early-small _ _ _ _ (yes (c .before .before))))
 
 room : tie.Need-slice-relend-prefix-read-table
-room c = omega (arith, early-room _ _ _ _ (yes (c .before)) _ (c .pow2 .ensures))
+room c = omega (arith, early-room _ _ _ _ (yes (c .before .before .before)) _ (c .before .pow2 .ensures))
+
+read-table-requires : tie.Need-read-table-requires
+read-table-requires c κs =
+    let lent = c .before in
+    let asked = yes (lent .before .before .before) in (
+      ready _ _ _ _ (asked .letters) (asked .bytes) (length-take-le _ _ (few (lent .before)) ∙ lent .before .before .word-count .ensures),
+      length-take-le _ _ (room lent) ∙ lent .before .pow2 .ensures,
+    )
 
 returns-2 : tie.Need-returns-2
 returns-2 c =
-    let read = c .before .before .before in
-    let power = read .before .before in
-    ends-refused _ _ _ _ _ (yes (power .before)) (power .pow2 .ensures) _ _ (read .read-table .ensures) (c .if2 .taken)
+    let read = c .before .before .before .before in
+    let power = read .before .before .before in
+    ends-refused _ _ _ _ _ (yes (power .before .before)) (power .pow2 .ensures) _ _ (read .read-table .ensures) (c .if2 .taken)
 
 returns-3 : tie.Need-returns-3
 returns-3 c =
-    let read = c .before .before .before in
-    let power = read .before .before in
-    ends-done _ _ _ _ _ (yes (power .before)) (power .pow2 .ensures) _ _ (read .read-table .ensures) (c .if2 .left)
+    let read = c .before .before .before .before in
+    let power = read .before .before .before in
+    ends-done _ _ _ _ _ (yes (power .before .before)) (power .pow2 .ensures) _ _ (read .read-table .ensures) (c .if2 .left)
 
 pub read-text-spec : {M : Type 1} → statement M
 read-text-spec =
@@ -43,11 +52,14 @@ read-text-spec =
     (tie.spec
     (λ c κs. search needs)
     returns
-    add-pow2
+    (λ c. omega (arith, early-small _ _ _ _ (yes c)))
     (λ c κs. early-small _ _ _ _ (yes c))
+    (λ c κs. early-small _ _ _ _ (yes (c .before)))
+    few
+    (λ c. sym (length-take-le _ _ (few (c .before))))
     room
     (λ c. sym (length-take-le _ _ (room (c .before))))
-    (λ c κs. ready _ _ _ _ _ (yes (c .before .before)) (c .before .pow2 .ensures))
+    read-table-requires
     (λ c. search needs)
     returns-2
     (λ c. search needs)
