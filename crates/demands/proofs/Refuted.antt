@@ -1,5 +1,6 @@
 -- Wrong archives: for a small condition each, the bytes that a wrong program would archive contradict demand 3 (document 01, 'Agreement').
--- Each refutation rests on the one field of `Demand3` that stands beside it in brackets, so that none can be left out or turned round.
+-- Each refutation rests on the one field of `Demand3` that stands beside it in brackets. An edit in `must-fail/` weakens a field and its line
+-- in the proof of `Demand3`, so that the weaker demand is proved; then the refutation falls.
 -- The bytes of an archive stand a record to a line, those of a table by masks, as in the bench table. The route is 7.
 -- Assumes nothing.
 use mathlib.Core.Path.{_≡_, refl, sym, ap, _∙_}
@@ -7,12 +8,11 @@ use mathlib.Core.Bool.{true, false, true≢false}
 use mathlib.Core.List.{List, [], _∷_}
 use Prim.Native.Nat.{ℕ, zero, suc, _<_}
 use native.Mathlib.Omega.{arith}
-use lib.ListN.{getD}
 use Rattle.ring.specs.Letters.{bit, point, pointWhere}
 use Rattle.ring.specs.Polynomial.{count, odd, within, value, constant, letter, sum, product, restrict, monomial, substitute, everyBelow}
 use Rattle.ring.specs.Table.{present, tabulate, table, answerTable}
 use Rattle.ring.specs.Lists.{listed}
-use Rattle.solution.specs.Letters.{Letter, unknown, given, other, HoldsGivens, place, Valuation, pointOf, valueOver}
+use Rattle.solution.specs.Letters.{Letter, HoldsGivens, place, Valuation, pointOf, valueOver}
 use Rattle.solution.specs.Substitution.{Substitution, letterAt, ownLetters, putIn, MakesZero, InstanceOf}
 use Rattle.solution.specs.Elimination.{solved, nextCondition, remains, answerFrom, booleAnswers, particular, lowenheim, ownLowenheim, defaultOrder, isZero, solvable, solve}
 use Rattle.solution.specs.General.{SmallestBlocked}
@@ -33,6 +33,10 @@ the-one = 1 ∷ []
 abbrev one-beside-a : List ℕ
 one-beside-a = 1 ∷ 0 ∷ []
 
+-- (1,0) `0`
+abbrev the-zero : List ℕ
+the-zero = 0 ∷ 0 ∷ []
+
 -- (1,0) `u`
 abbrev u : List ℕ
 u = 0 ∷ 1 ∷ []
@@ -51,55 +55,35 @@ u*v = 0 ∷ 0 ∷ 0 ∷ 1 ∷ []
 
 -- ---- solutions left out
 
--- u = 1, v = 0 solves u*v
-one-zero : Substitution
-one-zero zero = constant true
-one-zero (suc j) = constant false
-
-one-zero-solves : MakesZero 2 0 (present u*v) [] one-zero
-unfolding valueOver putIn substitute monomial product odd count value within constant letter place letterAt bit pointOf present one-zero
-one-zero-solves v = refl
-
--- the particular solution archived as the general one: u = 0, v = 0 for u*v leaves u = 1, v = 0 out (every-instance)
-abbrev particular-archived : List ℕ
-particular-archived =
-    1 ∷ 7 ∷ 2 ∷ 0
-    ∷ 2 ∷ 3 ∷ 0
-    ∷ 4 ∷ 7
-    ∷ []
-
-pub particular-refuted : Demand3 2 0 u*v particular-archived → ⊥
-unfolding hasNone records firstRecords next answersIn hasMonomial valueOver putIn substitute product odd count value within constant pointOf one-zero
-particular-refuted h =
-    let instance : InstanceOf 2 0 (answersIn (records particular-archived)) [] one-zero = h .every-instance refl [] (no-givens []) one-zero one-zero-solves in
-    true≢false (sym (instance .1 0 (omega arith) (λ l. true)))
-
-only-u : Valuation
-only-u (unknown zero) = true
-only-u (unknown (suc j)) = false
-only-u (given i) = false
-only-u (other k) = false
-
--- u = 0, v = v for u*v: Löwenheim's answer u = u + u*v is no instance, since it is 1 where u alone is (each-other)
-abbrev left-out-archived : List ℕ
-left-out-archived =
-    1 ∷ 7 ∷ 2 ∷ 0
-    ∷ 2 ∷ 3 ∷ 0
-    ∷ 3 ∷ 1 ∷ 2 ∷ 0
-    ∷ 4 ∷ 7
-    ∷ []
-
-pub left-out-refuted : Demand3 2 0 u*v left-out-archived → ⊥
-unfolding hasNone records firstRecords next answersIn hasMonomial valueOver putIn substitute monomial product odd count value within constant letter pointOf present listed ownLetters letterAt place bit sum restrict nextCondition answerFrom booleAnswers particular lowenheim ownLowenheim defaultOrder only-u
-left-out-refuted h =
-    let instance : InstanceOf 2 0 (answersIn (records left-out-archived)) (ownLetters 2 0) (ownLowenheim 2 0 (defaultOrder 2) (present u*v)) = h .each-other refl .forth in
-    true≢false (sym (instance .1 0 (omega arith) only-u))
-
--- ---- answers that do not make the condition zero
-
 -- u = 1
 one : Substitution
 one j = constant true
+
+-- the particular solution archived as the general one: u = 0 for the condition 0 leaves u = 1 out (every-instance) ..
+abbrev particular-archived : List ℕ
+particular-archived =
+    1 ∷ 7 ∷ 1 ∷ 0
+    ∷ 4 ∷ 7
+    ∷ []
+
+one-solves : MakesZero 1 0 (present the-zero) [] one
+unfolding valueOver putIn substitute product odd count value within constant pointOf present one
+one-solves v = refl
+
+pub particular-refuted : Demand3 1 0 the-zero particular-archived → ⊥
+unfolding hasNone records firstRecords next answersIn hasMonomial valueOver putIn substitute product odd count value within constant pointOf one
+particular-refuted h =
+    let instance : InstanceOf 1 0 (answersIn (records particular-archived)) [] one = h .every-instance refl [] (no-givens []) one one-solves in
+    true≢false (sym (instance .1 0 (omega arith) (λ l. true)))
+
+-- .. and Löwenheim's answer, u = u, is no instance of it (each-other)
+pub particular-no-lowenheim : Demand3 1 0 the-zero particular-archived → ⊥
+unfolding hasNone records firstRecords next answersIn hasMonomial valueOver putIn substitute monomial product odd count value within constant letter pointOf present listed ownLetters letterAt place bit sum restrict nextCondition answerFrom booleAnswers particular lowenheim ownLowenheim defaultOrder
+particular-no-lowenheim h =
+    let instance : InstanceOf 1 0 (answersIn (records particular-archived)) (ownLetters 1 0) (ownLowenheim 1 0 (defaultOrder 1) (present the-zero)) = h .each-other refl .forth in
+    true≢false (sym (instance .1 0 (omega arith) (λ l. true)))
+
+-- ---- answers that do not make the condition zero
 
 -- the untouched unknown, u = u for u: its instance u = 1 does not make u zero (each-makes-zero)
 abbrev unknowns-archived : List ℕ
@@ -257,10 +241,6 @@ pub less-refuted : Demand3 2 0 u*v less-archived → ⊥
 unfolding hasNone records firstRecords next answersIn hasMonomial booleAnswers answerFrom nextCondition defaultOrder listed substitute monomial product restrict sum constant letter odd count bit present
 less-refuted h = true≢false (sym (h .holds-booles refl 0 3 (omega arith) (omega arith)))
 
--- the answer tables of u+v: u = v, v = v
-abbrev u=v : List ℕ
-u=v = 0 ∷ 0 ∷ 1 ∷ 0 ∷ 0 ∷ 0 ∷ 1 ∷ 0 ∷ []
-
 same-tables : {x y : List ℕ} → solved x ≡ solved y → x ≡ y
 same-tables e = cc
 
@@ -278,10 +258,7 @@ more-archived =
 
 pub more-refuted : Demand3 2 0 u+v more-archived → ⊥
 unfolding records firstRecords next heldVerdict unlessNone answersIn hasMonomial answerTable tabulate solve solvable isZero everyBelow remains booleAnswers answerFrom nextCondition defaultOrder listed substitute monomial product restrict sum constant letter odd count bit present
-more-refuted h =
-    let read : 0 ∷ 0 ∷ 1 ∷ 0 ∷ 0 ∷ 0 ∷ 1 ∷ 1 ∷ [] ≡ u=v = same-tables (h .verdict-read) in
-    let z : _≡_ {A = ℕ} 1 0 = ap (λ (l : List ℕ). getD l 7 0) read in
-    omega arith
+more-refuted h = true≢false (ap (λ (tables : List ℕ). present tables 7) (same-tables (h .verdict-read)))
 
 -- U and G exchanged in the record of kind 1: reading u+v finds no answer tables (verdict-read)
 abbrev counts-exchanged-archived : List ℕ
@@ -296,10 +273,7 @@ counts-exchanged-archived =
 
 pub counts-exchanged-refuted : Demand3 2 0 u+v counts-exchanged-archived → ⊥
 unfolding records firstRecords next heldVerdict unlessNone answersIn hasMonomial answerTable tabulate solve solvable isZero everyBelow remains booleAnswers answerFrom nextCondition defaultOrder listed substitute monomial product restrict sum constant letter odd count bit present
-counts-exchanged-refuted h =
-    let read : [] ≡ u=v = same-tables (h .verdict-read) in
-    let z : _≡_ {A = ℕ} 0 1 = ap (λ (l : List ℕ). getD l 2 0) read in
-    omega arith
+counts-exchanged-refuted h = true≢false (sym (ap (λ (tables : List ℕ). present tables 2) (same-tables (h .verdict-read))))
 
 -- a monomial of the condition left out, v of u+v, beside the right answers (condition-read)
 abbrev condition-less-archived : List ℕ
@@ -312,11 +286,8 @@ condition-less-archived =
     ∷ []
 
 pub condition-less-refuted : Demand3 2 0 u+v condition-less-archived → ⊥
-unfolding records firstRecords next heldCondition conditionIn hasMonomial table tabulate
-condition-less-refuted h =
-    let read : 0 ∷ 1 ∷ 0 ∷ 0 ∷ [] ≡ u+v = h .condition-read in
-    let z : _≡_ {A = ℕ} 0 1 = ap (λ (l : List ℕ). getD l 2 0) read in
-    omega arith
+unfolding records firstRecords next heldCondition conditionIn hasMonomial table tabulate present
+condition-less-refuted h = true≢false (sym (ap (λ (t : List ℕ). present t 2) (h .condition-read)))
 
 -- and one more, u*v (condition-read)
 abbrev condition-more-archived : List ℕ
@@ -331,8 +302,5 @@ condition-more-archived =
     ∷ []
 
 pub condition-more-refuted : Demand3 2 0 u+v condition-more-archived → ⊥
-unfolding records firstRecords next heldCondition conditionIn hasMonomial table tabulate
-condition-more-refuted h =
-    let read : 0 ∷ 1 ∷ 1 ∷ 1 ∷ [] ≡ u+v = h .condition-read in
-    let z : _≡_ {A = ℕ} 1 0 = ap (λ (l : List ℕ). getD l 3 0) read in
-    omega arith
+unfolding records firstRecords next heldCondition conditionIn hasMonomial table tabulate present
+condition-more-refuted h = true≢false (ap (λ (t : List ℕ). present t 3) (h .condition-read))
