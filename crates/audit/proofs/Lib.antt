@@ -1,3 +1,4 @@
 pub mod Same
 pub mod Passing
 pub mod Theorems
+pub mod Injective

@@ -1,3 +1,4 @@
 pub mod Work
 pub mod LookUp
 pub mod Calls
+pub mod Injective

@@ -1,3 +1,4 @@
 pub mod Filling
 pub mod Buffers
 pub mod Theorems
+pub mod Injective

@@ -5,7 +5,9 @@ use mathlib.Core.List.{List, [], _++_}
 use Prim.Native.Nat.{ℕ, zero, suc}
 use native.Mathlib.Omega.{arith}
 use lib.ListN.{length, drop}
-use Rattle.tables.specs.Reply.{accepted, refused, reply, after}
+use Rattle.tables.specs.declared.Outcome.{Outcome}
+use Rattle.tables.specs.declared.Outcome.the-variants.{Done, Refused}
+use Rattle.tables.specs.Reply.{accepted, refused, reply, after, outcome}
 
 -- q is the number that the code found, r the one that the contract names
 module _ (q r : ℕ) (e : q ≡ r) where
@@ -51,3 +53,10 @@ pub refused-is : (q : ℕ) {number : ℕ} (given : List ℕ) → refused number 
 unfolding reply
 refused-is zero given e = let z : _≡_ {A = ℕ} 0 1 = (cc) in absurd (omega arith)
 refused-is (suc q) given e = ((cc), λ z. omega arith)
+
+-- equal replies, equal outcomes
+pub outcome-injective : (a b : Outcome) → outcome a ≡ outcome b → a ≡ b
+outcome-injective Done Done e = refl
+outcome-injective Done (Refused number) e = cc
+outcome-injective (Refused number) Done e = cc
+outcome-injective (Refused number) (Refused other) e = cc

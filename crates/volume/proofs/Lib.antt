@@ -2,3 +2,4 @@ pub mod Walking
 pub mod Turns
 pub mod Theorems
 pub mod Examples
+pub mod Injective

@@ -2,3 +2,4 @@ pub mod Monomials
 pub mod Parts
 pub mod Asked
 pub mod Theorems
+pub mod Injective
