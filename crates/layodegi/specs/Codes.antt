@@ -1,9 +1,12 @@
--- The code that an exported function returns for what its call answers.
+-- The code that an exported function returns for what its call answers, and how a caller takes it apart again; that this loses nothing is
+-- proved in `proofs/Codes.antt`.
 -- Assumes nothing.
+use mathlib.Core.Bool.{cond}
 use mathlib.Core.List.{List, [], _∷_}
-use Prim.Native.Nat.{ℕ, _+_, _*_, _%_}
+use Prim.Native.Nat.{ℕ, zero, suc, _+_, _*_, _/_, _%_}
+use lib.Dec.{eqb}
 use lib.ListN.{getD, drop}
-use Rattle.tables.specs.Reply.{Reply, accepted, refused}
+use Rattle.tables.specs.Reply.{Reply, accepted, refused, reply}
 
 -- a value as 32 bits; every value that a call gives is smaller
 abbrev pub narrow : ℕ → ℕ
@@ -31,3 +34,36 @@ abbrev pub entryCode : Reply → ℕ
 entryCode (accepted values) =
     headingCode (getD values 0 0) (getD values 1 0) (getD values 2 0) (getD values 3 0) + 281474976710656 * stateCode (drop 4 values)
 entryCode (refused number _) = number
+
+-- ---- a code taken apart, as a caller takes it
+-- the number of the first no, and the value above it
+abbrev pub numberIn : ℕ → ℕ
+numberIn c = c % 256
+
+abbrev pub valueIn : ℕ → ℕ
+valueIn c = c / 256
+
+-- the answer of a call that gives no value
+abbrev pub plainReply : ℕ → Reply
+plainReply c = reply (numberIn c) []
+
+-- of one that gives a value: that of a table, or the length written
+abbrev pub valueReply : ℕ → Reply
+valueReply c = reply (numberIn c) (valueIn c ∷ [])
+
+-- of a solving call: question 9 'also gives the state'
+abbrev pub stateReply : ℕ → Reply
+stateReply c = cond (eqb (numberIn c) 9) (refused 9 (valueIn c ∷ [])) (reply (numberIn c) [])
+
+-- of a walk: 'the count of entries .., or the refusal with the count passed before it'
+abbrev pub countReply : ℕ → Reply
+countReply c = cond (eqb (numberIn c) 0) (accepted (valueIn c ∷ [])) (refused (numberIn c) (valueIn c ∷ []))
+
+-- of reading and the audit: what an entry says ..
+abbrev pub stateIn : ℕ → List ℕ
+stateIn zero = []
+stateIn (suc state) = state ∷ []
+
+-- .. behind the route, U, G and the length used
+abbrev pub entryReply : ℕ → Reply
+entryReply c = reply (numberIn c) (c / 256 % 256 ∷ c / 65536 % 256 ∷ c / 16777216 % 256 ∷ c / 4294967296 % 65536 ∷ stateIn (c / 281474976710656))

@@ -13,7 +13,7 @@ use lib.Dec.{eqb, leb}
 use lib.ListN.{length, drop, length-drop, length-append, take-append-drop, drop-of-length-le}
 use lib.Seq.{drop-at}
 use borrow.Author.Tests.{eqb-true, leb-true, ltb-true, lt-ltb}
-use Rattle.ring.proofs.Bool.{and-left, bool-cases, or-right}
+use Rattle.ring.proofs.Bool.{and-left, and-right, bool-cases, or-right}
 use Rattle.tables.specs.Questions.{firstNo}
 use Rattle.tables.specs.Reply.{Reply, accepted, refused}
 use Rattle.entry.specs.Record.{AreBytes, bytes}
@@ -162,3 +162,11 @@ count-exact volume place count are = (λ e. to (walk-exact volume place (accepte
 pub past-the-end : (volume : List ℕ) (place : ℕ) → length volume ≤ place → walkReply volume place ≡ accepted (0 ∷ [])
 unfolding walkReply
 past-the-end volume place h = rw (drop-of-length-le volume h) (walk-end 0 0)
+
+-- routes rise and are at most 250, and so no volume has more entries
+pub entries-most : {before last count : ℕ} {bs : List ℕ} → before ≤ 250 → Entries before last count bs → before + count ≤ 250
+unfolding routeFits
+entries-most h no-entry = omega arith
+entries-most h (one-more route U G t a l es) =
+    let most : route ≤ 250 = leb-true _ _ (and-right (leb 1 route) (leb route 250) (a .of-route)) in
+    omega (arith, entries-most most es)
