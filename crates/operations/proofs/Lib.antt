@@ -1,4 +1,3 @@
 pub mod Work
-pub mod LookUp
 pub mod Calls
 pub mod Injective

@@ -1,21 +1,20 @@
 // The calls on tables: the value of a table, the sum and the product of two, and handed polynomials put into a condition.
 // Public calls, none with a `requires`: `value`, `sum`, `product`, `substitute`. The other functions are theirs alone.
-// All but the value go to truth values, work point by point, and come back; their contracts cite the polynomials' own definitions.
+// They ask the questions and lend the tables that have passed them; the work is `polynomials`'. Their contracts cite the polynomials' own definitions.
 use ring::Choice;
 use ring::State;
 use tables::Outcome;
 ghost use mathlib.Core.Path.{_≡_};
 ghost use mathlib.Core.Bool.{_&&_};
 ghost use mathlib.Core.List.{[], _∷_};
-ghost use Prim.Native.Nat.{_+_, _*_, _/_, _^_, _≤_, _<_};
+ghost use Prim.Native.Nat.{_^_};
 ghost use lib.Dec.{eqb};
 ghost use lib.ListN.{length};
 ghost use Rattle.ring.specs.Letters.{digit};
-ghost use Rattle.ring.specs.Polynomial.{value, within, sum, product, substitute};
-ghost use Rattle.ring.specs.Table.{IsTable, AreBits, present, table, tabulate, held, forUnknowns};
+ghost use Rattle.ring.specs.Polynomial.{value, within};
+ghost use Rattle.ring.specs.Table.{present};
 ghost use Rattle.tables.specs.Reply.{reply, after, outcome};
 ghost use Rattle.operations.specs.Calls.{valued, valueRefusal, valueAt, pairRefusal, sumTable, productTable, substituteRefusal, substituteTable};
-ghost use Rattle.operations.specs.LookUp.{stacked};
 
 // What the call for a value answers: the value, 0 or 1, or the number of the first no.
 pub enum Valued {
@@ -84,16 +83,8 @@ pub fn sum(unknowns: usize, givens: usize, a: &[u8], b: &[u8], out: &mut [u8]) -
         return Outcome::Refused(q);
     }
     let k = tables::pow2(unknowns + givens);
-    add(unknowns + givens, &a[..k], &b[..k], &mut out[..k]);
+    polynomials::add(unknowns + givens, &a[..k], &b[..k], &mut out[..k]);
     Outcome::Done
-}
-
-fn add(n: usize, a: &[u8], b: &[u8], out: &mut [u8])
-    requires { ⌜ IsTable n (now a) × IsTable n (now b) × (length (now out) ≡ 2 ^ n) ⌝ }
-    ensures { λ _. ⌜ now (out .exit) ≡ table n (sum (present (now (a .entry))) (present (now (b .entry)))) ⌝ }
-{
-    tables::copy(out, a);
-    tables::add_into(out, b);
 }
 
 // The product of two tables, into a third.
@@ -106,28 +97,8 @@ pub fn product(unknowns: usize, givens: usize, a: &[u8], b: &[u8], out: &mut [u8
         return Outcome::Refused(q);
     }
     let k = tables::pow2(unknowns + givens);
-    multiply(unknowns + givens, &a[..k], &b[..k], &mut out[..k]);
+    polynomials::multiply(unknowns + givens, &a[..k], &b[..k], &mut out[..k]);
     Outcome::Done
-}
-
-// The scratch table for the values of b lives here.
-fn multiply(n: usize, a: &[u8], b: &[u8], out: &mut [u8])
-    requires { ⌜ (n ≤ 10) × IsTable n (now a) × IsTable n (now b) × (length (now out) ≡ 2 ^ n) ⌝ }
-    ensures { λ _. ⌜ now (out .exit) ≡ table n (product n (present (now (a .entry))) (present (now (b .entry)))) ⌝ }
-{
-    let k = tables::pow2(n);
-    let mut scratch = [0u8; 1024];
-    multiply_with(n, a, b, out, &mut scratch[..k]);
-}
-
-fn multiply_with(n: usize, a: &[u8], b: &[u8], out: &mut [u8], scratch: &mut [u8])
-    requires { ⌜ (n ≤ 10) × IsTable n (now a) × IsTable n (now b) × (length (now out) ≡ 2 ^ n) × (length (now scratch) ≡ 2 ^ n) ⌝ }
-    ensures { λ _. ⌜ now (out .exit) ≡ table n (product n (present (now (a .entry))) (present (now (b .entry)))) ⌝ }
-{
-    tables::take_values(n, a, out);
-    tables::take_values(n, b, scratch);
-    tables::multiply_into(out, scratch);
-    tables::to_values(out, n);
 }
 
 // Handed polynomials put for the unknowns of a condition, all at once; the givens stay.
@@ -147,7 +118,7 @@ pub fn substitute(
     }
     let k = tables::pow2(unknowns + givens);
     let all = unknowns * k;
-    put_in(
+    polynomials::substitute(
         unknowns,
         givens,
         &condition[..k],
@@ -155,71 +126,4 @@ pub fn substitute(
         &mut out[..k],
     );
     Outcome::Done
-}
-
-// The scratch tables for the values of the condition and of the handed polynomials live here.
-fn put_in(u: usize, g: usize, condition: &[u8], handed: &[u8], out: &mut [u8])
-    requires { ⌜ (u ≤ 6) × (u + g ≤ 10) × IsTable (u + g) (now condition) × (length (now handed) ≡ u * 2 ^ (u + g)) × AreBits (now handed) × (length (now out) ≡ 2 ^ (u + g)) ⌝ }
-    ensures { λ _. ⌜ now (out .exit) ≡ table (u + g) (substitute (u + g) (u + g) (present (now (condition .entry))) (forUnknowns u (held (u + g) (now (handed .entry))))) ⌝ }
-{
-    let k = tables::pow2(u + g);
-    let all = u * k;
-    let mut whole = [0u8; 1024];
-    let mut parts = [0u8; 6144];
-    put_in_with(
-        u,
-        g,
-        condition,
-        handed,
-        out,
-        &mut whole[..k],
-        &mut parts[..all],
-    );
-}
-
-fn put_in_with(
-    u: usize,
-    g: usize,
-    condition: &[u8],
-    handed: &[u8],
-    out: &mut [u8],
-    whole: &mut [u8],
-    parts: &mut [u8],
-)
-    requires { ⌜ (u ≤ 6) × (u + g ≤ 10) × IsTable (u + g) (now condition) × (length (now handed) ≡ u * 2 ^ (u + g)) × AreBits (now handed) ⌝ }
-    requires { ⌜ (length (now out) ≡ 2 ^ (u + g)) × (length (now whole) ≡ 2 ^ (u + g)) × (length (now parts) ≡ u * 2 ^ (u + g)) ⌝ }
-    ensures { λ _. ⌜ now (out .exit) ≡ table (u + g) (substitute (u + g) (u + g) (present (now (condition .entry))) (forUnknowns u (held (u + g) (now (handed .entry))))) ⌝ }
-{
-    let n = u + g;
-    tables::take_values(n, condition, whole);
-    tables::copy(parts, handed);
-    tables::all_to_values(parts, n, u);
-    look_up(u, n, whole, parts, out);
-    tables::to_values(out, n);
-}
-
-// The value of the condition at each point, its unknowns having the values of the handed polynomials there.
-fn look_up(u: usize, n: usize, whole: &[u8], parts: &[u8], out: &mut [u8])
-    requires { ⌜ (u ≤ n) × (n ≤ 10) × IsTable n (now whole) × (length (now parts) ≡ u * 2 ^ n) × AreBits (now parts) × (length (now out) ≡ 2 ^ n) ⌝ }
-    ensures { λ _. ⌜ now (out .exit) ≡ tabulate (2 ^ n) (λ p. present (now (whole .entry)) (stacked u (λ j. held n (now (parts .entry)) j p) (p / 2 ^ u))) ⌝ }
-{
-    for p in 0..out.len() {
-        let q = point_of(u, n, parts, p);
-        out[p] = whole[q];
-    }
-}
-
-// The point p with the values of the handed polynomials there for the unknowns, the last one first.
-fn point_of(u: usize, n: usize, parts: &[u8], p: usize) -> usize
-    requires { ⌜ (u ≤ n) × (n ≤ 10) × (length (now parts) ≡ u * 2 ^ n) × AreBits (now parts) × (p < 2 ^ n) ⌝ }
-    ensures { λ r. ⌜ (r ≡ stacked u (λ j. held n (now (parts .entry)) j p) (p / 2 ^ u)) × (r < 2 ^ n) ⌝ }
-{
-    let k = tables::pow2(n);
-    let mut q = p >> u;
-    let mut j = u;
-    while 0 < j {
-        j -= 1;
-        q = q * 2 + parts[j * k + p] as usize;
-    }
-    q
 }

@@ -29,8 +29,8 @@ handed-room : (c : tie.After-pow2)
     args .unknowns * c .pow2 .result ≤ length (args .handed .now)
 handed-room c = rw (c .pow2 .ensures) (all-yes (c .before) .second-room)
 
-put-in-requires : tie.Need-put-in-requires
-put-in-requires c κs =
+substitute-requires : tie.Need-substitute-requires
+substitute-requires c κs =
     let known = c .before .before .before in
     let f = all-yes (known .before) in
     let e = known .pow2 .ensures in (
@@ -49,7 +49,7 @@ returns-2 c =
     let known = worked .before .before .before .before in
     let asked = known .before .before in
     call-done _ _ (asked .table-refusal .ensures) _ _ _ _ _ (known .before .if1 .left)
-    (worked .put-in .ensures ∙ substitute-whole _ _ _ _ _ (known .pow2 .ensures)) (length-substitute _ _ _ _ _ (known .pow2 .ensures))
+    (worked .substitute .ensures ∙ substitute-whole _ _ _ _ _ (known .pow2 .ensures)) (length-substitute _ _ _ _ _ (known .pow2 .ensures))
 
 pub substitute-spec : {M : Type 1} → statement M
 substitute-spec =
@@ -64,6 +64,6 @@ substitute-spec =
     (λ c. sym (length-take-le _ _ (handed-room (c .before .before))))
     (λ c. omega (arith, c .before .before .pow2 .ensures, all-yes (c .before .before .before) .result-room))
     (λ c. sym (length-take-le _ _ (omega (arith, c .before .before .before .pow2 .ensures, all-yes (c .before .before .before .before) .result-room))))
-    put-in-requires
+    substitute-requires
     (λ c. search needs)
     returns-2)

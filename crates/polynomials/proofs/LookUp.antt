@@ -1,0 +1,206 @@
+-- The six lowest letters of a word replaced, all at once. Of the 64 words that hold the value at one point each, half go with every letter:
+-- once the letters from j on have chosen, word p holds the value at the point whose lower letters are those of p
+-- and whose letters from j on are those that chose. At last the one word that is left holds the value at the replaced point.
+-- Assumes nothing.
+use mathlib.Core.Path.{_≡_, refl, sym, ap, ap₂, _∙_}
+use mathlib.Core.Bool.{Bool, true, false, _&&_, cond}
+use mathlib.Core.List.{List, _++_}
+use Prim.Native.Nat.{ℕ, zero, suc, _+_, _-_, _*_, _/_, _%_, _^_, _≤_, _<_}
+use native.Mathlib.Nat.{pow-suc, add-mul, one-mul, add-zero, mul-assoc, mul-comm, mul-le-mul}
+use native.Mathlib.Decide.{decLt}
+use native.Mathlib.Omega.{arith}
+use lib.Arith.{digits-lt}
+use lib.Bits.{bitAnd, bitXor, and-mask}
+use lib.Dec.{eqb}
+use lib.ListN.{length, getD, set, drop}
+use lib.Pow.{pow-mono}
+use borrow.Author.Tests.{le-ltb}
+use Rattle.ring.specs.Letters.{digit, bit, pointWhere}
+use Rattle.ring.specs.Lists.{listed}
+use Rattle.ring.specs.Polynomial.{_⊕_, value, substitute}
+use Rattle.ring.specs.Table.{present, table, held, forUnknowns}
+use Rattle.ring.proofs.Bool.{xor-false}
+use Rattle.ring.proofs.Lists.{getD-listed}
+use Rattle.ring.proofs.Points.{bit-pointWhere, pointWhere-lt, pointWhere-cong, same-letters, bit-none}
+use Rattle.ring.proofs.Substitute.{value-forUnknowns}
+use Rattle.tables.proofs.Filled.{filled, filled-low, filled-high, filled-more, filled-read}
+use Rattle.words.specs.Words.{wordOf, wordsOf, bitAt, answerWords}
+use Rattle.words.proofs.Bits.{bit-in, bit-over, shr-bit}
+use Rattle.words.proofs.Words.{word-cong, bit-at, at-known}
+use Rattle.words.proofs.Holds.{Holds, word-holds, and-holds, xor-holds, also-holds, holds-word, constant-holds}
+use Rattle.words.proofs.Letters.{room, points, table-back}
+use Rattle.words.proofs.Parts.{part-point, answer-at}
+use Rattle.polynomials.specs.LookUp.{chosen, putFor}
+
+-- the letters from j on of the point that B makes
+pub above : (ℕ → Bool) → ℕ → ℕ
+above B j = pointWhere (6 - j) (λ m. B (j + m))
+
+above-next : (B : ℕ → Bool) (j : ℕ) → j < 6 → above B j ≡ above B (suc j) * 2 + digit (B j)
+unfolding above pointWhere
+above-next B j h =
+    let d : 6 - j ≡ suc (6 - suc j) = omega arith in
+    ap (λ (x : ℕ). pointWhere x (λ m. B (j + m))) d
+    ∙ ap₂ (λ (x : ℕ) (b : Bool). x * 2 + digit b) (pointWhere-cong (6 - suc j) _ _ (λ m _. ap B (next j m))) (ap B (add-zero j))
+  where
+    next : (j m : ℕ) → j + suc m ≡ suc j + m
+    next j m = omega arith
+
+-- word p once the letters from j on have chosen
+abbrev pub level : ℕ → (ℕ → ℕ → Bool) → ℕ → ℕ → ℕ
+level v B j p = wordOf (λ i. bit v (above (λ m. B m i) j * 2 ^ j + p))
+
+pick : (v s j p : ℕ) (b : Bool)
+    → (bit v (s * 2 ^ suc j + p) ⊕ (b && (bit v (s * 2 ^ suc j + p) ⊕ bit v (s * 2 ^ suc j + (p + 2 ^ j))))) ≡ bit v ((s * 2 + digit b) * 2 ^ j + p)
+pick v s j p true =
+    let e : s * 2 ^ suc j + (p + 2 ^ j) ≡ (s * 2 + 1) * 2 ^ j + p = omega (arith, scale s j, add-mul (s * 2) 1 (2 ^ j), one-mul (2 ^ j)) in
+    cancel (bit v (s * 2 ^ suc j + p)) (bit v (s * 2 ^ suc j + (p + 2 ^ j))) ∙ ap (bit v) e
+  where
+    cancel : (y z : Bool) → (y ⊕ (y ⊕ z)) ≡ z
+    cancel true true = refl
+    cancel true false = refl
+    cancel false z = refl
+
+    scale : (s j : ℕ) → s * 2 ^ suc j ≡ s * 2 * 2 ^ j
+    scale s j = ap (λ (x : ℕ). s * x) (pow-suc 2 j ∙ mul-comm (2 ^ j) 2) ∙ sym (mul-assoc s 2 (2 ^ j))
+pick v s j p false =
+    let e : s * 2 ^ suc j + p ≡ (s * 2 + 0) * 2 ^ j + p = ap (λ (x : ℕ). x + p) (ap (λ (x : ℕ). s * x) (pow-suc 2 j ∙ mul-comm (2 ^ j) 2) ∙ sym (mul-assoc s 2 (2 ^ j)) ∙ ap (λ (x : ℕ). x * 2 ^ j) (sym (add-zero (s * 2)))) in
+    xor-false (bit v (s * 2 ^ suc j + p)) ∙ ap (bit v) e
+
+-- every letter has still to choose
+pub level-start : (v j : ℕ) (B : ℕ → ℕ → Bool) (t : List ℕ) → j ≡ 6 → t ≡ listed 64 (λ p. wordOf (λ i. bit v p)) → (p : ℕ) → p < 2 ^ j → getD t p 0 ≡ level v B j p
+unfolding above pointWhere
+level-start v j B t ej e p l =
+    let m : p < 64 = rw ej at l in
+    ap (λ (t : List ℕ). getD t p 0) e ∙ getD-listed 64 _ p 0 m ∙ rw ej (word-cong _ _ (λ i _. ap (bit v) (flat p)))
+  where
+    flat : (p : ℕ) → p ≡ 0 * 64 + p
+    flat p = omega arith
+
+-- letter j - 1 chooses
+pub level-next : (v j b half : ℕ) (B : ℕ → ℕ → Bool) (t t′ : List ℕ) → 0 < j → j ≤ 6 → half ≡ 2 ^ (j - 1) → Holds b (B (j - 1))
+    → ((p : ℕ) → p < 2 ^ j → getD t p 0 ≡ level v B j p) → t′ ≡ listed half (λ p. chosen b (getD t p 0) (getD t (p + half) 0)) ++ drop half t
+    → (p : ℕ) → p < 2 ^ (j - 1) → getD t′ p 0 ≡ level v B (j - 1) p
+unfolding filled chosen
+level-next v j b half B t t′ h l eh hb inv e p m =
+    let s : j ≡ suc (j - 1) = omega arith in
+    let d : 2 ^ j ≡ 2 ^ (j - 1) * 2 = ap (λ (x : ℕ). 2 ^ x) s ∙ pow-suc 2 (j - 1) in
+    let hx : Holds (getD t p 0) (λ i. bit v (above (λ m. B m i) j * 2 ^ j + p)) = word-holds _ _ (inv p (omega arith)) in
+    let hy : Holds (getD t (p + half) 0) (λ i. bit v (above (λ m. B m i) j * 2 ^ j + (p + half))) = word-holds _ _ (inv (p + half) (omega arith)) in
+    ap (λ (t : List ℕ). getD t p 0) e ∙ filled-low half (λ p. chosen b (getD t p 0) (getD t (p + half) 0)) t p (omega arith)
+    ∙ holds-word _ _ (also-holds (xor-holds hx (and-holds hb (xor-holds hx hy))) (λ i _. at i))
+  where
+    at : (i : ℕ) → (bit v (above (λ m. B m i) j * 2 ^ j + p) ⊕ (B (j - 1) i && (bit v (above (λ m. B m i) j * 2 ^ j + p) ⊕ bit v (above (λ m. B m i) j * 2 ^ j + (p + half)))))
+        ≡ bit v (above (λ m. B m i) (j - 1) * 2 ^ (j - 1) + p)
+    at i =
+        let s : j ≡ suc (j - 1) = omega arith in
+        ap₂ (λ (x y : ℕ). bit v (above (λ m. B m i) x * 2 ^ x + p) ⊕ (B (j - 1) i && (bit v (above (λ m. B m i) x * 2 ^ x + p) ⊕ bit v (above (λ m. B m i) x * 2 ^ x + (p + y))))) s eh
+        ∙ pick v (above (λ m. B m i) (suc (j - 1))) (j - 1) p (B (j - 1) i)
+        ∙ ap (λ (x : ℕ). bit v (x * 2 ^ (j - 1) + p)) (sym (above-next (λ m. B m i) (j - 1) (omega arith)))
+
+-- every letter has chosen
+pub level-end : (v j : ℕ) (B : ℕ → ℕ → Bool) (t : List ℕ) → j ≡ 0 → ((p : ℕ) → p < 2 ^ j → getD t p 0 ≡ level v B j p) → getD t 0 0 ≡ wordOf (λ i. bit v (pointWhere 6 (λ m. B m i)))
+unfolding above
+level-end v j B t z inv = inv 0 (rw z (omega arith)) ∙ rw z (word-cong _ _ (λ i _. ap (bit v) (flat (pointWhere 6 (λ m. B (0 + m) i)) ∙ pointWhere-cong 6 _ _ (λ m _. ap (λ (x : ℕ). B x i) (from m)))))
+  where
+    flat : (x : ℕ) → x * 1 + 0 ≡ x
+    flat x = omega arith
+
+    from : (m : ℕ) → 0 + m ≡ m
+    from m = omega arith
+
+-- a part's word lies within
+pub part-index : (j k w m : ℕ) → 0 < j → j ≤ 6 → w < k → m ≡ 6 * k → (j - 1) * k + w < m
+part-index j k w m h l hw e = let i : j - 1 < 6 = omega arith in rw e (digits-lt i hw)
+
+pub part-small : (j k : ℕ) → j ≤ 6 → k ≤ 16 → (j - 1) * k ≤ 96
+part-small j k h l = let i : j - 1 ≤ 6 = omega arith in mul-le-mul i l
+
+pub half-small : (j half : ℕ) → 0 < j → j ≤ 6 → half ≡ 2 ^ (j - 1) → half + half ≤ 64
+half-small j half h l e =
+    let i : j - 1 ≤ 5 = omega arith in
+    let b : 2 ^ (j - 1) ≤ 2 ^ 5 = pow-mono i in
+    omega arith
+
+-- a bit at all points of a word
+pub point-word : (v p : ℕ) → bitAnd (v / 2 ^ p) 1 * 0xffff_ffff_ffff_ffff ≡ wordOf (λ i. bit v p)
+unfolding bit
+point-word v p = ap (λ (x : ℕ). x * 0xffff_ffff_ffff_ffff) (and-mask (v / 2 ^ p) 1) ∙ go (v / 2 ^ p % 2) (omega arith)
+  where
+    go : (d : ℕ) → d < 2 → d * 0xffff_ffff_ffff_ffff ≡ wordOf (λ i. eqb d 1)
+    go zero h = holds-word _ _ (constant-holds false _ refl)
+    go (suc zero) h = holds-word _ _ (constant-holds true _ refl)
+    go (suc (suc d)) h = absurd (omega arith)
+
+-- the word of one word number, seen from the points
+pub looked-up : (f parts : List ℕ) (k w v r : ℕ) → v ≡ getD f w 0 → r ≡ wordOf (λ i. bit v (pointWhere 6 (λ j. bit (getD parts (j * k + w) 0) i)))
+    → r ≡ wordOf (λ i. bitAt f (64 * ((64 * w + i) / 64) + pointWhere 6 (λ j. bitAt parts (j * (64 * k) + (64 * w + i)))))
+looked-up f parts k w v r ev e =
+    e ∙ word-cong _ _ (λ i l.
+    let d : (64 * w + i) / 64 ≡ w = omega arith in
+    ap₂ bit ev (pointWhere-cong 6 _ _ (λ j _. sym (bit-at parts (j * k + w) i l) ∙ ap (bitAt parts) (part-point k j w i)))
+    ∙ sym (bit-at f w (pointWhere 6 (λ j. bitAt parts (j * (64 * k) + (64 * w + i)))) (pointWhere-lt 6 _))
+    ∙ ap (λ (x : ℕ). bitAt f (64 * x + pointWhere 6 (λ j. bitAt parts (j * (64 * k) + (64 * w + i))))) (sym d))
+
+-- ---- the whole substitution
+-- the point that is looked up, where every letter from u on keeps its value
+replaced-point : (n u p : ℕ) (h : ℕ → Bool) → u ≤ 6 → u ≤ n → p < 2 ^ n → ((j : ℕ) → u ≤ j → h j ≡ bit p j) → 64 * (p / 64) + pointWhere 6 h ≡ pointWhere n h
+replaced-point n u p h hu hn hp keep =
+    same-letters (6 + (n - 6)) _ _ small (lt (pointWhere-lt n h)) (λ j l. go j l (decLt j 6) (decLt j n))
+  where
+    lt : pointWhere n h < 2 ^ n → pointWhere n h < 2 ^ (6 + (n - 6))
+    lt l = omega (arith, room n, points n)
+
+    small : 64 * (p / 64) + pointWhere 6 h < 2 ^ (6 + (n - 6))
+    small =
+        let a : pointWhere 6 h < 64 = pointWhere-lt 6 h in
+        let b : p / 64 < 2 ^ (n - 6) = omega (arith, room n) in
+        omega (arith, points n)
+
+    none : (j : ℕ) → n ≤ j → bit p j ≡ false
+    none j l = let m : 2 ^ n ≤ 2 ^ j = pow-mono l in bit-none p j (omega arith)
+
+    high : (j : ℕ) → 6 ≤ j → bit (64 * (p / 64) + pointWhere 6 h) j ≡ bit p j
+    high j l =
+        let e : 6 + (j - 6) ≡ j = omega arith in
+        ap (bit (64 * (p / 64) + pointWhere 6 h)) (sym e) ∙ bit-over (j - 6) (p / 64) (pointWhere 6 h) (pointWhere-lt 6 h) ∙ shr-bit p 6 (j - 6) ∙ ap (bit p) e
+
+    go : (j : ℕ) → j < 6 + (n - 6) → Dec (j < 6) → Dec (j < n) → bit (64 * (p / 64) + pointWhere 6 h) j ≡ bit (pointWhere n h) j
+    go j l (yes a) (yes b) = bit-in j (p / 64) (pointWhere 6 h) a ∙ bit-pointWhere 6 h j a ∙ sym (bit-pointWhere n h j b)
+    go j l (yes a) (no b) =
+        let k : n ≤ j = omega (arith, b) in
+        let m : 2 ^ n ≤ 2 ^ j = pow-mono k in
+        bit-in j (p / 64) (pointWhere 6 h) a ∙ bit-pointWhere 6 h j a ∙ keep j (omega arith) ∙ none j k ∙ sym (bit-none (pointWhere n h) j (omega (arith, pointWhere-lt n h)))
+    go j l (no a) (yes b) = high j (omega (arith, a)) ∙ sym (keep j (omega (arith, a))) ∙ sym (bit-pointWhere n h j b)
+    go j l (no a) (no b) = absurd (omega (arith, a, b))
+
+pub substitute-done : (u n k : ℕ) (condition handed f parts f′ out : List ℕ) → u ≤ 6 → u ≤ n → k ≡ 2 ^ (n - 6)
+    → f ≡ wordsOf (2 ^ (n - 6)) (value n (present condition)) → parts ≡ answerWords 6 (2 ^ (n - 6)) (putFor u n handed)
+    → f′ ≡ wordsOf k (λ p. bitAt f (64 * (p / 64) + pointWhere 6 (λ j. bitAt parts (j * (64 * k) + p)))) → out ≡ table n (value n (bitAt f′))
+    → out ≡ table n (substitute n n (present condition) (forUnknowns u (held n handed)))
+unfolding putFor
+substitute-done u n k condition handed f parts f′ out hu hn ek ef ep e′ eo =
+    eo ∙ table-back n (substitute n n (present condition) (forUnknowns u (held n handed))) f′ (λ p l.
+    let m : p < 64 * 2 ^ (n - 6) = omega (arith, room n) in
+    let q : 64 * (p / 64) + pointWhere 6 (λ j. bitAt parts (j * (64 * 2 ^ (n - 6)) + p)) ≡ pointWhere n (λ j. putFor u n handed j p) =
+    ap (λ (x : ℕ). 64 * (p / 64) + x) (pointWhere-cong 6 _ _ (λ j i. answer-at 6 (2 ^ (n - 6)) j p (putFor u n handed) parts ep i m))
+    ∙ replaced-point n u p (λ j. putFor u n handed j p) hu hn l (λ j i. ap (λ (b : Bool). cond b (value n (held n handed j) p) (bit p j)) (le-ltb j u i)) in
+    at-known (2 ^ (n - 6)) _ f′ (e′ ∙ ap (λ (x : ℕ). wordsOf x (λ p. bitAt f (64 * (p / 64) + pointWhere 6 (λ j. bitAt parts (j * (64 * x) + p))))) ek) p m
+    ∙ ap (bitAt f) q
+    ∙ at-known (2 ^ (n - 6)) _ f ef _ (omega (arith, room n, pointWhere-lt n (λ j. putFor u n handed j p)))
+    ∙ sym (value-forUnknowns n u (present condition) (held n handed) p))
+
+-- ---- the loops
+pub choose-more : (b half p : ℕ) (t₀ t : List ℕ) → t ≡ filled p (λ p. chosen b (getD t₀ p 0) (getD t₀ (p + half) 0)) t₀ → p < half → half + half ≤ length t₀
+    → set t p (bitXor (getD t p 0) (bitAnd b (bitXor (getD t p 0) (getD t (p + half) 0)))) ≡ filled (p + 1) (λ p. chosen b (getD t₀ p 0) (getD t₀ (p + half) 0)) t₀
+unfolding chosen
+choose-more b half p t₀ t e h l =
+    let F : ℕ → ℕ = λ p. chosen b (getD t₀ p 0) (getD t₀ (p + half) 0) in
+    filled-more p F t₀ t e _ (omega arith)
+    (ap₂ (λ (x y : ℕ). bitXor x (bitAnd b (bitXor x y))) (filled-read p F t₀ t e (omega arith))
+    (ap (λ (l : List ℕ). getD l (p + half) 0) e ∙ filled-high p F t₀ (p + half) (omega arith) (omega arith)))
+
+pub choose-end : (b half p : ℕ) (t₀ t : List ℕ) → t ≡ filled p (λ p. chosen b (getD t₀ p 0) (getD t₀ (p + half) 0)) t₀ → p ≡ half
+    → t ≡ listed half (λ p. chosen b (getD t₀ p 0) (getD t₀ (p + half) 0)) ++ drop half t₀
+unfolding filled
+choose-end b half p t₀ t e ep = e ∙ ap (λ (x : ℕ). listed x (λ p. chosen b (getD t₀ p 0) (getD t₀ (p + half) 0)) ++ drop x t₀) ep

@@ -1,0 +1,80 @@
+-- The steps of the inner functions put together: a sum, a product by values, and the parts of a substitution.
+-- Assumes nothing.
+use mathlib.Core.Path.{_≡_, sym, ap, ap₂, _∙_}
+use mathlib.Core.Bool.{Bool, _&&_, cond}
+use mathlib.Core.List.{List}
+use Prim.Native.Nat.{ℕ, _+_, _-_, _*_, _/_, _%_, _^_, _≤_, _<_}
+use native.Mathlib.Omega.{arith}
+use lib.Arith.{digits-div, digits-mod}
+use lib.ListN.{length, take, drop}
+use borrow.Author.Tests.{lt-ltb, le-ltb}
+use Rattle.ring.specs.Letters.{bit}
+use Rattle.ring.specs.Lists.{listed}
+use Rattle.ring.specs.Polynomial.{value, sum, product}
+use Rattle.ring.specs.Table.{AreBits, IsTable, present, tabulate, table, held}
+use Rattle.ring.proofs.Lists.{listed-cong}
+use Rattle.ring.proofs.Value.{value-cong, value-product}
+use Rattle.tables.proofs.Bits.{bits-take, bits-drop}
+use Rattle.tables.proofs.Filled.{filled}
+use Rattle.tables.proofs.Parts.{held-part}
+use Rattle.words.specs.Words.{wordOf, wordsOf, bitAt, answerWords}
+use Rattle.words.proofs.Words.{words-cong, at-known, size-words}
+use Rattle.words.proofs.Letters.{room, table-back}
+use Rattle.words.proofs.Parts.{part-length, parts-end, words-parts}
+use Rattle.polynomials.specs.LookUp.{putFor}
+
+pub sum-done : (n : ℕ) (a b o₁ o₂ : List ℕ) → IsTable n a → o₁ ≡ a → o₂ ≡ tabulate (length o₁) (sum (present o₁) (present b))
+    → o₂ ≡ table n (sum (present a) (present b))
+unfolding table
+sum-done n a b o₁ o₂ t e₁ e₂ = e₂ ∙ rw (e₁, t .size)
+
+-- to values, point by point, and back
+pub product-done : (n k : ℕ) (a b x y z out : List ℕ) → k ≡ 2 ^ (n - 6) → x ≡ wordsOf (2 ^ (n - 6)) (value n (present a)) → y ≡ wordsOf (2 ^ (n - 6)) (value n (present b))
+    → z ≡ wordsOf k (λ p. bitAt x p && bitAt y p) → out ≡ table n (value n (bitAt z)) → out ≡ table n (product n (present a) (present b))
+product-done n k a b x y z out ek ex ey ez eo =
+    eo ∙ table-back n (product n (present a) (present b)) z (λ p l.
+    let m : p < 64 * 2 ^ (n - 6) = omega (arith, room n) in
+    at-known (2 ^ (n - 6)) _ z (ez ∙ ap (λ (q : ℕ). wordsOf q (λ p. bitAt x p && bitAt y p)) ek) p m
+    ∙ ap₂ _&&_ (at-known (2 ^ (n - 6)) _ x ex p m) (at-known (2 ^ (n - 6)) _ y ey p m)
+    ∙ sym (value-product n (present a) (present b) p))
+
+-- the handed table j
+module _ (n j size : ℕ) (t : List ℕ) (e : size ≡ 2 ^ n) where
+  pub handed-table : j * size + size ≤ length t → AreBits t → IsTable n (take (j * size + size - j * size) (drop (j * size) t))
+  handed-table fits bits = record { size = part-length j size t fits ∙ e; bits = bits-take (j * size + size - j * size) (drop (j * size) t) (bits-drop (j * size) t bits) }
+
+  pub unknown-part : (u k : ℕ) (ws : List ℕ) → j < u → ws ≡ wordsOf k (value n (present (take (j * size + size - j * size) (drop (j * size) t)))) → ws ≡ wordsOf k (putFor u n t j)
+  unfolding putFor
+  unknown-part u k ws h ew =
+      let d : j * size + size - j * size ≡ 2 ^ n = omega arith in
+      ew ∙ words-cong k _ _ (λ p l.
+      value-cong n _ _ p (λ m i. ap₂ (λ (x y : ℕ). present (take x (drop (j * y) t)) m) d e ∙ held-part n j t m i)
+      ∙ sym (ap (λ (b : Bool). cond b (value n (held n t j) p) (bit p j)) (lt-ltb j u h)))
+
+pub given-part : (u n j k k′ : ℕ) (t ws : List ℕ) → u ≤ j → ws ≡ wordsOf k (λ p. bit p j) → k ≡ k′ → ws ≡ wordsOf k′ (putFor u n t j)
+unfolding putFor
+given-part u n j k k′ t ws h ew ek =
+    ew ∙ ap (λ (x : ℕ). wordsOf x (λ p. bit p j)) ek
+    ∙ words-cong k′ _ _ (λ p l. sym (ap (λ (b : Bool). cond b (value n (held n t j) p) (bit p j)) (le-ltb j u h)))
+
+-- ---- the parts, one after another
+-- word w of all: word w % k of part w / k
+unfoldable pub partWord : ℕ → (ℕ → ℕ → Bool) → ℕ → ℕ
+partWord k h w = wordOf (λ i. h (w / k) (64 * (w % k) + i))
+
+part-word : (k : ℕ) (h : ℕ → ℕ → Bool) (j w : ℕ) → w < k → partWord k h (j * k + w) ≡ wordOf (λ i. h j (64 * w + i))
+unfolding partWord
+part-word k h j w l = ap₂ (λ (x y : ℕ). wordOf (λ i. h x (64 * y + i))) (digits-div j l) (digits-mod j l)
+
+pub part-put : (j k k′ : ℕ) (h : ℕ → ℕ → Bool) (ys : List ℕ) → ys ≡ wordsOf k′ (h j) → k ≡ k′ → ys ≡ listed k (λ w. partWord k h (j * k + w))
+unfolding wordsOf
+part-put j k k′ h ys e ek = e ∙ ap (λ (x : ℕ). wordsOf x (h j)) (sym ek) ∙ listed-cong k _ _ (λ w l. sym (part-word k h j w l))
+
+pub parts-taken : (k size j : ℕ) (h : ℕ → ℕ → Bool) (t₀ t : List ℕ) → k ≡ size → j ≡ 6 → length t₀ ≡ 6 * size → t ≡ filled (j * k) (partWord k h) t₀ → 0 < size → t ≡ answerWords 6 size h
+parts-taken k size j h t₀ t ek ej es e pos =
+    parts-end 6 size j k (partWord k h) t₀ t ek ej es e ∙ ap (λ (x : ℕ). listed (6 * size) (partWord x h)) ek
+    ∙ words-parts 6 size (partWord size h) h pos (λ x w _ l. part-word size h x w l)
+
+pub length-parts : (u k : ℕ) (h : ℕ → ℕ → Bool) (ws : List ℕ) → ws ≡ answerWords u k h → length ws ≡ u * k
+unfolding answerWords
+length-parts u k h ws e = size-words (u * k) _ ws e

@@ -1,0 +1,167 @@
+// The work of the calls on tables that have passed the questions: the sum, the product, and polynomials put for the unknowns of a condition.
+// Nothing here is a public call of the library: the functions are for the crates above, which ask the questions first
+// and then lend slices of exactly the length that is needed. All but the sum go to values in words, and come back.
+ghost use mathlib.Core.Path.{_≡_};
+ghost use mathlib.Core.List.{_++_};
+ghost use Prim.Native.Nat.{_+_, _-_, _*_, _/_, _^_, _≤_, _<_};
+ghost use lib.ListN.{length, getD, drop};
+ghost use Rattle.ring.specs.Letters.{bit, pointWhere};
+ghost use Rattle.ring.specs.Lists.{listed};
+ghost use Rattle.ring.specs.Polynomial.{sum, product, substitute};
+ghost use Rattle.ring.specs.Table.{AreBits, IsTable, present, table, held, forUnknowns};
+ghost use Rattle.words.specs.Words.{wordOf, wordsOf, bitAt, answerWords};
+ghost use Rattle.polynomials.specs.LookUp.{chosen, putFor};
+
+// The sum of two tables, into a third.
+pub fn add(n: usize, a: &[u8], b: &[u8], out: &mut [u8])
+    requires { ⌜ IsTable n (now a) × IsTable n (now b) × (length (now out) ≡ 2 ^ n) ⌝ }
+    ensures { λ _. ⌜ now (out .exit) ≡ table n (sum (present (now (a .entry))) (present (now (b .entry)))) ⌝ }
+{
+    tables::copy(out, a);
+    tables::add_into(out, b);
+}
+
+fn multiply_with(
+    n: usize,
+    a: &[u8],
+    b: &[u8],
+    out: &mut [u8],
+    first: &mut [u64],
+    second: &mut [u64],
+)
+    requires { ⌜ (n ≤ 10) × IsTable n (now a) × IsTable n (now b) × (length (now out) ≡ 2 ^ n) × (length (now first) ≡ 2 ^ (n - 6)) × (length (now second) ≡ 2 ^ (n - 6)) ⌝ }
+    ensures { λ _. ⌜ now (out .exit) ≡ table n (product n (present (now (a .entry))) (present (now (b .entry)))) ⌝ }
+{
+    words::take_values(n, a, first);
+    words::take_values(n, b, second);
+    words::multiply_into(first, second);
+    words::put_table(n, first, out);
+}
+
+// The product of two tables, into a third. The scratch words live here.
+pub fn multiply(n: usize, a: &[u8], b: &[u8], out: &mut [u8])
+    requires { ⌜ (n ≤ 10) × IsTable n (now a) × IsTable n (now b) × (length (now out) ≡ 2 ^ n) ⌝ }
+    ensures { λ _. ⌜ now (out .exit) ≡ table n (product n (present (now (a .entry))) (present (now (b .entry)))) ⌝ }
+{
+    let k = words::word_count(n);
+    let mut first = [0u64; 16];
+    let mut second = [0u64; 16];
+    multiply_with(n, a, b, out, &mut first[..k], &mut second[..k]);
+}
+
+// The value at each point of a word, at all points of a word of its own.
+fn each_point(word: u64, t: &mut [u64])
+    requires { ⌜ length (now t) ≡ 64 ⌝ }
+    ensures { λ _. ⌜ now (t .exit) ≡ listed 64 (λ p. wordOf (λ i. bit word p)) ⌝ }
+{
+    for p in 0..64 {
+        t[p] = ((word >> p) & 1) * 0xffff_ffff_ffff_ffff;
+    }
+}
+
+// Of each two words that differ in one letter, point by point the one that b chooses.
+fn choose(t: &mut [u64], b: u64, half: usize)
+    requires { ⌜ half + half ≤ length (now t) ⌝ }
+    ensures { λ _. ⌜ now (t .exit) ≡ listed half (λ p. chosen b (getD (now (t .entry)) p 0) (getD (now (t .entry)) (p + half) 0)) ++ drop half (now (t .entry)) ⌝ }
+{
+    for p in 0..half {
+        let clear = t[p];
+        t[p] = clear ^ (b & (clear ^ t[p + half]));
+    }
+}
+
+// The word's value at each of its points after the six lowest letters have been replaced, letter j by word w of the part j.
+fn look_up_word(word: u64, parts: &[u64], k: usize, w: usize, t: &mut [u64]) -> u64
+    requires { ⌜ (length (now parts) ≡ 6 * k) × (k ≤ 16) × (w < k) × (length (now t) ≡ 64) ⌝ }
+    ensures { λ r. ⌜ r ≡ wordOf (λ i. bit word (pointWhere 6 (λ j. bit (getD (now (parts .entry)) (j * k + w) 0) i))) ⌝ }
+{
+    each_point(word, t);
+    let mut j = 6;
+    while 0 < j {
+        j -= 1;
+        choose(t, parts[j * k + w], tables::pow2(j));
+    }
+    t[0]
+}
+
+// The six lowest letters replaced by the parts, all at once.
+fn look_up(f: &mut [u64], parts: &[u64], t: &mut [u64])
+    requires { ⌜ (length (now parts) ≡ 6 * length (now f)) × (length (now f) ≤ 16) × (length (now t) ≡ 64) ⌝ }
+    ensures { λ _. ⌜ now (f .exit) ≡ wordsOf (length (now (f .entry))) (λ p. bitAt (now (f .entry)) (64 * (p / 64) + pointWhere 6 (λ j. bitAt (now (parts .entry)) (j * (64 * length (now (f .entry))) + p)))) ⌝ }
+{
+    let k = f.len();
+    for w in 0..k {
+        f[w] = look_up_word(f[w], parts, k, w, t);
+    }
+}
+
+// The values of what is put for letter j: the handed polynomial for an unknown, and the letter itself for a given.
+fn take_part(u: usize, n: usize, j: usize, handed: &[u8], part: &mut [u64])
+    requires { ⌜ (n ≤ 10) × (j < 6) × (length (now handed) ≡ u * 2 ^ n) × AreBits (now handed) × (length (now part) ≡ 2 ^ (n - 6)) ⌝ }
+    ensures { λ _. ⌜ now (part .exit) ≡ wordsOf (2 ^ (n - 6)) (putFor u n (now (handed .entry)) j) ⌝ }
+{
+    if j < u {
+        let size = tables::pow2(n);
+        let start = j * size;
+        let end = start + size;
+        words::take_values(n, &handed[start..end], part);
+    } else {
+        words::letter(j, part);
+    }
+}
+
+// The same for each of the six lowest letters.
+fn take_parts(u: usize, n: usize, handed: &[u8], parts: &mut [u64])
+    requires { ⌜ (n ≤ 10) × (u ≤ 6) × (length (now handed) ≡ u * 2 ^ n) × AreBits (now handed) × (length (now parts) ≡ 6 * 2 ^ (n - 6)) ⌝ }
+    ensures { λ _. ⌜ now (parts .exit) ≡ answerWords 6 (2 ^ (n - 6)) (putFor u n (now (handed .entry))) ⌝ }
+{
+    let k = words::word_count(n);
+    for j in 0..6 {
+        let start = j * k;
+        let end = start + k;
+        take_part(u, n, j, handed, &mut parts[start..end]);
+    }
+}
+
+fn substitute_with(
+    u: usize,
+    g: usize,
+    condition: &[u8],
+    handed: &[u8],
+    out: &mut [u8],
+    f: &mut [u64],
+    parts: &mut [u64],
+    t: &mut [u64],
+)
+    requires { ⌜ (u ≤ 6) × (u + g ≤ 10) × IsTable (u + g) (now condition) × (length (now handed) ≡ u * 2 ^ (u + g)) × AreBits (now handed) × (length (now out) ≡ 2 ^ (u + g)) ⌝ }
+    requires { ⌜ (length (now f) ≡ 2 ^ (u + g - 6)) × (length (now parts) ≡ 6 * 2 ^ (u + g - 6)) × (length (now t) ≡ 64) ⌝ }
+    ensures { λ _. ⌜ now (out .exit) ≡ table (u + g) (substitute (u + g) (u + g) (present (now (condition .entry))) (forUnknowns u (held (u + g) (now (handed .entry))))) ⌝ }
+{
+    let n = u + g;
+    words::take_values(n, condition, f);
+    take_parts(u, n, handed, parts);
+    look_up(f, parts, t);
+    words::put_table(n, f, out);
+}
+
+// Handed polynomials put for the unknowns of a condition, all at once; the givens stay. The scratch words live here.
+pub fn substitute(u: usize, g: usize, condition: &[u8], handed: &[u8], out: &mut [u8])
+    requires { ⌜ (u ≤ 6) × (u + g ≤ 10) × IsTable (u + g) (now condition) × (length (now handed) ≡ u * 2 ^ (u + g)) × AreBits (now handed) × (length (now out) ≡ 2 ^ (u + g)) ⌝ }
+    ensures { λ _. ⌜ now (out .exit) ≡ table (u + g) (substitute (u + g) (u + g) (present (now (condition .entry))) (forUnknowns u (held (u + g) (now (handed .entry))))) ⌝ }
+{
+    let k = words::word_count(u + g);
+    let all = 6 * k;
+    let mut f = [0u64; 16];
+    let mut parts = [0u64; 96];
+    let mut t = [0u64; 64];
+    substitute_with(
+        u,
+        g,
+        condition,
+        handed,
+        out,
+        &mut f[..k],
+        &mut parts[..all],
+        &mut t,
+    );
+}
