@@ -1,61 +1,60 @@
-//! The thirteen calls, the engine's beside the plain one. Both get the same lent inputs, and
-//! write over the same buffers of their own again and again: none is cleared first.
+//! The thirteen calls, the engine's beside plain Rust's in both forms. All get the same lent
+//! inputs, and write over a buffer of their own again and again: none is cleared first.
 
 use crate::inputs::{counts, Inputs, LONGEST_ENTRY};
 use crate::timing::{compare, Compared, Effort};
 use layodegi::Answer;
-use reference::values::calls as plain;
+use reference::plain::{self, Bytes};
 use reference::{Choice, Contents, Count, Letters, Reading, Solved, State};
 use std::hint::black_box;
 
 pub struct Call {
     pub name: &'static str,
-    /// What weighs on the engine, where it is not ahead.
-    pub weight: &'static str,
     pub measure: fn(&Inputs, Effort) -> Compared,
 }
 
 pub const CALLS: [Call; 13] = [
-    Call { name: "read_text", weight: READING, measure: read_text },
-    Call { name: "value", weight: "", measure: value },
-    Call { name: "sum", weight: "", measure: sum },
-    Call { name: "product", weight: "", measure: product },
-    Call { name: "substitute", weight: "", measure: substitute },
-    Call { name: "boole", weight: "", measure: boole },
-    Call { name: "particular", weight: "", measure: particular },
-    Call { name: "lowenheim", weight: "", measure: lowenheim },
-    Call { name: "lowenheim_handed", weight: "", measure: lowenheim_handed },
-    Call { name: "write_entry", weight: WRITING, measure: write_entry },
-    Call { name: "read_entry", weight: RECORDS, measure: read_entry },
-    Call { name: "audit", weight: RECORDS, measure: audit },
-    Call { name: "walk", weight: RECORDS, measure: walk },
+    Call { name: "read_text", measure: read_text },
+    Call { name: "value", measure: value },
+    Call { name: "sum", measure: sum },
+    Call { name: "product", measure: product },
+    Call { name: "substitute", measure: substitute },
+    Call { name: "boole", measure: boole },
+    Call { name: "particular", measure: particular },
+    Call { name: "lowenheim", measure: lowenheim },
+    Call { name: "lowenheim_handed", measure: lowenheim_handed },
+    Call { name: "write_entry", measure: write_entry },
+    Call { name: "read_entry", measure: read_entry },
+    Call { name: "audit", measure: audit },
+    Call { name: "walk", measure: walk },
 ];
 
-const READING: &str = "The readers go over the text once for each 256 points, for few letters too.";
-const WRITING: &str =
-    "The written order is worked out for each entry, every mask from counts of letters.";
-const RECORDS: &str = "Records are decoded anew for each question and for each table, and none is kept; plain Rust decodes them once, into a list.";
-
 /// Asserts on every input that results and lent bytes are the same, then takes the times.
-fn measure<I, E, P>(
+fn measure<I, E, P: PartialEq>(
     effort: Effort,
     inputs: &[I],
     room: usize,
     engine: impl Fn(&I, &mut [u8]) -> E,
-    plain: impl Fn(&I, &mut [u8]) -> P,
+    bytes: impl Fn(&I, &mut [u8]) -> P,
+    words: impl Fn(&I, &mut [u8]) -> P,
     same: impl Fn(E, P) -> bool,
 ) -> Compared {
-    let (mut engine_out, mut plain_out) = (vec![7; room], vec![7; room]);
+    let (mut engine_out, mut bytes_out, mut words_out) =
+        (vec![7; room], vec![7; room], vec![7; room]);
     for input in inputs {
-        let results = (engine(input, &mut engine_out), plain(input, &mut plain_out));
-        assert!(same(results.0, results.1), "the engine and plain Rust answer the same");
-        assert!(engine_out == plain_out, "the engine and plain Rust write the same");
+        let by_bytes = bytes(input, &mut bytes_out);
+        assert!(by_bytes == words(input, &mut words_out), "both forms answer the same");
+        assert!(same(engine(input, &mut engine_out), by_bytes), "the engine answers the same");
+        assert!(engine_out == bytes_out && engine_out == words_out, "all write the same");
     }
     compare(
         effort,
         inputs,
-        |input| engine(input, black_box(&mut engine_out)),
-        |input| plain(input, black_box(&mut plain_out)),
+        [
+            &mut |input: &I| drop(black_box(engine(black_box(input), black_box(&mut engine_out)))),
+            &mut |input: &I| drop(black_box(bytes(black_box(input), black_box(&mut bytes_out)))),
+            &mut |input: &I| drop(black_box(words(black_box(input), black_box(&mut words_out)))),
+        ],
     )
 }
 
@@ -88,7 +87,8 @@ fn read_text(inputs: &Inputs, effort: Effort) -> Compared {
         &inputs.texts,
         inputs.letters.table_length(),
         |text, out| layodegi::read_text(letters, text, out),
-        |text, out| plain::read_text(u, g, text, out),
+        |text, out| plain::read_text::<Bytes>(u, g, text, out),
+        |text, out| plain::read_text::<u64>(u, g, text, out),
         both_done,
     )
 }
@@ -104,7 +104,8 @@ fn value(inputs: &Inputs, effort: Effort) -> Compared {
         &inputs.conditions,
         0,
         |table, _| layodegi::value(letters, table, engine_point.0, engine_point.1),
-        |table, _| plain::value(u, g, table, State(state), Choice(choice)),
+        |table, _| plain::value::<Bytes>(u, g, table, State(state), Choice(choice)),
+        |table, _| plain::value::<u64>(u, g, table, State(state), Choice(choice)),
         |engine, plain| engine.is_ok() && engine.ok() == plain.ok(),
     )
 }
@@ -116,7 +117,8 @@ fn sum(inputs: &Inputs, effort: Effort) -> Compared {
         &inputs.pairs,
         inputs.letters.table_length(),
         |(a, b), out| layodegi::sum(letters, a, b, out),
-        |(a, b), out| plain::sum(u, g, a, b, out),
+        |(a, b), out| plain::sum::<Bytes>(u, g, a, b, out),
+        |(a, b), out| plain::sum::<u64>(u, g, a, b, out),
         both_done,
     )
 }
@@ -128,7 +130,8 @@ fn product(inputs: &Inputs, effort: Effort) -> Compared {
         &inputs.pairs,
         inputs.letters.table_length(),
         |(a, b), out| layodegi::product(letters, a, b, out),
-        |(a, b), out| plain::product(u, g, a, b, out),
+        |(a, b), out| plain::product::<Bytes>(u, g, a, b, out),
+        |(a, b), out| plain::product::<u64>(u, g, a, b, out),
         both_done,
     )
 }
@@ -140,7 +143,8 @@ fn substitute(inputs: &Inputs, effort: Effort) -> Compared {
         &inputs.handed,
         inputs.letters.table_length(),
         |(condition, handed), out| layodegi::substitute(letters, condition, handed, out),
-        |(condition, handed), out| plain::substitute(u, g, condition, handed, out),
+        |(condition, handed), out| plain::substitute::<Bytes>(u, g, condition, handed, out),
+        |(condition, handed), out| plain::substitute::<u64>(u, g, condition, handed, out),
         both_done,
     )
 }
@@ -152,7 +156,8 @@ fn boole(inputs: &Inputs, effort: Effort) -> Compared {
         &inputs.conditions,
         inputs.letters.answer_length(),
         |condition, out| layodegi::boole(letters, condition, out),
-        |condition, out| plain::boole(u, g, condition, out),
+        |condition, out| plain::boole::<Bytes>(u, g, condition, out),
+        |condition, out| plain::boole::<u64>(u, g, condition, out),
         both_solved,
     )
 }
@@ -164,7 +169,8 @@ fn particular(inputs: &Inputs, effort: Effort) -> Compared {
         &inputs.conditions,
         inputs.letters.answer_length(),
         |condition, out| layodegi::particular(letters, condition, out),
-        |condition, out| plain::particular(u, g, condition, out),
+        |condition, out| plain::particular::<Bytes>(u, g, condition, out),
+        |condition, out| plain::particular::<u64>(u, g, condition, out),
         both_solved,
     )
 }
@@ -176,7 +182,8 @@ fn lowenheim(inputs: &Inputs, effort: Effort) -> Compared {
         &inputs.conditions,
         inputs.letters.answer_length(),
         |condition, out| layodegi::lowenheim(letters, condition, out),
-        |condition, out| plain::lowenheim(u, g, condition, out),
+        |condition, out| plain::lowenheim::<Bytes>(u, g, condition, out),
+        |condition, out| plain::lowenheim::<u64>(u, g, condition, out),
         both_solved,
     )
 }
@@ -188,7 +195,8 @@ fn lowenheim_handed(inputs: &Inputs, effort: Effort) -> Compared {
         &inputs.handed,
         inputs.letters.answer_length(),
         |(condition, handed), out| layodegi::lowenheim_handed(letters, condition, handed, out),
-        |(condition, handed), out| plain::lowenheim_handed(u, g, condition, handed, out),
+        |(condition, handed), out| plain::lowenheim_handed::<Bytes>(u, g, condition, handed, out),
+        |(condition, handed), out| plain::lowenheim_handed::<u64>(u, g, condition, handed, out),
         both_done,
     )
 }
@@ -200,7 +208,8 @@ fn write_entry(inputs: &Inputs, effort: Effort) -> Compared {
         &inputs.conditions,
         LONGEST_ENTRY,
         |condition, out| layodegi::write_entry(7, letters, condition, out),
-        |condition, out| plain::write_entry(7, u, g, condition, out),
+        |condition, out| plain::write_entry::<Bytes>(7, u, g, condition, out),
+        |condition, out| plain::write_entry::<u64>(7, u, g, condition, out),
         |engine, plain| engine.is_ok() && engine.ok() == plain.ok(),
     )
 }
@@ -217,15 +226,26 @@ fn read_entry(inputs: &Inputs, effort: Effort) -> Compared {
         },
         |entry, out| {
             let (condition, answers) = out.split_at_mut(length);
-            plain::read_entry(entry, condition, answers)
+            plain::read_entry::<Bytes>(entry, condition, answers)
+        },
+        |entry, out| {
+            let (condition, answers) = out.split_at_mut(length);
+            plain::read_entry::<u64>(entry, condition, answers)
         },
         same_entry,
     )
 }
 
 fn audit(inputs: &Inputs, effort: Effort) -> Compared {
-    let engine = |entry: &Vec<u8>, _: &mut [u8]| layodegi::audit(entry);
-    measure(effort, &inputs.entries, 0, engine, |entry, _| plain::audit(entry), same_entry)
+    measure(
+        effort,
+        &inputs.entries,
+        0,
+        |entry, _| layodegi::audit(entry),
+        |entry, _| plain::audit::<Bytes>(entry),
+        |entry, _| plain::audit::<u64>(entry),
+        same_entry,
+    )
 }
 
 fn walk(inputs: &Inputs, effort: Effort) -> Compared {
@@ -234,7 +254,8 @@ fn walk(inputs: &Inputs, effort: Effort) -> Compared {
         &inputs.volumes,
         0,
         |volume, _| layodegi::walk(volume, 0),
-        |volume, _| plain::walk(volume, 0),
+        |volume, _| plain::walk::<Bytes>(volume, 0),
+        |volume, _| plain::walk::<u64>(volume, 0),
         |engine, plain| engine.is_ok_and(|count| plain == Count::Whole(count)),
     )
 }

@@ -1,6 +1,6 @@
 //! What the calls are measured on: texts, tables, entries and a volume, from a fixed seed.
 
-use reference::values::{self, calls};
+use reference::plain;
 use reference::{Letters, Solved};
 
 /// So many of each.
@@ -149,14 +149,14 @@ fn solvable(letters: Letters, kind: Kind, random: &mut Random) -> Vec<u8> {
         for state in values.chunks_exact_mut(1 << letters.unknowns) {
             state[random.below(1 << letters.unknowns)] = 0;
         }
-        return values::transform(&values);
+        return plain::transform(&values);
     }
     loop {
         let mut condition = vec![0; letters.table_length()];
         let text = route_condition(letters, random);
-        calls::read_text(u, g, &text, &mut condition).expect("a text of the grammar");
+        plain::read_text::<u64>(u, g, &text, &mut condition).expect("a text of the grammar");
         let mut answers = vec![0; letters.answer_length()];
-        if calls::boole(u, g, &condition, &mut answers) == Ok(Solved::Done) {
+        if plain::boole::<u64>(u, g, &condition, &mut answers) == Ok(Solved::Done) {
             return condition;
         }
     }
@@ -165,14 +165,14 @@ fn solvable(letters: Letters, kind: Kind, random: &mut Random) -> Vec<u8> {
 fn answers(letters: Letters, condition: &[u8]) -> Vec<u8> {
     let (u, g) = counts(letters);
     let mut answers = vec![0; letters.answer_length()];
-    assert_eq!(calls::boole(u, g, condition, &mut answers), Ok(Solved::Done));
+    assert_eq!(plain::boole::<u64>(u, g, condition, &mut answers), Ok(Solved::Done));
     answers
 }
 
 fn entry(route: u64, letters: Letters, condition: &[u8]) -> Vec<u8> {
     let (u, g) = counts(letters);
     let mut entry = vec![0; LONGEST_ENTRY];
-    let length = calls::write_entry(route, u, g, condition, &mut entry).expect("an entry");
+    let length = plain::write_entry::<u64>(route, u, g, condition, &mut entry).expect("an entry");
     entry.truncate(length);
     entry
 }

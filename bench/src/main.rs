@@ -1,5 +1,6 @@
-//! Measures the engine beside plain Rust, writes `RESULTS.md` and `time-by-letters.svg`, and
-//! prints the former, which says what is measured and how.
+//! Measures the engine beside plain Rust in two forms, and prints a report that says what is
+//! measured and how. With `--write` it also writes the report to `RESULTS.md` and the plot to
+//! `time-by-letters.svg`; without it, measuring leaves the folder as it was.
 
 mod calls;
 mod inputs;
@@ -17,7 +18,7 @@ use std::ops::RangeInclusive;
 use std::path::{Path, PathBuf};
 use std::process::Command;
 use std::time::Duration;
-use timing::Effort;
+use timing::{Effort, SIDES};
 
 const NUMBERS_OF_LETTERS: RangeInclusive<usize> = 4..=10;
 const TEN_LETTERS: Effort = Effort { rounds: 101, round: Duration::from_millis(2) };
@@ -35,7 +36,12 @@ const PLOTTED: [(&str, &str); 6] = [
 
 fn main() {
     let folder = Path::new(env!("CARGO_MANIFEST_DIR"));
-    let (engine_sheet, plain_sheet) = programs(folder);
+    let is_to_write = match std::env::args().nth(1).as_deref() {
+        None => false,
+        Some("--write") => true,
+        Some(other) => panic!("{other}: the one option is --write"),
+    };
+    let programs = programs(folder);
     let letters = letters_of(*NUMBERS_OF_LETTERS.end());
     let report = Report {
         machine: Machine::this(),
@@ -43,23 +49,21 @@ fn main() {
         effort: TEN_LETTERS,
         typical: rows(&Inputs::new(letters, Kind::Typical)),
         dense: rows(&Inputs::new(letters, Kind::Dense)),
-        sheet: sheet::compare_sheets(&engine_sheet, &plain_sheet),
+        sheet: sheet::compare_sheets(&programs),
         numbers_of_letters: NUMBERS_OF_LETTERS,
         by_letters: PLOTTED.map(|(call, words)| by_letters(call, words)).into(),
     };
     let results = report.text();
     print!("{results}");
-    write(&folder.join("RESULTS.md"), &results);
-    let plot = plot(NUMBERS_OF_LETTERS, &report.by_letters, &report.machine());
-    write(&folder.join("time-by-letters.svg"), &plot);
+    if is_to_write {
+        write(&folder.join("RESULTS.md"), &results);
+        let plot = plot(NUMBERS_OF_LETTERS, &report.by_letters, &report.machine());
+        write(&folder.join("time-by-letters.svg"), &plot);
+    }
 }
 
 fn rows(inputs: &Inputs) -> Vec<Row> {
-    let row = |&Call { name, weight, measure }: &Call| Row {
-        name,
-        weight,
-        times: measure(inputs, TEN_LETTERS),
-    };
+    let row = |&Call { name, measure }: &Call| Row { name, times: measure(inputs, TEN_LETTERS) };
     CALLS.iter().map(row).collect()
 }
 
@@ -69,19 +73,21 @@ fn by_letters(name: &str, words: &'static str) -> Series {
         let inputs = Inputs::new(letters_of(count), Kind::Typical);
         (call.measure)(&inputs, FEWER_LETTERS)
     };
-    Series { call: call.name, name: words, points: NUMBERS_OF_LETTERS.map(time).collect() }
+    Series { name: words, points: NUMBERS_OF_LETTERS.map(time).collect() }
 }
 
-/// The engine's program and the plain one, each built if it is not there or not new enough.
-fn programs(folder: &Path) -> (PathBuf, PathBuf) {
+/// The engine's program and the plain ones, each built if it is not there or not new enough.
+fn programs(folder: &Path) -> [PathBuf; SIDES] {
     let root = folder.join("..");
     let reference = root.join("reference");
-    eprintln!("building the two programs `sheet`; the engine's is proved first, if it is not yet");
+    eprintln!("building the programs `sheet`; the engine's is proved first, if it is not yet");
     run(Command::new("rt").args(["check", "sheet"]).current_dir(&root));
     let cargo = std::env::var_os("CARGO").unwrap_or_else(|| "cargo".into());
-    let build = ["build", "--quiet", "--offline", "--release", "--bin", "sheet"];
-    run(Command::new(cargo).args(build).current_dir(&reference));
-    (root.join("target/bin/sheet"), reference.join("target/release/sheet"))
+    run(Command::new(cargo)
+        .args(["build", "--quiet", "--offline", "--release"])
+        .current_dir(&reference));
+    let plain = reference.join("target/release");
+    [root.join("target/bin/sheet"), plain.join("sheet_bytes"), plain.join("sheet_words")]
 }
 
 /// Runs a command to its end; what it prints is shown only where it fails.

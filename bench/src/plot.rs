@@ -1,11 +1,10 @@
 //! The plot of time against the number of letters, one panel a call, as an SVG.
 
-use crate::timing::Compared;
+use crate::timing::{Compared, BYTES, ENGINE, SIDES, WORDS};
 use std::ops::RangeInclusive;
 
 /// A call at each number of letters, from the first on.
 pub struct Series {
-    pub call: &'static str,
     pub name: &'static str,
     pub points: Vec<Compared>,
 }
@@ -37,8 +36,11 @@ struct Mark {
     is_dashed: bool,
 }
 
-const ENGINE: Mark = Mark { name: "engine", colour: "#0b57a4", is_dashed: false };
-const PLAIN: Mark = Mark { name: "plain Rust", colour: "#b8480b", is_dashed: true };
+const MARKS: [(usize, Mark); SIDES] = [
+    (ENGINE, Mark { name: "engine", colour: "#0b57a4", is_dashed: false }),
+    (BYTES, Mark { name: "plain Rust, bytes", colour: "#b8480b", is_dashed: true }),
+    (WORDS, Mark { name: "plain Rust, words", colour: "#4a7a1c", is_dashed: true }),
+];
 
 /// Where a number of letters and a time stand in a panel.
 struct Axes {
@@ -52,7 +54,7 @@ impl Axes {
     /// With a little room below and above all times.
     fn around(letters: RangeInclusive<usize>, series: &[Series]) -> Axes {
         let points = series.iter().flat_map(|series| &series.points);
-        let times: Vec<f64> = points.flat_map(|p| [p.engine.best, p.plain.best]).collect();
+        let times: Vec<f64> = points.flat_map(|p| p.times.map(|times| times.best)).collect();
         let least = times.iter().copied().fold(f64::INFINITY, f64::min);
         let most = times.iter().copied().fold(0.0, f64::max);
         let low = steps().take_while(|step| step * 1.15 <= least).last().unwrap_or(1.0);
@@ -91,8 +93,8 @@ pub fn plot(letters: RangeInclusive<usize>, series: &[Series], machine: &str) ->
         text("subtitle", "start", (LEFT, 53.0), SUBTITLE),
         text("subtitle", "end", (right, 78.5), machine),
     ];
-    for (place, mark) in [ENGINE, PLAIN].iter().enumerate() {
-        svg.extend(legend(mark, LEFT + 130.0 * place as f64, 74.0));
+    for (place, (_, mark)) in MARKS.iter().enumerate() {
+        svg.extend(legend(mark, LEFT + [0.0, 130.0, 320.0][place], 74.0));
     }
     for (place, series) in series.iter().enumerate() {
         let x = LEFT + (place % COLUMNS) as f64 * COLUMN_STEP;
@@ -125,16 +127,16 @@ fn panel(axes: &Axes, series: &Series) -> Vec<String> {
     svg.push(format!(
         r##"<rect width="{PANEL_WIDTH}" height="{PANEL_HEIGHT}" fill="none" stroke="#888888"/>"##
     ));
-    let engine = series.points.iter().map(|point| point.engine.best);
-    let plain = series.points.iter().map(|point| point.plain.best);
-    for (mark, times) in [(ENGINE, engine.collect::<Vec<_>>()), (PLAIN, plain.collect())] {
-        let letters = axes.letters.clone();
-        let places: Vec<_> = letters.zip(times).map(|(n, t)| (axes.x(n), axes.y(t))).collect();
-        svg.push(line(&mark, &places));
-        svg.extend(places.iter().map(|&place| point(&mark, place)));
+    for (side, mark) in &MARKS {
+        let points = axes.letters.clone().zip(&series.points);
+        let places: Vec<_> =
+            points.map(|(n, point)| (axes.x(n), axes.y(point.times[*side].best))).collect();
+        svg.push(line(mark, &places));
+        svg.extend(places.iter().map(|&place| point(mark, place)));
     }
     if let Some(last) = series.points.last() {
-        let ratio = format!("ratio at {}: {:.2}", axes.letters.end(), last.ratio);
+        let ratios = (last.ratios[BYTES], last.ratios[WORDS]);
+        let ratio = format!("at {}: {:.2} and {:.2}", axes.letters.end(), ratios.0, ratios.1);
         svg.push(text("tick", "end", (PANEL_WIDTH - 9.0, PANEL_HEIGHT - 9.0), &ratio));
     }
     svg

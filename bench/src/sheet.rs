@@ -1,13 +1,12 @@
-//! The whole sheet: the engine's program and the plain one, run in turns on the same 250 lines.
+//! The whole sheet: the engine's program and both plain ones, run in turns on the same 250 lines.
 
 use crate::inputs::{route_condition, Random};
 use crate::processor_time;
-use crate::timing::Compared;
+use crate::timing::{quietly, Compared, SIDES};
 use reference::Letters;
 use std::fs::File;
-use std::path::Path;
+use std::path::{Path, PathBuf};
 use std::process::{Command, Stdio};
-use std::time::Instant;
 
 /// Ten letters, some with more unknowns than givens and some with fewer.
 const LETTERS: [Letters; 3] = [
@@ -17,13 +16,13 @@ const LETTERS: [Letters; 3] = [
 ];
 pub const ROUTES: usize = 250;
 const ROUNDS: usize = 51;
-
-/// What weighs on the engine, by a profile of its program.
-pub const WEIGHT: &str = "About a quarter of the engine's time goes to the written order, which is worked out for each entry, every mask from counts of letters as the paper has it.";
+/// A program is run so often in a round: the kernel counts a process's time in coarse steps.
+const RUNS: usize = 8;
 
 pub struct Sheet {
-    pub processor: Compared,
-    pub wall: Compared,
+    /// Processor time of a run, and that less a run on no lines.
+    pub whole: Compared,
+    pub net: Compared,
     pub nones: usize,
     pub input_bytes: usize,
     pub output_bytes: usize,
@@ -41,28 +40,35 @@ fn sheet_input() -> String {
     input
 }
 
-/// Both outputs are compared, then each program is run in turns, its output to nowhere.
-pub fn compare_sheets(engine: &Path, plain: &Path) -> Sheet {
+/// All outputs are compared, then each program is run in turns, its output to nowhere.
+pub fn compare_sheets(programs: &[PathBuf; SIDES]) -> Sheet {
     let input = sheet_input();
     let path = std::env::temp_dir().join(format!("layodegi-bench-{}", std::process::id()));
     std::fs::write(&path, &input).expect("the temporary folder takes the sheet");
-    let output = output_of(engine, &path);
-    assert!(output == output_of(plain, &path), "the programs print the same");
-    let (mut engine_runs, mut plain_runs) = (Runs::default(), Runs::default());
-    for round in 0..ROUNDS {
-        if round % 2 == 0 {
-            engine_runs.add(engine, &path);
-            plain_runs.add(plain, &path);
-        } else {
-            plain_runs.add(plain, &path);
-            engine_runs.add(engine, &path);
+    let outputs = programs.each_ref().map(|program| output_of(program, &path));
+    assert!(outputs.iter().all(|output| *output == outputs[0]), "the programs print the same");
+    let nowhere = Path::new("/dev/null");
+    let mut whole = None;
+    let net = quietly(|| {
+        let mut runs = [const { Vec::new() }; SIDES];
+        let mut net = [const { Vec::new() }; SIDES];
+        for round in 0..ROUNDS {
+            for turn in 0..SIDES {
+                let side = (round + turn) % SIDES;
+                let time = time_of(&programs[side], &path);
+                net[side].push(time - time_of(&programs[side], nowhere));
+                runs[side].push(time);
+            }
         }
-    }
+        whole = Some(Compared::of_rounds(runs));
+        Compared::of_rounds(net)
+    });
     std::fs::remove_file(&path).expect("the sheet is there");
+    let [output, ..] = outputs;
     let lines = output.split(|&byte| byte == b'\n');
     Sheet {
-        processor: Compared::of_rounds(engine_runs.processor, plain_runs.processor),
-        wall: Compared::of_rounds(engine_runs.wall, plain_runs.wall),
+        whole: whole.expect("at least one measurement"),
+        net,
         nones: lines.filter(|line| line.starts_with(b"05")).count(),
         input_bytes: input.len(),
         output_bytes: output.len(),
@@ -76,20 +82,13 @@ fn output_of(program: &Path, input: &Path) -> Vec<u8> {
     run.stdout
 }
 
-/// Times in nanoseconds.
-#[derive(Default)]
-struct Runs {
-    processor: Vec<f64>,
-    wall: Vec<f64>,
-}
-
-impl Runs {
-    fn add(&mut self, program: &Path, input: &Path) {
+/// User and system time of a run, in nanoseconds.
+fn time_of(program: &Path, input: &Path) -> f64 {
+    let before = processor_time::of_children();
+    for _ in 0..RUNS {
         let input = File::open(input).expect("the sheet is there");
-        let (before, start) = (processor_time::of_children(), Instant::now());
         let run = Command::new(program).stdin(input).stdout(Stdio::null()).status();
         assert!(run.expect("the program runs").success());
-        self.wall.push(start.elapsed().as_nanos() as f64);
-        self.processor.push(processor_time::of_children() - before);
     }
+    (processor_time::of_children() - before) / RUNS as f64
 }

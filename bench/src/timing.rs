@@ -1,7 +1,6 @@
-//! Times of the engine and of plain Rust, measured in turns within one run.
+//! Times of the engine and of both forms of plain Rust, measured in turns within one run.
 
 use crate::processor_time;
-use std::hint::black_box;
 use std::time::Duration;
 
 /// Of all rounds, in nanoseconds for one call.
@@ -16,28 +15,64 @@ impl Times {
         times.sort_by(f64::total_cmp);
         Times { best: times[0], median: times[times.len() / 2] }
     }
+
+    fn unrest(self) -> f64 {
+        self.median / self.best
+    }
 }
+
+/// The sides, in the order in which their times stand.
+pub const SIDES: usize = 3;
+pub const ENGINE: usize = 0;
+pub const BYTES: usize = 1;
+pub const WORDS: usize = 2;
+
+/// On a quiet machine the median is at most this much of the best.
+const QUIET: f64 = 1.2;
+/// A measurement on a machine that was not quiet is made again, so often.
+const TRIES: usize = 6;
 
 #[derive(Clone, Copy)]
 pub struct Compared {
-    pub engine: Times,
-    pub plain: Times,
-    /// The median of the rounds' ratios, engine by plain: below 1 the engine is ahead. Both sides of
-    /// a round follow one another, so that a change of the processor's speed falls on both.
-    pub ratio: f64,
+    pub times: [Times; SIDES],
+    /// The medians of the rounds' ratios, engine by each side: below 1 the engine is ahead. All
+    /// sides of a round follow one another, so that a change of the processor's speed falls on all.
+    pub ratios: [f64; SIDES],
 }
 
 impl Compared {
-    /// From the times of both sides, round by round.
-    pub fn of_rounds(engine: Vec<f64>, plain: Vec<f64>) -> Compared {
-        let ratios = engine.iter().zip(&plain).map(|(engine, plain)| engine / plain).collect();
-        let ratio = Times::of(ratios).median;
-        Compared { engine: Times::of(engine), plain: Times::of(plain), ratio }
+    /// From the times of each side, round by round.
+    pub fn of_rounds(rounds: [Vec<f64>; SIDES]) -> Compared {
+        let ratio = |side: &Vec<f64>| {
+            let ratios = rounds[ENGINE].iter().zip(side).map(|(engine, side)| engine / side);
+            Times::of(ratios.collect()).median
+        };
+        let ratios = [ratio(&rounds[ENGINE]), ratio(&rounds[BYTES]), ratio(&rounds[WORDS])];
+        Compared { times: rounds.map(Times::of), ratios }
     }
 
-    pub fn ratio_of_best(self) -> f64 {
-        self.engine.best / self.plain.best
+    fn unrest(&self) -> f64 {
+        self.times.iter().map(|times| times.unrest()).fold(1.0, f64::max)
     }
+
+    pub fn is_quiet(&self) -> bool {
+        self.unrest() <= QUIET
+    }
+}
+
+/// Measures until the machine was quiet, and takes the quietest measurement.
+pub fn quietly(mut measure: impl FnMut() -> Compared) -> Compared {
+    let mut found = measure();
+    for _ in 1..TRIES {
+        if found.is_quiet() {
+            break;
+        }
+        let again = measure();
+        if again.unrest() < found.unrest() {
+            found = again;
+        }
+    }
+    found
 }
 
 /// How many rounds, and how long the calls of one side in one round take.
@@ -49,29 +84,27 @@ pub struct Effort {
 
 /// Calls each side on every input, so often that a round takes its time. The first round of each
 /// side is a warm-up; the side that goes first changes from round to round.
-pub fn compare<I, E, P>(
+pub fn compare<I>(
     effort: Effort,
     inputs: &[I],
-    mut engine: impl FnMut(&I) -> E,
-    mut plain: impl FnMut(&I) -> P,
+    mut sides: [&mut dyn FnMut(&I); SIDES],
 ) -> Compared {
-    let engine_passes = passes(effort, inputs, &mut engine);
-    let plain_passes = passes(effort, inputs, &mut plain);
-    let (mut engine_times, mut plain_times) = (Vec::new(), Vec::new());
-    for round in 0..effort.rounds {
-        if round % 2 == 0 {
-            engine_times.push(time_round(engine_passes, inputs, &mut engine));
-            plain_times.push(time_round(plain_passes, inputs, &mut plain));
-        } else {
-            plain_times.push(time_round(plain_passes, inputs, &mut plain));
-            engine_times.push(time_round(engine_passes, inputs, &mut engine));
+    quietly(|| {
+        let mut rounds = [const { Vec::new() }; SIDES];
+        let passes: Vec<usize> =
+            sides.iter_mut().map(|side| passes(effort, inputs, *side)).collect();
+        for round in 0..effort.rounds {
+            for turn in 0..SIDES {
+                let side = (round + turn) % SIDES;
+                rounds[side].push(time_round(passes[side], inputs, sides[side]));
+            }
         }
-    }
-    Compared::of_rounds(engine_times, plain_times)
+        Compared::of_rounds(rounds)
+    })
 }
 
 /// The number of passes over all inputs that a round takes.
-fn passes<I, R>(effort: Effort, inputs: &[I], call: &mut impl FnMut(&I) -> R) -> usize {
+fn passes<I>(effort: Effort, inputs: &[I], call: &mut dyn FnMut(&I)) -> usize {
     let end = processor_time::of_this_thread() + effort.round.as_nanos() as f64;
     let mut passes = 0;
     while processor_time::of_this_thread() < end {
@@ -82,11 +115,11 @@ fn passes<I, R>(effort: Effort, inputs: &[I], call: &mut impl FnMut(&I) -> R) ->
 }
 
 /// The processor time of one call, in nanoseconds.
-fn time_round<I, R>(passes: usize, inputs: &[I], call: &mut impl FnMut(&I) -> R) -> f64 {
+fn time_round<I>(passes: usize, inputs: &[I], call: &mut dyn FnMut(&I)) -> f64 {
     let start = processor_time::of_this_thread();
     for _ in 0..passes {
         for input in inputs {
-            black_box(call(black_box(input)));
+            call(input);
         }
     }
     (processor_time::of_this_thread() - start) / (passes * inputs.len()) as f64

@@ -3,7 +3,7 @@
 pub mod entries;
 pub mod texts;
 
-use crate::values::transform;
+use crate::plain::transform;
 
 /// A small xorshift.
 pub struct Random(u64);

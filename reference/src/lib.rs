@@ -2,19 +2,19 @@
 //!
 //! Written from the paper alone, to test the engine against: polynomials are
 //! sets of monomials and every step is worked out in the paper's own words.
-//! Module `values` works out the same answers a second way, by values; module
-//! `cases` has what test cases are made from.
+//! Module `plain` works out the same answers by values, for speed; module `cases`
+//! has what test cases are made from.
 //! The public calls are the functions and types named below.
 
 mod calls;
 pub mod cases;
 mod entry;
+pub mod plain;
 mod polynomial;
 mod programs;
 mod questions;
 mod solution;
 mod text;
-pub mod values;
 
 pub use calls::{
     boole, lowenheim, lowenheim_handed, particular, product, read_text, substitute, sum, value,

@@ -32,9 +32,14 @@ pub struct Letters {
 }
 
 impl Letters {
+    /// n = U + G.
+    pub fn count(self) -> usize {
+        self.unknowns + self.givens
+    }
+
     /// The bytes of one table: 2^n.
     pub fn table_length(self) -> usize {
-        1 << (self.unknowns + self.givens)
+        1 << self.count()
     }
 
     /// The bytes of an answer table: U times 2^n.

@@ -1,6 +1,6 @@
 //! Random tables from a fixed seed, and the counts of letters.
 
-use reference::{values, Letters};
+use reference::{plain, Letters};
 
 pub struct Random(pub u64);
 
@@ -23,7 +23,7 @@ impl Random {
         for state in 0..1 << letters.givens {
             values[state << letters.unknowns | self.below(1 << letters.unknowns)] = 0;
         }
-        values::transform(&values)
+        plain::transform(&values)
     }
 }
 

@@ -5,7 +5,7 @@ use crate::making::{condition, damage, garbage, large, result, wrong_letters};
 use layodegi::LONGEST_ENTRY;
 use reference::cases::entries::{any_entry, built, built_none, damaged_entries, entry, split};
 use reference::cases::{bench_tables, pairs, Random};
-use reference::values::transform;
+use reference::plain::{self, transform};
 
 pub fn run_writing() -> Calls {
     let mut calls = Calls::new('W');
@@ -195,11 +195,13 @@ fn long_conditions(random: &mut Random) -> Vec<Vec<u8>> {
 }
 
 fn long_condition(random: &mut Random) -> Vec<u8> {
-    let letters = reference::Letters { unknowns: 6, givens: 4 };
-    let length = |table: &[u8]| {
+    let mut answers = vec![0; 6 * 1024];
+    let mut length = |table: &[u8]| {
         let ones = |table: &[u8]| table.iter().filter(|&&byte| byte == 1).count();
-        reference::values::boole(letters, table)
-            .map_or(0, |answers| 6 + 3 * ones(table) + 4 * ones(&answers))
+        match plain::boole::<u64>(6, 4, table, &mut answers) {
+            Ok(reference::Solved::Done) => 6 + 3 * ones(table) + 4 * ones(&answers),
+            _ => 0,
+        }
     };
     let mut best = random.solvable(6, 4);
     let mut longest = length(&best);

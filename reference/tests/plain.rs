@@ -1,10 +1,10 @@
-//! Every call and the sheet, by monomials and by values, against each other:
+//! Every call and the sheet, by monomials and in both forms of plain Rust, against each other:
 //! results and lent bytes, refusals too.
 
 mod common;
 
 use common::{all_letters, Random};
-use reference::values::calls;
+use reference::plain::{self, Block, Bytes};
 use reference::*;
 use std::fmt::Debug;
 
@@ -12,11 +12,11 @@ use std::fmt::Debug;
 fn assert_agree<R: PartialEq + Debug>(
     length: usize,
     by_monomials: impl FnOnce(&mut [u8]) -> R,
-    by_values: impl FnOnce(&mut [u8]) -> R,
+    by_table: impl FnOnce(&mut [u8]) -> R,
 ) {
     let (mut first, mut second) = (vec![7; length], vec![7; length]);
     let expected = by_monomials(&mut first);
-    assert_eq!(by_values(&mut second), expected);
+    assert_eq!(by_table(&mut second), expected);
     assert_eq!(first, second, "{expected:?}");
 }
 
@@ -39,31 +39,35 @@ fn room(needed: usize, random: &mut Random) -> usize {
     [needed, needed, needed + 3, needed.saturating_sub(1)][random.below(4)]
 }
 
-fn assert_operations_agree(letters: Letters, random: &mut Random) {
+fn assert_operations_agree<E: Block>(letters: Letters, random: &mut Random) {
     let (u, g) = (letters.unknowns as u64, letters.givens as u64);
     let length = letters.table_length();
     let a = perhaps_damaged(random.table(length), random);
     let b = perhaps_damaged(random.table(length), random);
     let handed = perhaps_damaged(random.table(letters.answer_length()), random);
     let result = room(length, random);
-    assert_agree(result, |out| sum(u, g, &a, &b, out), |out| calls::sum(u, g, &a, &b, out));
-    assert_agree(result, |out| product(u, g, &a, &b, out), |out| calls::product(u, g, &a, &b, out));
+    assert_agree(result, |out| sum(u, g, &a, &b, out), |out| plain::sum::<E>(u, g, &a, &b, out));
+    assert_agree(
+        result,
+        |out| product(u, g, &a, &b, out),
+        |out| plain::product::<E>(u, g, &a, &b, out),
+    );
     assert_agree(
         result,
         |out| substitute(u, g, &a, &handed, out),
-        |out| calls::substitute(u, g, &a, &handed, out),
+        |out| plain::substitute::<E>(u, g, &a, &handed, out),
     );
     assert_agree(
         room(letters.answer_length(), random),
         |out| lowenheim_handed(u, g, &a, &handed, out),
-        |out| calls::lowenheim_handed(u, g, &a, &handed, out),
+        |out| plain::lowenheim_handed::<E>(u, g, &a, &handed, out),
     );
     let state = State(random.below(1 + letters.states() as usize) as u64);
     let choice = Choice(random.below(1 + letters.choices() as usize) as u64);
-    assert_eq!(value(u, g, &a, state, choice), calls::value(u, g, &a, state, choice));
+    assert_eq!(value(u, g, &a, state, choice), plain::value::<E>(u, g, &a, state, choice));
 }
 
-fn assert_solving_agrees(letters: Letters, random: &mut Random) {
+fn assert_solving_agrees<E: Block>(letters: Letters, random: &mut Random) {
     let (u, g) = (letters.unknowns as u64, letters.givens as u64);
     for condition in [random.table(letters.table_length()), random.solvable(letters)] {
         let condition = perhaps_damaged(condition, random);
@@ -71,22 +75,22 @@ fn assert_solving_agrees(letters: Letters, random: &mut Random) {
         assert_agree(
             answers,
             |out| boole(u, g, &condition, out),
-            |out| calls::boole(u, g, &condition, out),
+            |out| plain::boole::<E>(u, g, &condition, out),
         );
         assert_agree(
             answers,
             |out| particular(u, g, &condition, out),
-            |out| calls::particular(u, g, &condition, out),
+            |out| plain::particular::<E>(u, g, &condition, out),
         );
         assert_agree(
             answers,
             |out| lowenheim(u, g, &condition, out),
-            |out| calls::lowenheim(u, g, &condition, out),
+            |out| plain::lowenheim::<E>(u, g, &condition, out),
         );
     }
 }
 
-fn assert_read_agrees(bytes: &[u8], condition: usize, answers: usize) {
+fn assert_read_agrees<E: Block>(bytes: &[u8], condition: usize, answers: usize) {
     assert_agree(
         condition + answers,
         |out| {
@@ -95,14 +99,14 @@ fn assert_read_agrees(bytes: &[u8], condition: usize, answers: usize) {
         },
         |out| {
             let (condition, answers) = out.split_at_mut(condition);
-            calls::read_entry(bytes, condition, answers)
+            plain::read_entry::<E>(bytes, condition, answers)
         },
     );
-    assert_eq!(audit(bytes), calls::audit(bytes));
+    assert_eq!(audit(bytes), plain::audit::<E>(bytes));
 }
 
 /// An entry as it is written, cut, with a byte changed, and with its answers left out.
-fn assert_entries_agree(letters: Letters, random: &mut Random) {
+fn assert_entries_agree<E: Block>(letters: Letters, random: &mut Random) {
     let (u, g) = (letters.unknowns as u64, letters.givens as u64);
     for condition in [random.table(letters.table_length()), random.solvable(letters)] {
         let route = random.below(256) as u64;
@@ -113,48 +117,58 @@ fn assert_entries_agree(letters: Letters, random: &mut Random) {
         assert_agree(
             room(length, random),
             |out| write_entry(route, u, g, &lent, out),
-            |out| calls::write_entry(route, u, g, &lent, out),
+            |out| plain::write_entry::<E>(route, u, g, &lent, out),
         );
         let rooms = (room(letters.table_length(), random), room(letters.answer_length(), random));
-        assert_read_agrees(&entry, rooms.0, rooms.1);
-        assert_read_agrees(&entry[..random.below(length)], rooms.0, rooms.1);
+        assert_read_agrees::<E>(&entry, rooms.0, rooms.1);
+        assert_read_agrees::<E>(&entry[..random.below(length)], rooms.0, rooms.1);
         for _ in 0..20 {
             let mut changed = entry.clone();
             let place = random.below(length);
             changed[place] =
                 [changed[place] ^ 1 << random.below(8), random.below(8) as u8][random.below(2)];
-            assert_read_agrees(&changed, rooms.0, rooms.1);
+            assert_read_agrees::<E>(&changed, rooms.0, rooms.1);
         }
     }
 }
 
 #[test]
 fn calls_agree() {
+    calls_agree_as::<Bytes>();
+    calls_agree_as::<u64>();
+}
+
+fn calls_agree_as<E: Block>() {
     let mut random = Random(99);
     for letters in all_letters(6) {
         for _ in 0..10 {
-            assert_operations_agree(letters, &mut random);
-            assert_solving_agrees(letters, &mut random);
-            assert_entries_agree(letters, &mut random);
+            assert_operations_agree::<E>(letters, &mut random);
+            assert_solving_agrees::<E>(letters, &mut random);
+            assert_entries_agree::<E>(letters, &mut random);
         }
     }
     for (unknowns, givens) in [(0, 8), (1, 8), (2, 8), (3, 6), (4, 4), (5, 5), (6, 4)] {
         let letters = Letters { unknowns, givens };
-        assert_operations_agree(letters, &mut random);
-        assert_solving_agrees(letters, &mut random);
-        assert_entries_agree(letters, &mut random);
+        assert_operations_agree::<E>(letters, &mut random);
+        assert_solving_agrees::<E>(letters, &mut random);
+        assert_entries_agree::<E>(letters, &mut random);
     }
 }
 
 #[test]
 fn too_many_letters_agree() {
+    too_many_letters_agree_as::<Bytes>();
+    too_many_letters_agree_as::<u64>();
+}
+
+fn too_many_letters_agree_as<E: Block>() {
     let mut buffer = [7; 2048];
     for (u, g) in [(7, 0), (0, 9), (6, 5), (u64::MAX, 1), (3, u64::MAX)] {
         let table = [0; 2048];
-        assert_eq!(calls::read_text(u, g, b"u", &mut buffer), Err(Refusal(1)));
-        assert_eq!(calls::sum(u, g, &table, &table, &mut buffer), Err(Refusal(1)));
-        assert_eq!(calls::boole(u, g, &table, &mut buffer), Err(Refusal(1)));
-        assert_eq!(calls::write_entry(0, u, g, &table, &mut buffer), Err(Refusal(1)));
+        assert_eq!(plain::read_text::<E>(u, g, b"u", &mut buffer), Err(Refusal(1)));
+        assert_eq!(plain::sum::<E>(u, g, &table, &table, &mut buffer), Err(Refusal(1)));
+        assert_eq!(plain::boole::<E>(u, g, &table, &mut buffer), Err(Refusal(1)));
+        assert_eq!(plain::write_entry::<E>(0, u, g, &table, &mut buffer), Err(Refusal(1)));
         assert_eq!(buffer, [7; 2048]);
     }
 }
@@ -193,6 +207,11 @@ fn random_text(random: &mut Random) -> Vec<u8> {
 
 #[test]
 fn texts_agree() {
+    texts_agree_as::<Bytes>();
+    texts_agree_as::<u64>();
+}
+
+fn texts_agree_as<E: Block>() {
     let mut random = Random(2026);
     let mut accepted = 0;
     for _ in 0..4000 {
@@ -204,7 +223,7 @@ fn texts_agree() {
         assert_agree(
             length,
             |out| read_text(u, g, &bytes, out),
-            |out| calls::read_text(u, g, &bytes, out),
+            |out| plain::read_text::<E>(u, g, &bytes, out),
         );
     }
     assert!(accepted > 400, "{accepted}");
@@ -231,10 +250,10 @@ fn random_sheet(random: &mut Random) -> Vec<u8> {
     sheet
 }
 
-/// By values, through the function that the program prints with.
-fn sheet_by_values(input: &[u8]) -> Vec<u8> {
+/// Through the function that the programs print with.
+fn plain_sheet<E: Block>(input: &[u8]) -> Vec<u8> {
     let mut output = Vec::new();
-    values::print_sheet(input, &mut output).expect("memory takes every byte");
+    plain::print_sheet::<E>(input, &mut output).expect("memory takes every byte");
     output
 }
 
@@ -243,16 +262,25 @@ fn sheets_agree() {
     let mut random = Random(7);
     for _ in 0..100 {
         let input = random_sheet(&mut random);
-        assert_eq!(sheet_by_values(&input), sheet(&input));
+        let expected = sheet(&input);
+        assert_eq!(plain_sheet::<Bytes>(&input), expected);
+        assert_eq!(plain_sheet::<u64>(&input), expected);
     }
     for input in [&b""[..], b"\n", b"7 2 0 u+v\n8 1 1 a", b"7 2 0", &[b'7'; 301], &[0, 255, 10]] {
-        assert_eq!(sheet_by_values(input), sheet(input));
+        let expected = sheet(input);
+        assert_eq!(plain_sheet::<Bytes>(input), expected);
+        assert_eq!(plain_sheet::<u64>(input), expected);
     }
 }
 
 /// A volume of entries with rising routes, walked from every kind of place, and damaged.
 #[test]
 fn walks_agree() {
+    walks_agree_as::<Bytes>();
+    walks_agree_as::<u64>();
+}
+
+fn walks_agree_as<E: Block>() {
     let mut random = Random(31);
     for _ in 0..20 {
         let (mut volume, mut places) = (Vec::new(), vec![0, usize::MAX]);
@@ -272,7 +300,7 @@ fn walks_agree() {
         }
         for volume in [&volume, &damaged] {
             for &place in &places {
-                assert_eq!(calls::walk(volume, place), Walk { volume, place }.count());
+                assert_eq!(plain::walk::<E>(volume, place), Walk { volume, place }.count());
             }
         }
     }

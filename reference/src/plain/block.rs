@@ -1,0 +1,50 @@
+//! What a table is made of: blocks of 64 points, as a word of 64 bits or as 64 bytes. The six
+//! lowest letters lie within a block, the others between blocks. A table of fewer than six letters
+//! fills its block over and over with values, and has no coefficient behind its end.
+
+use std::ops::{BitAnd, BitOr, BitXor};
+
+/// The letters that lie within a block.
+pub const LOW_LETTERS: usize = 6;
+pub const POINTS: usize = 1 << LOW_LETTERS;
+/// The blocks of ten letters.
+pub const MOST_BLOCKS: usize = 16;
+
+/// Room for the masks of a table, before and after they are sorted.
+pub struct Room {
+    pub found: [u16; 1024],
+    pub sorted: [u16; 1024],
+}
+
+impl Room {
+    pub fn new() -> Room {
+        Room { found: [0; 1024], sorted: [0; 1024] }
+    }
+}
+
+/// The operations in which the two forms differ.
+pub trait Block:
+    Copy + PartialEq + BitAnd<Output = Self> + BitOr<Output = Self> + BitXor<Output = Self> + 'static
+{
+    /// No value is 1; every value is 1.
+    const ZERO: Self;
+    const ONE: Self;
+    /// The letters within a block, at its points.
+    const LOW: [Self; LOW_LETTERS];
+    /// Each letter at the points of ten letters; fewer letters have the front of it.
+    const LETTERS: &'static [[Self; MOST_BLOCKS]; 10];
+
+    /// At each point the value at the point with letter j, of the lowest, turned over.
+    fn turned(self, j: usize) -> Self;
+    /// Coefficients to values, or values to coefficients, of the lowest letters.
+    fn transformed(self) -> Self;
+    /// From at most 64 bytes, and back.
+    fn pack(bytes: &[u8]) -> Self;
+    fn unpack(self, bytes: &mut [u8]);
+    fn set(&mut self, point: usize);
+    fn first_one(self) -> Option<usize>;
+    /// The masks present in a table, in the written order.
+    fn written<'a>(blocks: &[Self], room: &'a mut Room) -> &'a [u16];
+    /// The values of `whole` at each point, its lowest letters having the values of `parts` there.
+    fn look_up<const K: usize>(whole: &[Self; K], parts: &[[Self; K]]) -> [Self; K];
+}

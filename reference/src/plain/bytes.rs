@@ -1,0 +1,186 @@
+//! One byte a value, eight bytes to a number.
+
+use super::block::{Block, Room, LOW_LETTERS, MOST_BLOCKS, POINTS};
+use super::table::Table;
+use std::ops::{BitAnd, BitOr, BitXor};
+
+/// Byte i of number e is the value at the point 8 * e + i of a block.
+#[derive(Clone, Copy, PartialEq)]
+pub struct Bytes([u64; 8]);
+
+const ONES: u64 = 0x0101_0101_0101_0101;
+/// The bytes, of eight, whose place has letter j.
+const WITH: [u64; 3] = [0xff00_ff00_ff00_ff00, 0xffff_0000_ffff_0000, 0xffff_ffff_0000_0000];
+
+/// Coefficients to values, or values to coefficients, of a table of at most ten letters.
+pub fn transform(table: &[u8]) -> Vec<u8> {
+    let mut result = vec![0; table.len()];
+    Table::<Bytes, 16>::from_bytes(table).transformed().put(&mut result);
+    result
+}
+
+impl Bytes {
+    #[inline(always)]
+    fn each(self, to: impl Fn(usize, u64) -> u64) -> Bytes {
+        let mut eights = self.0;
+        for (e, eight) in eights.iter_mut().enumerate() {
+            *eight = to(e, *eight);
+        }
+        Bytes(eights)
+    }
+
+    fn to_bytes(self) -> [u8; POINTS] {
+        let mut bytes = [0; POINTS];
+        for (bytes, eight) in bytes.chunks_exact_mut(8).zip(self.0) {
+            bytes.copy_from_slice(&eight.to_le_bytes());
+        }
+        bytes
+    }
+}
+
+impl BitXor for Bytes {
+    type Output = Bytes;
+    #[inline(always)]
+    fn bitxor(self, other: Bytes) -> Bytes {
+        self.each(|e, eight| eight ^ other.0[e])
+    }
+}
+
+impl BitAnd for Bytes {
+    type Output = Bytes;
+    #[inline(always)]
+    fn bitand(self, other: Bytes) -> Bytes {
+        self.each(|e, eight| eight & other.0[e])
+    }
+}
+
+impl BitOr for Bytes {
+    type Output = Bytes;
+    #[inline(always)]
+    fn bitor(self, other: Bytes) -> Bytes {
+        self.each(|e, eight| eight | other.0[e])
+    }
+}
+
+static LETTERS: [[Bytes; MOST_BLOCKS]; 10] = letters();
+
+const fn letters() -> [[Bytes; MOST_BLOCKS]; 10] {
+    let mut letters = [[<Bytes as Block>::ZERO; MOST_BLOCKS]; 10];
+    let mut j = 0;
+    while j < 10 {
+        let mut k = 0;
+        while k < MOST_BLOCKS {
+            if j < LOW_LETTERS {
+                letters[j][k] = <Bytes as Block>::LOW[j];
+            } else if k >> (j - LOW_LETTERS) & 1 == 1 {
+                letters[j][k] = <Bytes as Block>::ONE;
+            }
+            k += 1;
+        }
+        j += 1;
+    }
+    letters
+}
+
+impl Block for Bytes {
+    const ZERO: Bytes = Bytes([0; 8]);
+    const ONE: Bytes = Bytes([ONES; 8]);
+    const LOW: [Bytes; LOW_LETTERS] = [
+        Bytes([ONES & WITH[0]; 8]),
+        Bytes([ONES & WITH[1]; 8]),
+        Bytes([ONES & WITH[2]; 8]),
+        Bytes([0, ONES, 0, ONES, 0, ONES, 0, ONES]),
+        Bytes([0, 0, ONES, ONES, 0, 0, ONES, ONES]),
+        Bytes([0, 0, 0, 0, ONES, ONES, ONES, ONES]),
+    ];
+
+    const LETTERS: &'static [[Bytes; MOST_BLOCKS]; 10] = &LETTERS;
+
+    #[inline(always)]
+    fn turned(self, j: usize) -> Bytes {
+        match j {
+            0 => self.each(|_, x| (x & WITH[0]) >> 8 | x << 8 & WITH[0]),
+            1 => self.each(|_, x| (x & WITH[1]) >> 16 | x << 16 & WITH[1]),
+            2 => self.each(|_, x| x >> 32 | x << 32),
+            3 => self.each(|e, _| self.0[e ^ 1]),
+            4 => self.each(|e, _| self.0[e ^ 2]),
+            _ => self.each(|e, _| self.0[e ^ 4]),
+        }
+    }
+
+    #[inline(always)]
+    fn transformed(self) -> Bytes {
+        let within = self.each(|_, mut x| {
+            x ^= x << 8 & WITH[0];
+            x ^= x << 16 & WITH[1];
+            x ^ x << 32
+        });
+        let [a, b, c, d, e, f, g, h] = within.0;
+        let [b, d, f, h] = [b ^ a, d ^ c, f ^ e, h ^ g];
+        let [c, d, g, h] = [c ^ a, d ^ b, g ^ e, h ^ f];
+        Bytes([a, b, c, d, e ^ a, f ^ b, g ^ c, h ^ d])
+    }
+
+    fn pack(bytes: &[u8]) -> Bytes {
+        let mut whole = [0; POINTS];
+        whole[..bytes.len()].copy_from_slice(bytes);
+        let mut eights = [0; 8];
+        for (eight, bytes) in eights.iter_mut().zip(whole.chunks_exact(8)) {
+            *eight = u64::from_le_bytes(bytes.try_into().expect("eight bytes"));
+        }
+        Bytes(eights)
+    }
+
+    fn unpack(self, bytes: &mut [u8]) {
+        bytes.copy_from_slice(&self.to_bytes()[..bytes.len()]);
+    }
+
+    fn set(&mut self, point: usize) {
+        self.0[point / 8] |= 1 << (8 * (point % 8));
+    }
+
+    fn first_one(self) -> Option<usize> {
+        let e = self.0.iter().position(|&eight| eight != 0)?;
+        Some(8 * e + self.0[e].trailing_zeros() as usize / 8)
+    }
+
+    /// The masks present are sorted by their number of letters: most tables are sparse.
+    fn written<'a>(blocks: &[Bytes], room: &'a mut Room) -> &'a [u16] {
+        let mut count = 0;
+        let mut starts = [0u16; 12];
+        for (e, &eight) in blocks.iter().flat_map(|block| &block.0).enumerate() {
+            let mut rest = eight;
+            while rest != 0 {
+                let mask = 8 * e + rest.trailing_zeros() as usize / 8;
+                room.found[count] = mask as u16;
+                count += 1;
+                starts[mask.count_ones() as usize + 1] += 1;
+                rest &= rest - 1;
+            }
+        }
+        (1..12).for_each(|class| starts[class] += starts[class - 1]);
+        for &mask in &room.found[..count] {
+            let place = &mut starts[mask.count_ones() as usize];
+            room.sorted[*place as usize] = mask;
+            *place += 1;
+        }
+        &room.sorted[..count]
+    }
+
+    /// Point by point.
+    fn look_up<const K: usize>(whole: &[Bytes; K], parts: &[[Bytes; K]]) -> [Bytes; K] {
+        let mut result = [Bytes::ZERO; K];
+        for (k, (block, whole)) in result.iter_mut().zip(whole).enumerate() {
+            let mut choices = Bytes::ZERO;
+            for (j, part) in parts.iter().enumerate() {
+                choices = choices.each(|e, choice| choice | part[k].0[e] << j);
+            }
+            let (whole, mut bytes) = (whole.to_bytes(), choices.to_bytes());
+            for (point, byte) in bytes.iter_mut().enumerate() {
+                *byte = whole[(point >> parts.len() << parts.len() | *byte as usize) % POINTS];
+            }
+            *block = Bytes::pack(&bytes);
+        }
+        result
+    }
+}

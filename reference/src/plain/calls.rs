@@ -1,0 +1,275 @@
+//! The calls on lent tables, with the questions of `crate::calls`.
+
+use super::solving::{self, Answers};
+use super::table::Table;
+use super::text::text_values;
+use super::{for_blocks, Block};
+use crate::questions::{
+    ask, ask_length, ask_letters, ask_text_length, Choice, Letters, Refusal, State, MOST_UNKNOWNS,
+};
+use crate::solution::Solved;
+
+/// 8: one union of all bytes, with no early way out, so that it goes by vectors.
+pub fn ask_bits(table: &[u8]) -> Result<(), Refusal> {
+    ask(8, table.iter().fold(0, |all, byte| all | byte) <= 1)
+}
+
+/// Reads a text into the condition buffer. Questions 1, 3, 4, 5, 6, 7.
+pub fn read_text<B: Block>(
+    u: u64,
+    g: u64,
+    text: &[u8],
+    condition: &mut [u8],
+) -> Result<(), Refusal> {
+    let letters = ask_letters(u, g)?;
+    ask_text_length(text)?;
+    ask_length(condition, letters.table_length())?;
+    let condition = &mut condition[..letters.table_length()];
+    for_blocks!(B, letters.count(), put_text(letters, text, condition))
+}
+
+fn put_text<B: Block, const K: usize>(
+    letters: Letters,
+    text: &[u8],
+    condition: &mut [u8],
+) -> Result<(), Refusal> {
+    text_values::<B, K>(letters, text)?.transformed().put(condition);
+    Ok(())
+}
+
+/// The value of a table at a state and a choice. Questions 1, 4, 8, 16.
+pub fn value<B: Block>(
+    u: u64,
+    g: u64,
+    table: &[u8],
+    state: State,
+    choice: Choice,
+) -> Result<u8, Refusal> {
+    let letters = ask_letters(u, g)?;
+    ask_length(table, letters.table_length())?;
+    let table = &table[..letters.table_length()];
+    ask_bits(table)?;
+    ask(16, state.0 < letters.states() && choice.0 < letters.choices())?;
+    let absent = !letters.point(state, choice);
+    let counted = table.iter().zip(0u16..).map(|(byte, mask)| byte & (mask & absent == 0) as u8);
+    Ok(counted.fold(0, |odd, one| odd ^ one))
+}
+
+/// The sum of two tables. Questions 1, 4, 8.
+pub fn sum<B: Block>(u: u64, g: u64, a: &[u8], b: &[u8], result: &mut [u8]) -> Result<(), Refusal> {
+    let (_, a, b, result) = ask_two(u, g, a, b, result)?;
+    result.iter_mut().zip(a).zip(b).for_each(|((x, a), b)| *x = a ^ b);
+    Ok(())
+}
+
+/// The product of two tables. Questions 1, 4, 8.
+pub fn product<B: Block>(
+    u: u64,
+    g: u64,
+    a: &[u8],
+    b: &[u8],
+    result: &mut [u8],
+) -> Result<(), Refusal> {
+    let (letters, a, b, result) = ask_two(u, g, a, b, result)?;
+    for_blocks!(B, letters.count(), put_product(a, b, result));
+    Ok(())
+}
+
+fn put_product<B: Block, const K: usize>(a: &[u8], b: &[u8], result: &mut [u8]) {
+    let mut values = Table::<B, K>::from_bytes(a).transformed();
+    values.multiply(&Table::from_bytes(b).transformed());
+    values.transformed().put(result);
+}
+
+type Two<'a> = (Letters, &'a [u8], &'a [u8], &'a mut [u8]);
+
+/// Questions 1, 4 and 8 of two tables and the buffer for their result, each cut to its length.
+fn ask_two<'a>(
+    u: u64,
+    g: u64,
+    a: &'a [u8],
+    b: &'a [u8],
+    result: &'a mut [u8],
+) -> Result<Two<'a>, Refusal> {
+    let letters = ask_letters(u, g)?;
+    let length = letters.table_length();
+    ask_length(a, length)?;
+    ask_length(b, length)?;
+    ask_length(result, length)?;
+    let (a, b) = (&a[..length], &b[..length]);
+    ask_bits(a)?;
+    ask_bits(b)?;
+    Ok((letters, a, b, &mut result[..length]))
+}
+
+/// Handed polynomials put into a condition. Questions 1, 4, 8.
+pub fn substitute<B: Block>(
+    u: u64,
+    g: u64,
+    condition: &[u8],
+    handed: &[u8],
+    result: &mut [u8],
+) -> Result<(), Refusal> {
+    let letters = ask_letters(u, g)?;
+    ask_length(result, letters.table_length())?;
+    let (condition, handed) = ask_handed(letters, condition, handed)?;
+    let result = &mut result[..letters.table_length()];
+    for_blocks!(B, letters.count(), put_substituted(letters, condition, handed, result));
+    Ok(())
+}
+
+fn put_substituted<B: Block, const K: usize>(
+    letters: Letters,
+    condition: &[u8],
+    handed: &[u8],
+    result: &mut [u8],
+) {
+    let whole = Table::<B, K>::from_bytes(condition).transformed();
+    let mut parts = [[B::ZERO; K]; MOST_UNKNOWNS as usize];
+    for (part, bytes) in parts.iter_mut().zip(handed.chunks_exact(letters.table_length())) {
+        *part = Table::<B, K>::from_bytes(bytes).transformed().0;
+    }
+    Table(B::look_up(&whole.0, &parts[..letters.unknowns])).transformed().put(result);
+}
+
+/// Boole's answer. Questions 1, 4, 8, 9.
+pub fn boole<B: Block>(
+    u: u64,
+    g: u64,
+    condition: &[u8],
+    answers: &mut [u8],
+) -> Result<Solved, Refusal> {
+    let (letters, condition, answers) = ask_solving(u, g, condition, answers)?;
+    Ok(for_blocks!(B, letters.count(), put_boole(letters, condition, answers)))
+}
+
+fn put_boole<B: Block, const K: usize>(
+    letters: Letters,
+    condition: &[u8],
+    answers: &mut [u8],
+) -> Solved {
+    let f = Table::<B, K>::from_bytes(condition).transformed();
+    put_answers(letters, solving::boole(letters, f), answers)
+}
+
+/// The particular solution. Questions 1, 4, 8, 9.
+pub fn particular<B: Block>(
+    u: u64,
+    g: u64,
+    condition: &[u8],
+    answers: &mut [u8],
+) -> Result<Solved, Refusal> {
+    let (letters, condition, answers) = ask_solving(u, g, condition, answers)?;
+    Ok(for_blocks!(B, letters.count(), put_particular(letters, condition, answers)))
+}
+
+fn put_particular<B: Block, const K: usize>(
+    letters: Letters,
+    condition: &[u8],
+    answers: &mut [u8],
+) -> Solved {
+    let f = Table::<B, K>::from_bytes(condition).transformed();
+    put_answers(letters, solving::particular(letters, f), answers)
+}
+
+/// The own Löwenheim answer. Questions 1, 4, 8, 9.
+pub fn lowenheim<B: Block>(
+    u: u64,
+    g: u64,
+    condition: &[u8],
+    answers: &mut [u8],
+) -> Result<Solved, Refusal> {
+    let (letters, condition, answers) = ask_solving(u, g, condition, answers)?;
+    Ok(for_blocks!(B, letters.count(), put_lowenheim(letters, condition, answers)))
+}
+
+fn put_lowenheim<B: Block, const K: usize>(
+    letters: Letters,
+    condition: &[u8],
+    answers: &mut [u8],
+) -> Solved {
+    let f = Table::<B, K>::from_bytes(condition).transformed();
+    put_answers(letters, solving::lowenheim(letters, f), answers)
+}
+
+type Lent<'a> = (Letters, &'a [u8], &'a mut [u8]);
+
+/// Questions 1, 4 and 8 of a condition and an answer buffer, each cut to its length.
+fn ask_solving<'a>(
+    u: u64,
+    g: u64,
+    condition: &'a [u8],
+    answers: &'a mut [u8],
+) -> Result<Lent<'a>, Refusal> {
+    let letters = ask_letters(u, g)?;
+    ask_length(condition, letters.table_length())?;
+    ask_length(answers, letters.answer_length())?;
+    let condition = &condition[..letters.table_length()];
+    ask_bits(condition)?;
+    Ok((letters, condition, &mut answers[..letters.answer_length()]))
+}
+
+fn put_answers<B: Block, const K: usize>(
+    letters: Letters,
+    solved: Result<Answers<B, K>, State>,
+    answers: &mut [u8],
+) -> Solved {
+    match solved {
+        Err(state) => Solved::None(state),
+        Ok(values) => {
+            for (answer, bytes) in
+                values.iter().zip(answers.chunks_exact_mut(letters.table_length()))
+            {
+                answer.transformed().put(bytes);
+            }
+            Solved::Done
+        }
+    }
+}
+
+/// Löwenheim's formula with handed polynomials. Questions 1, 4, 8.
+pub fn lowenheim_handed<B: Block>(
+    u: u64,
+    g: u64,
+    condition: &[u8],
+    handed: &[u8],
+    answers: &mut [u8],
+) -> Result<(), Refusal> {
+    let letters = ask_letters(u, g)?;
+    ask_length(answers, letters.answer_length())?;
+    let (condition, handed) = ask_handed(letters, condition, handed)?;
+    let answers = &mut answers[..letters.answer_length()];
+    for_blocks!(B, letters.count(), put_formula(letters, condition, handed, answers));
+    Ok(())
+}
+
+fn put_formula<B: Block, const K: usize>(
+    letters: Letters,
+    condition: &[u8],
+    handed: &[u8],
+    answers: &mut [u8],
+) {
+    let f = Table::<B, K>::from_bytes(condition).transformed();
+    let length = letters.table_length();
+    let tables = handed.chunks_exact(length).zip(answers.chunks_exact_mut(length));
+    for (j, (handed, answer)) in tables.enumerate() {
+        let mut b = Table::<B, K>::from_bytes(handed).transformed();
+        solving::formula(j, &f, &mut b);
+        b.transformed().put(answer);
+    }
+}
+
+/// Questions 4 and 8 of a condition and handed polynomials, each cut to its length.
+fn ask_handed<'a>(
+    letters: Letters,
+    condition: &'a [u8],
+    handed: &'a [u8],
+) -> Result<(&'a [u8], &'a [u8]), Refusal> {
+    ask_length(condition, letters.table_length())?;
+    ask_length(handed, letters.answer_length())?;
+    let (condition, handed) =
+        (&condition[..letters.table_length()], &handed[..letters.answer_length()]);
+    ask_bits(condition)?;
+    ask_bits(handed)?;
+    Ok((condition, handed))
+}

@@ -1,0 +1,220 @@
+//! The archive entry: records are written from tables in the written order, looked at in one pass
+//! over the bytes for all questions, and read into tables in a second.
+
+use super::block::Room;
+use super::calls::ask_bits;
+use super::solving::boole;
+use super::table::Table;
+use super::{for_blocks, Block};
+use crate::entry::{Contents, Count, Reading, Walk};
+use crate::questions::{
+    ask, ask_length, ask_letters, ask_route, Letters, Refusal, State, MOST_UNKNOWNS,
+};
+
+/// Where records go.
+pub trait Output {
+    fn put<const N: usize>(&mut self, record: [u8; N]);
+    /// For each mask, a record that begins in the same way and ends in the mask.
+    fn put_monomials<const N: usize>(&mut self, start: [u8; N], masks: &[u16]);
+}
+
+/// The records of an entry, from the coefficients and the values of its condition.
+pub fn put_records<B: Block, const K: usize>(
+    route: u8,
+    letters: Letters,
+    condition: &Table<B, K>,
+    values: &Table<B, K>,
+    room: &mut Room,
+    output: &mut impl Output,
+) {
+    output.put([1, route, letters.unknowns as u8, letters.givens as u8]);
+    output.put_monomials([2], B::written(&condition.0, room));
+    match boole(letters, *values) {
+        Err(state) => output.put([5, state.0 as u8]),
+        Ok(answers) => {
+            for (j, answer) in answers[..letters.unknowns].iter().enumerate() {
+                output.put_monomials([3, j as u8], B::written(&answer.transformed().0, room));
+            }
+        }
+    }
+    output.put([4, route]);
+}
+
+impl Output for Vec<u8> {
+    fn put<const N: usize>(&mut self, record: [u8; N]) {
+        self.extend_from_slice(&record);
+    }
+
+    fn put_monomials<const N: usize>(&mut self, start: [u8; N], masks: &[u16]) {
+        let end = self.len();
+        self.resize(end + (N + 2) * masks.len(), 0);
+        for (record, mask) in self[end..].chunks_exact_mut(N + 2).zip(masks) {
+            record[..N].copy_from_slice(&start);
+            record[N..].copy_from_slice(&mask.to_le_bytes());
+        }
+    }
+}
+
+/// Writes the entry of a condition and gives its length. Questions 1, 2, 4, 8, 14.
+pub fn write_entry<B: Block>(
+    route: u64,
+    u: u64,
+    g: u64,
+    condition: &[u8],
+    output: &mut [u8],
+) -> Result<usize, Refusal> {
+    let letters = ask_letters(u, g)?;
+    ask_route(route)?;
+    ask_length(condition, letters.table_length())?;
+    let condition = &condition[..letters.table_length()];
+    ask_bits(condition)?;
+    let mut bytes = Vec::with_capacity(4096);
+    for_blocks!(B, letters.count(), put_entry(route as u8, letters, condition, &mut bytes));
+    ask(14, output.len() >= bytes.len())?;
+    output[..bytes.len()].copy_from_slice(&bytes);
+    Ok(bytes.len())
+}
+
+fn put_entry<B: Block, const K: usize>(
+    route: u8,
+    letters: Letters,
+    condition: &[u8],
+    bytes: &mut Vec<u8>,
+) {
+    let condition = Table::<B, K>::from_bytes(condition);
+    let values = condition.transformed();
+    put_records(route, letters, &condition, &values, &mut Room::new(), bytes);
+}
+
+/// Asks 10, 11, 1, 2 and 12 in one pass over the records.
+fn examine(bytes: &[u8]) -> Result<(Reading, Letters), Refusal> {
+    let (mut route, mut unknowns, mut givens) = (0, 0, 0);
+    let (mut masks, mut states) = (0, 0);
+    let mut contents = Contents::Solved;
+    let (mut ordered, mut fits) = (true, true);
+    let (mut kind, mut last, mut length) = (0, 0, 0);
+    loop {
+        let rest = &bytes[length..];
+        let before = std::mem::replace(&mut kind, rest.first().copied().unwrap_or(0));
+        match *rest {
+            [2, low, high, ..] => {
+                ordered &= before == 1 || before == 2;
+                let mask = u16::from_le_bytes([low, high]) as u64;
+                let place = place_of(0, mask);
+                fits &= mask < masks && place > last;
+                last = place;
+                length += 3;
+            }
+            [3, unknown, low, high, ..] => {
+                ordered &= before != 5 && before != 0;
+                let mask = u16::from_le_bytes([low, high]) as u64;
+                let place = place_of(1 + unknown as u64, mask);
+                fits &= mask < masks && (unknown as u64) < unknowns && place > last;
+                last = place;
+                length += 4;
+            }
+            [1, first, u, g, ..] => {
+                ordered &= before == 0;
+                (route, unknowns, givens) = (first, u as u64, g as u64);
+                // question 1 comes before 12, and refuses what cannot be shifted
+                masks = 1u64.checked_shl((unknowns + givens) as u32).unwrap_or(0);
+                states = 1u64.checked_shl(givens as u32).unwrap_or(0);
+                length += 4;
+            }
+            [5, state, ..] => {
+                ordered &= before == 1 || before == 2;
+                fits &= (state as u64) < states;
+                contents = Contents::None(State(state as u64));
+                length += 2;
+            }
+            [4, again, ..] => {
+                ordered &= before != 0 && again == route;
+                length += 2;
+                break;
+            }
+            _ => return Err(Refusal(10)),
+        }
+    }
+    ask(11, ordered)?;
+    let letters = ask_letters(unknowns, givens)?;
+    ask_route(route as u64)?;
+    ask(12, fits)?;
+    let reading =
+        Reading { route, unknowns: unknowns as u8, givens: givens as u8, contents, length };
+    Ok((reading, letters))
+}
+
+/// One rising number: the table, then the written order. No place is 0.
+fn place_of(table: u64, mask: u64) -> u64 {
+    table << 32 | (1 + mask.count_ones() as u64) << 16 | mask
+}
+
+/// The masks of the condition, and the unknowns and masks of the answers, of an entry that has
+/// passed the questions.
+fn each_monomial(
+    bytes: &[u8],
+    mut of_condition: impl FnMut(usize),
+    mut of_answer: impl FnMut(usize, usize),
+) {
+    let mut rest = &bytes[4..];
+    while let [2, low, high, others @ ..] = rest {
+        of_condition(u16::from_le_bytes([*low, *high]) as usize);
+        rest = others;
+    }
+    while let [3, unknown, low, high, others @ ..] = rest {
+        of_answer(*unknown as usize, u16::from_le_bytes([*low, *high]) as usize);
+        rest = others;
+    }
+}
+
+/// Reads an entry into the two buffers. Questions 10, 11, 1, 2, 12, 4.
+pub fn read_entry<B: Block>(
+    bytes: &[u8],
+    condition: &mut [u8],
+    answers: &mut [u8],
+) -> Result<Reading, Refusal> {
+    let (reading, letters) = examine(bytes)?;
+    ask_length(condition, letters.table_length())?;
+    ask_length(answers, letters.answer_length())?;
+    condition[..letters.table_length()].fill(0);
+    if reading.contents == Contents::Solved {
+        answers[..letters.answer_length()].fill(0);
+    }
+    let length = letters.table_length();
+    each_monomial(
+        bytes,
+        |mask| condition[mask] = 1,
+        |unknown, mask| answers[unknown * length + mask] = 1,
+    );
+    Ok(reading)
+}
+
+/// Reads an entry, solves its condition afresh and compares. Questions 10, 11, 1, 2, 12, 13.
+pub fn audit<B: Block>(bytes: &[u8]) -> Result<Reading, Refusal> {
+    let (reading, letters) = examine(bytes)?;
+    ask(13, for_blocks!(B, letters.count(), holds_afresh(letters, bytes, reading.contents)))?;
+    Ok(reading)
+}
+
+fn holds_afresh<B: Block, const K: usize>(
+    letters: Letters,
+    bytes: &[u8],
+    contents: Contents,
+) -> bool {
+    let mut condition = Table::<B, K>::ZERO;
+    let mut held = [Table::<B, K>::ZERO; MOST_UNKNOWNS as usize];
+    each_monomial(bytes, |mask| condition.set(mask), |unknown, mask| held[unknown].set(mask));
+    match (contents, boole(letters, condition.transformed())) {
+        (Contents::Solved, Ok(afresh)) => {
+            let pairs = held.iter().zip(&afresh).take(letters.unknowns);
+            pairs.into_iter().all(|(held, afresh)| *held == afresh.transformed())
+        }
+        (Contents::None(state), Err(afresh)) => state == afresh,
+        _ => false,
+    }
+}
+
+/// The count of entries from a place to the end: per entry the audit's questions, then 15.
+pub fn walk<B: Block>(volume: &[u8], place: usize) -> Count {
+    Walk { volume, place }.count_by(audit::<B>)
+}

@@ -1,0 +1,120 @@
+//! Tables of a number of blocks that the compiler knows, in either form.
+
+use super::block::{Block, LOW_LETTERS, POINTS};
+
+/// Values at all points, or coefficients of all masks.
+#[derive(Clone, Copy, PartialEq)]
+pub struct Table<B, const K: usize>(pub [B; K]);
+
+impl<B: Block, const K: usize> Table<B, K> {
+    pub const ZERO: Self = Table([B::ZERO; K]);
+    pub const ONE: Self = Table([B::ONE; K]);
+
+    pub fn from_bytes(bytes: &[u8]) -> Self {
+        let mut table = Table::ZERO;
+        for (block, bytes) in table.0.iter_mut().zip(bytes.chunks(POINTS)) {
+            *block = B::pack(bytes);
+        }
+        table
+    }
+
+    pub fn put(&self, bytes: &mut [u8]) {
+        self.0.iter().zip(bytes.chunks_mut(POINTS)).for_each(|(block, bytes)| block.unpack(bytes));
+    }
+
+    pub fn set(&mut self, point: usize) {
+        self.0[point / POINTS].set(point % POINTS);
+    }
+
+    pub fn first_one(&self) -> Option<usize> {
+        let mut blocks = self.0.iter().enumerate();
+        blocks.find_map(|(k, block)| block.first_one().map(|point| k * POINTS + point))
+    }
+
+    /// Letter j, at the points of the table's blocks.
+    #[inline(always)]
+    fn letter_blocks(j: usize) -> &'static [B] {
+        &B::LETTERS[j][..K]
+    }
+
+    pub fn letter(j: usize) -> Self {
+        let mut table = Table::ZERO;
+        table.0.copy_from_slice(Self::letter_blocks(j));
+        table
+    }
+
+    #[inline(always)]
+    fn change(&mut self, to: impl Fn(B, usize) -> B) {
+        self.0.iter_mut().enumerate().for_each(|(k, block)| *block = to(*block, k));
+    }
+
+    pub fn add(&mut self, other: &Self) {
+        self.change(|block, k| block ^ other.0[k]);
+    }
+
+    pub fn multiply(&mut self, other: &Self) {
+        self.change(|block, k| block & other.0[k]);
+    }
+
+    pub fn join(&mut self, other: &Self) {
+        self.change(|block, k| block | other.0[k]);
+    }
+
+    pub fn negate(&mut self) {
+        self.change(|block, _| block ^ B::ONE);
+    }
+
+    pub fn add_letter(&mut self, j: usize) {
+        let letter = Self::letter_blocks(j);
+        self.change(|block, k| block ^ letter[k]);
+    }
+
+    pub fn multiply_letter(&mut self, j: usize) {
+        let letter = Self::letter_blocks(j);
+        self.change(|block, k| block & letter[k]);
+    }
+
+    /// Coefficients to values, or values to coefficients: per letter, the half without it is added
+    /// to the half with it.
+    pub fn transformed(mut self) -> Self {
+        self.change(|block, _| block.transformed());
+        let mut width = 1;
+        while width < K {
+            for k in (0..K).filter(|k| k & width != 0) {
+                self.0[k] = self.0[k] ^ self.0[k - width];
+            }
+            width *= 2;
+        }
+        self
+    }
+
+    /// The product of the two cases of letter j.
+    pub fn both_cases(&self, j: usize) -> Self {
+        self.with_turned(j, |block, turned, _| block & turned)
+    }
+
+    /// With `values` put for letter j.
+    pub fn put_for(&self, j: usize, values: &Self) -> Self {
+        let letter = Self::letter_blocks(j);
+        self.with_turned(j, |block, turned, k| {
+            block ^ ((values.0[k] ^ letter[k]) & (block ^ turned))
+        })
+    }
+
+    /// Each block changed by itself and by the block at the points with letter j turned over. A
+    /// branch for each letter within a block, so that its shifts are known.
+    #[inline(always)]
+    fn with_turned(&self, j: usize, to: impl Fn(B, B, usize) -> B) -> Self {
+        let mut result = *self;
+        match j {
+            0 => result.change(|block, k| to(block, block.turned(0), k)),
+            1 => result.change(|block, k| to(block, block.turned(1), k)),
+            2 => result.change(|block, k| to(block, block.turned(2), k)),
+            3 => result.change(|block, k| to(block, block.turned(3), k)),
+            4 => result.change(|block, k| to(block, block.turned(4), k)),
+            5 => result.change(|block, k| to(block, block.turned(5), k)),
+            _ => result.change(|block, k| to(block, self.0[(k ^ 1 << (j - LOW_LETTERS)) % K], k)),
+        }
+        result
+    }
+}

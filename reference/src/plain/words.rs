@@ -1,0 +1,141 @@
+//! Sixty-four values to a word.
+
+use super::block::{Block, Room, LOW_LETTERS, MOST_BLOCKS, POINTS};
+
+/// The masks with each number of letters, of ten.
+static CLASSES: [[u64; 16]; 11] = classes();
+
+const fn classes() -> [[u64; 16]; 11] {
+    let mut classes = [[0; 16]; 11];
+    let mut mask = 0usize;
+    while mask < 1024 {
+        classes[mask.count_ones() as usize][mask / POINTS] |= 1 << (mask % POINTS);
+        mask += 1;
+    }
+    classes
+}
+
+static LETTERS: [[u64; MOST_BLOCKS]; 10] = letters();
+
+const fn letters() -> [[u64; MOST_BLOCKS]; 10] {
+    let mut letters = [[<u64 as Block>::ZERO; MOST_BLOCKS]; 10];
+    let mut j = 0;
+    while j < 10 {
+        let mut k = 0;
+        while k < MOST_BLOCKS {
+            if j < LOW_LETTERS {
+                letters[j][k] = <u64 as Block>::LOW[j];
+            } else if k >> (j - LOW_LETTERS) & 1 == 1 {
+                letters[j][k] = <u64 as Block>::ONE;
+            }
+            k += 1;
+        }
+        j += 1;
+    }
+    letters
+}
+
+impl Block for u64 {
+    const ZERO: u64 = 0;
+    const ONE: u64 = !0;
+    const LOW: [u64; LOW_LETTERS] = [
+        0xaaaa_aaaa_aaaa_aaaa,
+        0xcccc_cccc_cccc_cccc,
+        0xf0f0_f0f0_f0f0_f0f0,
+        0xff00_ff00_ff00_ff00,
+        0xffff_0000_ffff_0000,
+        0xffff_ffff_0000_0000,
+    ];
+
+    const LETTERS: &'static [[u64; MOST_BLOCKS]; 10] = &LETTERS;
+
+    #[inline(always)]
+    fn turned(self, j: usize) -> u64 {
+        (self & Self::LOW[j]) >> (1 << j) | self << (1 << j) & Self::LOW[j]
+    }
+
+    #[inline(always)]
+    fn transformed(mut self) -> u64 {
+        for (j, with) in Self::LOW.into_iter().enumerate() {
+            self ^= self << (1 << j) & with;
+        }
+        self
+    }
+
+    fn pack(bytes: &[u8]) -> u64 {
+        let mut word = 0;
+        let eights = bytes.chunks_exact(8);
+        for (i, &byte) in eights.remainder().iter().enumerate() {
+            word |= (byte as u64) << i;
+        }
+        for (i, eight) in eights.enumerate() {
+            let eight = u64::from_le_bytes(eight.try_into().expect("eight bytes"));
+            word |= eight.wrapping_mul(0x0102_0408_1020_4080) >> 56 << (8 * i);
+        }
+        word
+    }
+
+    fn unpack(self, bytes: &mut [u8]) {
+        let mut word = self;
+        let mut eights = bytes.chunks_exact_mut(8);
+        for eight in &mut eights {
+            let spread = (word & 255) * 0x0101_0101_0101_0101 & 0x8040_2010_0804_0201;
+            let ones = (spread + 0x7f7f_7f7f_7f7f_7f7f) >> 7 & 0x0101_0101_0101_0101;
+            eight.copy_from_slice(&ones.to_le_bytes());
+            word >>= 8;
+        }
+        for (i, byte) in eights.into_remainder().iter_mut().enumerate() {
+            *byte = (word >> i & 1) as u8;
+        }
+    }
+
+    fn set(&mut self, point: usize) {
+        *self |= 1 << point;
+    }
+
+    fn first_one(self) -> Option<usize> {
+        (self != 0).then(|| self.trailing_zeros() as usize)
+    }
+
+    /// Class by class, over the words that are not 0: most tables are sparse.
+    fn written<'a>(words: &[u64], room: &'a mut Room) -> &'a [u16] {
+        let mut places = [0; MOST_BLOCKS];
+        let mut count = 0;
+        for (place, &word) in words.iter().enumerate() {
+            places[count] = place;
+            count += (word != 0) as usize;
+        }
+        let mut end = 0;
+        for class in &CLASSES {
+            for &place in &places[..count] {
+                let mut rest = words[place] & class[place];
+                while rest != 0 {
+                    room.sorted[end] = (place * POINTS + rest.trailing_zeros() as usize) as u16;
+                    end += 1;
+                    rest &= rest - 1;
+                }
+            }
+        }
+        &room.sorted[..end]
+    }
+
+    /// By choices: the value where letter j is 1, or where it is 0, as part j says.
+    fn look_up<const K: usize>(whole: &[u64; K], parts: &[[u64; K]]) -> [u64; K] {
+        let Some((part, others)) = parts.split_last() else {
+            return *whole;
+        };
+        // the unknowns are among the letters within a word
+        let j = others.len();
+        let (mut one, mut zero) = (*whole, *whole);
+        for k in 0..K {
+            let change = whole[k] ^ whole[k].turned(j);
+            zero[k] ^= Self::LOW[j] & change;
+            one[k] ^= !Self::LOW[j] & change;
+        }
+        let (mut zero, one) = (u64::look_up(&zero, others), u64::look_up(&one, others));
+        for k in 0..K {
+            zero[k] ^= part[k] & (zero[k] ^ one[k]);
+        }
+        zero
+    }
+}
