@@ -92,7 +92,8 @@ pub fn product(unknowns: usize, givens: usize, a: &[u8], b: &[u8], out: &mut [u8
     ensures { λ r. ⌜ outcome r ≡ reply (pairRefusal unknowns givens (now (a .entry)) (now (b .entry)) (now (out .entry))) [] ⌝ }
     ensures { λ _. ⌜ now (out .exit) ≡ after (pairRefusal unknowns givens (now (a .entry)) (now (b .entry)) (now (out .entry))) (productTable unknowns givens (now (a .entry)) (now (b .entry))) (now (out .entry)) ⌝ }
 {
-    let q = tables::table_refusal(unknowns, givens, a, b, 1, out.len(), 1);
+    let room = out.len();
+    let q = tables::table_refusal(unknowns, givens, a, b, 1, room, 1);
     if q != 0 {
         return Outcome::Refused(q);
     }

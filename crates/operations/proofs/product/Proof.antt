@@ -12,6 +12,15 @@ use Rattle.operations.proofs.Calls.{product-whole, length-product}
 use Rattle.operations.proofs.product.Statement.{statement}
 use Rattle.operations.proofs.product.Tie as tie
 
+returns-2 : tie.Need-returns-2
+unfolding pairRefusal
+returns-2 c =
+    let worked = c .before .before in
+    let known = worked .before .before .before .before in
+    let asked = known .before .before in
+    call-done _ _ (asked .table-refusal .ensures) _ _ _ _ _ (known .before .if1 .left)
+    (worked .multiply .ensures ∙ product-whole _ _ _ _ _ (known .pow2 .ensures)) (length-product _ _ _ _ _ (known .pow2 .ensures))
+
 returns : tie.Need-returns
 unfolding pairRefusal
 returns c = call-refused _ _ (c .before .table-refusal .ensures) _ _ _ (c .if1 .taken)
@@ -28,15 +37,6 @@ multiply-requires c κs =
     let f = all-yes (known .before) in
     let e = known .pow2 .ensures in
     (f .small, first-table _ _ _ _ _ _ _ f _ e, second-table _ _ _ _ _ _ f _ e, length-take-le _ _ (omega (arith, e, f .result-room)) ∙ e)
-
-returns-2 : tie.Need-returns-2
-unfolding pairRefusal
-returns-2 c =
-    let worked = c .before .before in
-    let known = worked .before .before .before .before in
-    let asked = known .before .before in
-    call-done _ _ (asked .table-refusal .ensures) _ _ _ _ _ (known .before .if1 .left)
-    (worked .multiply .ensures ∙ product-whole _ _ _ _ _ (known .pow2 .ensures)) (length-product _ _ _ _ _ (known .pow2 .ensures))
 
 pub product-spec : {M : Type 1} → statement M
 product-spec =
