@@ -47,7 +47,7 @@ part-length j k t room =
     ap (λ (y : ℕ). length (take y (drop (j * k) t))) count ∙ length-take-le k (drop (j * k) t) (omega (arith, length-drop (j * k) t))
 
 -- word w of all is word w % k of part w / k
-part-below : (u k w : ℕ) → w < u * k → w / k < u
+pub part-below : (u k w : ℕ) → w < u * k → w / k < u
 part-below u k w l = go (decLt (w / k) u)
   where
     go : Dec (w / k < u) → w / k < u
@@ -56,7 +56,7 @@ part-below u k w l = go (decLt (w / k) u)
         let m : u * k ≤ w / k * k = mul-le-mul-right k (omega (arith, h)) in
         absurd (omega (arith, m, l, div-add-mod' w k))
 
-points-in : (x k : ℕ) → x * (64 * k) ≡ 64 * (x * k)
+pub points-in : (x k : ℕ) → x * (64 * k) ≡ 64 * (x * k)
 points-in x k = sym (mul-assoc x 64 k) ∙ ap (λ (y : ℕ). y * k) (mul-comm x 64) ∙ mul-assoc 64 x k
 
 pub part-point : (k x w i : ℕ) → 64 * (x * k + w) + i ≡ x * (64 * k) + (64 * w + i)

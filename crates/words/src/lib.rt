@@ -24,7 +24,7 @@ pub fn word_count(n: usize) -> usize
 }
 
 // The letters beyond six.
-fn further(n: usize) -> usize
+pub fn further(n: usize) -> usize
     ensures { λ r. ⌜ r ≡ n - 6 ⌝ }
 {
     if n < 6 {
@@ -386,6 +386,19 @@ pub fn restrict(f: &[u64], x: usize, value: bool, c: usize, out: &mut [u64])
     for i in 0..out.len() {
         let own = f[i];
         out[i] = own ^ ((set ^ letter_word(x, i)) & (own ^ out[i]));
+    }
+}
+
+// A letter below six set to 0, in place, in any number of words.
+pub fn put_zero(words: &mut [u64], x: usize)
+    requires { ⌜ x < 6 ⌝ }
+    ensures { λ _. ⌜ now (words .exit) ≡ wordsOf (length (now (words .entry))) (λ p. bitAt (now (words .entry)) (assign p x false)) ⌝ }
+{
+    let mask = low_letter(x);
+    let width = tables::pow2(x);
+    for i in 0..words.len() {
+        let word = words[i];
+        words[i] = (word ^ (word & mask)) ^ ((word << width) & mask);
     }
 }
 
