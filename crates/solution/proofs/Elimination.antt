@@ -14,7 +14,7 @@ use Rattle.ring.specs.Polynomial.{_⊕_}
 use Rattle.ring.specs.Lists.{has}
 use Rattle.ring.proofs.Lists.{has-first, has-rest}
 use Rattle.ring.proofs.Points.{assign-bit, bit-assign, bit-assign-other, assign-lt, same-letters}
-use Rattle.solution.specs.ByPoints.{chosenValue}
+use Rattle.solution.specs.ByPoints.{chosenValue, bothCases, remainsThrough, chosenPoint, answeredThrough}
 
 -- where not both cases give 1, the chosen value gives 0
 pub chosen-solves : (e : Bool → Bool) (x : Bool) → (e true && e false) ≡ false → e (chosenValue (e true) (e false) x) ≡ false
@@ -39,24 +39,6 @@ solution-kept e true h = rw h (go (e false))
     go true = refl
     go false = refl
 solution-kept e false h = h
-
--- the product of the two cases of x
-unfoldable pub bothCases : (ℕ → Bool) → ℕ → ℕ → Bool
-bothCases f x p = f (assign p x true) && f (assign p x false)
-
--- what remains of f when the unknowns of the list have gone
-unfoldable pub remainsThrough : (ℕ → Bool) → List ℕ → ℕ → Bool
-remainsThrough f [] = f
-remainsThrough f (x ∷ order) = remainsThrough (bothCases f x) order
-
--- the point q with the value x*(r + s + 1) + s for x, where the parameter x is b
-unfoldable pub chosenPoint : (ℕ → Bool) → ℕ → Bool → ℕ → ℕ
-chosenPoint f x b q = assign q x (chosenValue (f (assign q x true)) (f (assign q x false)) b)
-
--- the point to which the answers lead from p: the later unknowns first, each parameter as p has it
-unfoldable pub answeredThrough : (ℕ → Bool) → List ℕ → ℕ → ℕ
-answeredThrough f [] p = p
-answeredThrough f (x ∷ order) p = chosenPoint f x (bit p x) (answeredThrough (bothCases f x) order p)
 
 -- where nothing remains the answers solve
 pub solves : (f : ℕ → Bool) (order : List ℕ) (p : ℕ) → remainsThrough f order p ≡ false → f (answeredThrough f order p) ≡ false
