@@ -3,8 +3,8 @@
 use mathlib.Core.Path.{_≡_, refl, sym, ap, ap₂, _∙_}
 use mathlib.Core.Logic.{_≢_}
 use mathlib.Core.Bool.{Bool, true, false, not, _&&_, true≢false}
-use mathlib.Core.List.{List, [], _∷_, _++_}
-use Prim.Native.Nat.{ℕ, zero, suc, _+_, _*_, _/_, _%_, _^_, _<_}
+use mathlib.Core.List.{List, [], _∷_}
+use Prim.Native.Nat.{ℕ, zero, suc, _/_, _%_, _^_, _<_}
 use native.Mathlib.Omega.{arith}
 use borrow.Author.Tests.{not-true}
 use Rattle.ring.specs.Letters.{digit, bit, assign}
@@ -13,8 +13,8 @@ use Rattle.ring.specs.Polynomial.{_⊕_}
 use Rattle.ring.proofs.Bool.{and-left, and-right, digit-lt, xor-false}
 use Rattle.ring.proofs.Lists.{has-first, has-rest}
 use Rattle.ring.proofs.Points.{assign-lt, assign-bit, bit-assign, bit-assign-other, half-digit, mod-digit}
-use Rattle.solution.specs.ByPoints.{chosenValue}
-use Rattle.solution.proofs.Elimination.{bothCases, remainsThrough, chosenPoint, answeredThrough, answered-kept, answered-lt, out-head, out-tail}
+use Rattle.solution.specs.ByPoints.{chosenValue, bothCases, remainsThrough, chosenPoint, answeredThrough}
+use Rattle.solution.proofs.Elimination.{answered-kept, answered-lt, out-head, out-tail}
 use Rattle.elimination.specs.Stages.{InLetters, noRepeats, answerAt}
 
 -- ---- assigning twice

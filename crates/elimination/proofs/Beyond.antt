@@ -4,7 +4,7 @@
 use mathlib.Core.Path.{_≡_, refl, sym, ap, ap₂, _∙_}
 use mathlib.Core.Bool.{Bool, true, false, _&&_}
 use mathlib.Core.List.{List, [], _∷_}
-use Prim.Native.Nat.{ℕ, _%_, _/_, _*_, _+_, _^_, _<_}
+use Prim.Native.Nat.{ℕ, _%_, _/_, _^_, _<_}
 use native.Mathlib.Nat.{mod-lt}
 use native.Mathlib.Omega.{arith}
 use lib.Bits.{bitAnd, and-le-l}
@@ -16,9 +16,8 @@ use Rattle.ring.specs.Polynomial.{Polynomial, value, within}
 use Rattle.ring.proofs.Bitwise.{and-bit}
 use Rattle.ring.proofs.Parity.{odd-cong}
 use Rattle.ring.proofs.Points.{same-letters, bit-low, bit-assign, bit-assign-other}
-use Rattle.solution.specs.ByPoints.{chosenValue}
 use Rattle.solution.specs.Elimination.{booleAnswers}
-use Rattle.solution.proofs.Elimination.{bothCases, chosenPoint, answeredThrough}
+use Rattle.solution.specs.ByPoints.{chosenValue, bothCases, chosenPoint, answeredThrough}
 use Rattle.solution.proofs.Values.{value-answers}
 use Rattle.elimination.specs.Stages.{InLetters}
 use Rattle.elimination.proofs.AnyOrder.{first-in, rest-in}

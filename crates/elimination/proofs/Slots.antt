@@ -2,57 +2,25 @@
 -- Assumes nothing.
 use mathlib.Core.Path.{_≡_, refl, sym, ap, ap₂, _∙_}
 use mathlib.Core.Bool.{Bool, true, false, _||_, cond, true≢false}
-use mathlib.Core.List.{List, [], _∷_, _++_, append-assoc}
-use Prim.Native.Nat.{ℕ, zero, suc, _+_, _-_, _*_, _/_, _%_, _^_, _≤_, _<_}
-use native.Mathlib.Decide.{decLt}
-use native.Mathlib.Nat.{add-mul, one-mul, zero-mul, suc-mul, mul-assoc, mul-comm, mul-le-mul-right, mod-lt, div-add-mod'}
+use mathlib.Core.List.{List, [], _∷_, _++_}
+use Prim.Native.Nat.{ℕ, suc, _+_, _-_, _*_, _/_, _%_, _^_, _≤_, _<_}
+use native.Mathlib.Nat.{zero-mul, suc-mul, mod-lt}
 use native.Mathlib.Omega.{arith}
 use lib.Arith.{digits-lt, digits-div, digits-mod}
 use lib.Dec.{eqb}
 use lib.ListN.{length, getD, take, drop, length-drop, List·getD-append}
-use lib.Seq.{take-at, drop-at, drop-drop, getD-take, getD-drop, length-take-le}
+use lib.Seq.{drop-at, getD-take, getD-drop, length-take-le}
 use borrow.Author.Tests.{eqb-true, eqb-false, lt-ltb}
-use borrow.Rule.Slice.PartMut.{putMid}
 use Rattle.ring.specs.Letters.{bit}
 use Rattle.ring.specs.Lists.{has, listed}
-use Rattle.ring.proofs.Lists.{length-listed, listed-getD, listed-add, listed-cong}
-use Rattle.tables.proofs.Filled.{filled, filled-all}
-use Rattle.words.specs.Words.{wordOf, wordsOf}
+use Rattle.ring.proofs.Lists.{listed-getD, listed-cong}
+use Rattle.words.specs.Words.{wordOf, wordsOf, answerWords}
+use Rattle.words.proofs.Parts.{part-fits, part-below, points-in, part-point, words-parts}
 use Rattle.words.proofs.Words.{length-words, getD-words, word-cong, words-cong, words-listed}
 use Rattle.solution.specs.Elimination.{IsOrder}
-use Rattle.solution.proofs.Elimination.{bothCases, answeredThrough}
-use Rattle.elimination.specs.Stages.{noRepeats, answerAt, slotWords, placeOf, slotWord, answerWords}
+use Rattle.solution.specs.ByPoints.{bothCases, answeredThrough}
+use Rattle.elimination.specs.Stages.{noRepeats, answerAt, slotWords, placeOf, slotWord}
 use Rattle.elimination.proofs.AnyOrder.{answer-first, answer-other, no-rest}
-
--- ---- parts
--- one more part of k elements put
-pub parts-more : (j k : ℕ) (F : ℕ → ℕ) (t₀ t ys : List ℕ) → t ≡ filled (j * k) F t₀ → ys ≡ listed k (λ i. F (j * k + i))
-    → putMid (j * k) (j * k + k - j * k) t ys ≡ filled ((j + 1) * k) F t₀
-unfolding filled
-parts-more j k F t₀ t ys e ey =
-    let count : j * k + k - j * k ≡ k = omega arith in
-    let before : take (j * k) t ≡ listed (j * k) F = ap (take (j * k)) e ∙ take-at (listed (j * k) F) (drop (j * k) t₀) (j * k) (length-listed (j * k) F) in
-    let from : drop (j * k) t ≡ drop (j * k) t₀ = ap (drop (j * k)) e ∙ drop-at (listed (j * k) F) (drop (j * k) t₀) (j * k) (length-listed (j * k) F) in
-    let next : (j + 1) * k ≡ j * k + k = add-mul j 1 k ∙ ap (λ (x : ℕ). j * k + x) (one-mul k) in
-    rw (count, before, from, ey, drop-drop k (j * k) t₀, next, listed-add (j * k) k F)
-    (sym (append-assoc (listed (j * k) F) (listed k (λ i. F (j * k + i))) (drop (j * k + k) t₀)))
-
--- all parts put
-pub parts-end : (count size j k : ℕ) (F : ℕ → ℕ) (t₀ t : List ℕ) → k ≡ size → j ≡ count → length t₀ ≡ count * size → t ≡ filled (j * k) F t₀ → t ≡ listed (count * size) F
-parts-end count size j k F t₀ t ek ej es e =
-    let whole : j * k ≡ length t₀ = ap₂ (λ (x y : ℕ). x * y) ej ek ∙ sym es in
-    e ∙ ap (λ (x : ℕ). filled x F t₀) whole ∙ filled-all F t₀ ∙ ap (λ (x : ℕ). listed x F) es
-
--- part j lies within, and has k elements
-pub part-fits : (count size j k m : ℕ) → k ≡ size → j < count → m ≡ count * size → j * k + k ≤ m
-part-fits count size j k m ek h e =
-    let l : (j + 1) * k ≤ count * k = mul-le-mul-right k (omega arith) in
-    omega (arith, add-mul j 1 k, one-mul k, e ∙ ap (λ (x : ℕ). count * x) (sym ek))
-
-pub part-length : (j k : ℕ) (t : List ℕ) → j * k + k ≤ length t → length (take (j * k + k - j * k) (drop (j * k) t)) ≡ k
-part-length j k t room =
-    let count : j * k + k - j * k ≡ k = omega arith in
-    ap (λ (y : ℕ). length (take y (drop (j * k) t))) count ∙ length-take-le k (drop (j * k) t) (omega (arith, length-drop (j * k) t))
 
 -- a part element by element
 pub part-listed : (j k : ℕ) (t : List ℕ) → j * k + k ≤ length t → take (j * k + k - j * k) (drop (j * k) t) ≡ listed k (λ i. getD t (j * k + i) 0)
@@ -96,35 +64,8 @@ slot-word k h (y ∷ o) x w once e l = go (eqb x y) refl e (λ r. slot-word k (b
         ∙ ih r
         ∙ word-cong _ _ (λ i m. sym (answer-other h y o x (64 * w + i) (eqb-false x y q))))
 
--- word w of all is word w % k of part w / k
-part-below : (u k w : ℕ) → w < u * k → w / k < u
-part-below u k w l = go (decLt (w / k) u)
-  where
-    go : Dec (w / k < u) → w / k < u
-    go (yes h) = h
-    go (no h) =
-        let m : u * k ≤ w / k * k = mul-le-mul-right k (omega (arith, h)) in
-        absurd (omega (arith, m, l, div-add-mod' w k))
-
-points-in : (x k : ℕ) → x * (64 * k) ≡ 64 * (x * k)
-points-in x k = sym (mul-assoc x 64 k) ∙ ap (λ (y : ℕ). y * k) (mul-comm x 64) ∙ mul-assoc 64 x k
-
-part-point : (k x w i : ℕ) → 64 * (x * k + w) + i ≡ x * (64 * k) + (64 * w + i)
-part-point k x w i = omega (arith, points-in x k)
-
--- the words of answers, each by its part
-pub words-parts : (u k : ℕ) (F : ℕ → ℕ) (h : ℕ → ℕ → Bool) → 0 < k → ((x w : ℕ) → x < u → w < k → F (x * k + w) ≡ wordOf (λ i. h x (64 * w + i))) → listed (u * k) F ≡ answerWords u k h
-unfolding answerWords
-words-parts u k F h pos e =
-    words-listed (u * k) _ _ (λ w l.
-    let r : w % k < k = mod-lt w pos in
-    ap F (sym (div-add-mod' w k)) ∙ e (w / k) (w % k) (part-below u k w l) r
-    ∙ word-cong _ _ (λ i m.
-    let inner : 64 * (w % k) + i < 64 * k = omega arith in
-    let s : 64 * w + i ≡ w / k * (64 * k) + (64 * (w % k) + i) = ap (λ (y : ℕ). 64 * y + i) (sym (div-add-mod' w k)) ∙ part-point k (w / k) (w % k) i in
-    sym (ap₂ h (ap (λ (z : ℕ). z / (64 * k)) s ∙ digits-div (w / k) inner) (ap (λ (z : ℕ). z % (64 * k)) s ∙ digits-mod (w / k) inner))))
-
--- they turn on the values at their points alone
+-- ---- the words of answers
+-- they turn on the values at the answers' points alone
 pub answers-cong : (u k : ℕ) (g h : ℕ → ℕ → Bool) → 0 < k → ((x p : ℕ) → x < u → p < 64 * k → g x p ≡ h x p) → answerWords u k g ≡ answerWords u k h
 unfolding answerWords
 answers-cong u k g h pos e =
@@ -132,7 +73,7 @@ answers-cong u k g h pos e =
     let b : i < u * (64 * k) = omega (arith, points-in u k) in
     e (i / (64 * k)) (i % (64 * k)) (part-below u (64 * k) i b) (mod-lt i (omega arith)))
 
--- .. and back: part x of the words of answers
+-- part x of them
 pub answer-part : (u k x : ℕ) (h : ℕ → ℕ → Bool) (ws : List ℕ) → ws ≡ answerWords u k h → x < u → take (x * k + k - x * k) (drop (x * k) ws) ≡ wordsOf k (h x)
 unfolding answerWords
 answer-part u k x h ws e l =

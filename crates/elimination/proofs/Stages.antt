@@ -4,25 +4,26 @@ use mathlib.Core.Path.{_≡_, refl, sym, ap, ap₂, _∙_}
 use mathlib.Core.Logic.{_≢_, _⊎_, inl, inr}
 use mathlib.Core.Bool.{Bool, true, false, _&&_, true≢false}
 use mathlib.Core.List.{List, [], _∷_, _++_, append-nil}
-use Prim.Native.Nat.{ℕ, zero, suc, _+_, _-_, _*_, _/_, _%_, _^_, _≤_, _<_}
+use Prim.Native.Nat.{ℕ, suc, _+_, _-_, _*_, _/_, _%_, _^_, _≤_, _<_}
 use native.Mathlib.Omega.{arith}
 use native.Mathlib.Nat.{suc-mul, zero-mul}
 use lib.Pow.{pow-add}
-use lib.ListN.{length, getD, take, drop, length-append, length-drop, length-take, drop-of-length-le}
-use lib.Seq.{take-at, drop-at, take-all, drop-length, getD-take, getD-drop, length-take-le, take-length}
+use lib.ListN.{length, getD, take, drop, length-append, length-drop, drop-of-length-le}
+use lib.Seq.{take-at, drop-at, getD-take, length-take-le}
 use borrow.Rule.Slice.PartMut.{putMid, same-len-mid}
 use Rattle.ring.specs.Letters.{bit, assign}
-use Rattle.ring.specs.Lists.{has, listed}
+use Rattle.ring.specs.Lists.{has}
 use Rattle.ring.specs.Polynomial.{_⊕_}
-use Rattle.ring.proofs.Lists.{listed-add, has-cases}
+use Rattle.ring.proofs.Lists.{has-cases}
 use borrow.Author.Tests.{eq-eqb, ne-eqb}
 use Rattle.ring.proofs.Points.{assign-lt}
 use Rattle.tables.proofs.Slices.{rest-of}
-use Rattle.words.specs.Words.{wordOf, wordsOf, bitAt, IsWords}
-use Rattle.words.proofs.Words.{words-cong, at-known, at-words, are-words, size-words, length-words}
-use Rattle.solution.proofs.Elimination.{bothCases, remainsThrough, answeredThrough, answered-kept, answered-lt}
+use Rattle.words.specs.Words.{wordsOf, bitAt, IsWords}
+use Rattle.words.proofs.Words.{words-cong, at-known, at-words, size-words, length-words}
+use Rattle.solution.specs.ByPoints.{bothCases, remainsThrough, answeredThrough}
+use Rattle.solution.proofs.Elimination.{answered-kept, answered-lt}
 use Rattle.elimination.specs.Stages.{InLetters, noRepeats, stageWords, answerAt, slotWords, putWords, placeOf}
-use Rattle.elimination.proofs.AnyOrder.{Agree, first-in, rest-in, both-agree, remains-agree, answered-agree, answerAt-agree, no-first, no-rest, answered-more}
+use Rattle.elimination.proofs.AnyOrder.{Agree, first-in, rest-in, both-agree, remains-agree, answerAt-agree, no-first, no-rest, answered-more}
 
 -- the points of 6 + c letters
 pub points : (c : ℕ) → 64 * 2 ^ c ≡ 2 ^ (6 + c)

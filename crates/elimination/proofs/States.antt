@@ -10,15 +10,15 @@ use native.Mathlib.Omega.{arith}
 use lib.Pow.{pow-pos, pow-mono, shl-lt}
 use lib.ListN.{length}
 use borrow.Author.Tests.{ltb-true}
-use Rattle.words.specs.Words.{wordsOf, bitAt}
+use Rattle.words.specs.Words.{wordsOf, bitAt, answerWords}
 use Rattle.words.proofs.Letters.{room}
 use Rattle.words.proofs.Words.{at-known}
 use Rattle.ring.specs.Letters.{bit}
 use Rattle.ring.specs.Lists.{listed}
 use Rattle.solution.specs.Elimination.{IsOrder, smallestBelow}
-use Rattle.solution.proofs.Elimination.{remainsThrough, answeredThrough}
+use Rattle.solution.specs.ByPoints.{remainsThrough, answeredThrough}
 use Rattle.solution.proofs.Smallest.{smallest-cong, first-found, first-none}
-use Rattle.elimination.specs.Stages.{InLetters, noRepeats, stageWords, slotWords, slotWord, answerWords}
+use Rattle.elimination.specs.Stages.{InLetters, noRepeats, stageWords, slotWords, slotWord}
 use Rattle.elimination.proofs.Slots.{arranged}
 use Rattle.elimination.proofs.Stages.{stage-self, answers-self}
 

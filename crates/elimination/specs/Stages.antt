@@ -1,5 +1,5 @@
--- Inner work: Boole's elimination through any order on packed values, k words to a function. The methods at points are those of
--- `solution/proofs/Elimination.antt`, which its laws tie to the polynomials.
+-- Inner work: Boole's elimination through any order on truth values in words, k words to a function. The method at points is that of
+-- `solution/specs/ByPoints.antt`, which the laws of `solution` tie to the polynomials.
 -- Assumes nothing.
 use mathlib.Core.Path.{_≡_}
 use mathlib.Core.Bool.{Bool, true, not, _&&_, cond}
@@ -11,7 +11,7 @@ use Rattle.ring.specs.Letters.{bit, assign}
 use Rattle.ring.specs.Lists.{has}
 use Rattle.ring.specs.Polynomial.{_⊕_}
 use Rattle.solution.specs.Elimination.{IsOrder}
-use Rattle.solution.proofs.Elimination.{bothCases, answeredThrough}
+use Rattle.solution.specs.ByPoints.{bothCases, answeredThrough}
 use Rattle.words.specs.Words.{wordsOf, bitAt}
 
 -- the letters of a list are below n
@@ -54,7 +54,3 @@ placeOf (y ∷ order) x = cond (eqb x y) 0 (suc (placeOf order x))
 -- word w of the answers by unknown, k words to an unknown, from those in the order's slots
 unfoldable pub slotWord : ℕ → List ℕ → List ℕ → ℕ → ℕ
 slotWord k order slots w = getD slots (placeOf order (w / k) * k + w % k) 0
-
--- the words of U answers, k to an answer, unknown 0 first: h j p is the value of answer j at the point p
-unfoldable pub answerWords : ℕ → ℕ → (ℕ → ℕ → Bool) → List ℕ
-answerWords U k h = wordsOf (U * k) (λ i. h (i / (64 * k)) (i % (64 * k)))

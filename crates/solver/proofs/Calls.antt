@@ -1,6 +1,6 @@
 -- What the calls' contracts say of whole buffers, from what the inner functions give on the parts that they are lent.
 -- Assumes nothing.
-use mathlib.Core.Path.{_≡_, refl, sym, ap, ap₂, _∙_}
+use mathlib.Core.Path.{_≡_, refl, sym, ap, _∙_}
 use mathlib.Core.Bool.{Bool, true, false, cond}
 use mathlib.Core.List.{List, [], _∷_, _++_}
 use Prim.Native.Nat.{ℕ, _+_, _*_, _^_}
@@ -8,23 +8,19 @@ use native.Mathlib.Omega.{arith}
 use lib.ListN.{length, take, drop, take-append-drop}
 use borrow.Author.Tests.{ne-eqb}
 use Rattle.ring.specs.declared.State.{State}
-use Rattle.ring.specs.Letters.{bit}
 use Rattle.ring.specs.Table.{present, held, answerTable}
-use Rattle.ring.proofs.Value.{value-cong}
 use Rattle.ring.proofs.Table.{present-take, held-take, length-answerTable}
 use Rattle.tables.specs.Questions.{firstNo, asks, lettersFit, reads, writes, haveRoom, holdBits, tableQuestions}
 use Rattle.tables.specs.Reply.{Reply, accepted, refused, reply, after}
 use Rattle.tables.proofs.Questions.{tableRefusal, one-read, table-yes, table-no}
 use Rattle.tables.proofs.Reply.{reply-refused, after-refused, after-done}
-use Rattle.solution.specs.Elimination.{lowenheim, defaultOrder, smallestBlocked, solvable, solved, none, Verdict as Said}
-use Rattle.solution.proofs.ByPoints.{handed-table, tableByValues-cong}
+use Rattle.solution.specs.Elimination.{defaultOrder, smallestBlocked, solvable, solved, none, Verdict as Said}
 use Rattle.solver.specs.Calls.{solvingRefusal, solvingReply, booleTable, particularTable, lowenheimTable, handedTable}
-use Rattle.solver.specs.Methods.{tableBy, solveBy, verdict, answersAfter}
-use Rattle.elimination.specs.declared.Method.{Method}
-use Rattle.elimination.specs.declared.Method.the-variants.{Boole, Particular, Lowenheim}
+use Rattle.solver.specs.Methods.{IsTableOf, AreTablesOf, answersBy, tableBy, solveBy, verdict, answersAfter}
+use Rattle.solver.specs.declared.Method.{Method}
+use Rattle.solver.specs.declared.Method.the-variants.{Boole, Particular, Lowenheim}
 use Rattle.solver.specs.declared.Verdict.{Verdict}
 use Rattle.solver.specs.declared.Verdict.the-variants.{Solved, None}
-use Rattle.solver.proofs.Verdicts.{solve-whole}
 
 -- the tables' questions are none of them the ninth
 not-nine : (u g : ℕ) (t : List ℕ) (results room : ℕ) → firstNo (tableQuestions u g (reads 1 t ∷ writes results room ∷ [])) ≡ 9 → ⊥
@@ -43,6 +39,12 @@ unfolding booleTable particularTable lowenheimTable
 length-tableBy Boole U G t = length-answerTable U (U + G) _
 length-tableBy Particular U G t = length-answerTable U (U + G) _
 length-tableBy Lowenheim U G t = length-answerTable U (U + G) _
+
+table-by : (method : Method) (U G : ℕ) (t : List ℕ) → answerTable U (U + G) (answersBy method U G (defaultOrder U) (present t)) ≡ tableBy method U G t
+unfolding booleTable particularTable lowenheimTable
+table-by Boole U G t = refl
+table-by Particular U G t = refl
+table-by Lowenheim U G t = refl
 
 -- what a call answers and leaves in its buffer
 pub record Answered (method : Method) (U G : ℕ) (condition lent : List ℕ) (answer : Reply) (buffer : List ℕ) : Type 0 where
@@ -70,13 +72,14 @@ module _ (method : Method) (u g : ℕ) (t lent : List ℕ) (q : ℕ) (e : q ≡ 
     then-9 = table-yes u g (reads 1 t ∷ writes u (length lent) ∷ []) (asks 9 (solvable (u + g) (present t) (defaultOrder u)) ∷ []) (sym eq ∙ z)
 
     -- the verdict as the inner function gives it, on the part that counts
-    module _ (v : Verdict) (front : List ℕ) (ev : verdict v front ≡ solveBy method u g (take k t))
-        (ea : front ≡ answersAfter (solveBy method u g (take k t)) (take (u * k) lent)) where
-      said : verdict v front ≡ solveBy method u g t
-      said = ev ∙ solve-whole u g k t ek method
+    module _ (v : Verdict) (front : List ℕ) (ev : verdict v front ≡ solveBy method u g (defaultOrder u) (present t))
+        (ea : front ≡ answersAfter (solveBy method u g (defaultOrder u) (present t)) (take (u * k) lent)) where
+      said : verdict v front ≡ cond (solvable (u + g) (present t) (defaultOrder u)) (solved (tableBy method u g t)) (none (smallestBlocked u g (present t)))
+      unfolding solveBy
+      said = ev ∙ ap (λ (a : List ℕ). cond (solvable (u + g) (present t) (defaultOrder u)) (solved a) (none (smallestBlocked u g (present t)))) (table-by method u g t)
 
       pub answered : v ≡ Solved → Answered method u g t lent (accepted []) (front ++ drop (u * k) lent)
-      unfolding solveBy solvingReply reply
+      unfolding solvingReply reply
       answered told = go (solvable (u + g) (present t) (defaultOrder u)) refl (ap (λ (x : Verdict). verdict x front) (sym told) ∙ said)
         where
           go : (b : Bool) → solvable (u + g) (present t) (defaultOrder u) ≡ b
@@ -91,7 +94,7 @@ module _ (method : Method) (u g : ℕ) (t lent : List ℕ) (q : ℕ) (e : q ≡ 
           go false s x = let y : _≡_ {A = ℕ} 0 1 = cc in absurd (omega arith)
 
       pub without : (state : State) → v ≡ None state → Answered method u g t lent (refused 9 (state .0 ∷ [])) (front ++ drop (u * k) lent)
-      unfolding solveBy solvingReply
+      unfolding solvingReply
       without state told = go (solvable (u + g) (present t) (defaultOrder u)) refl (ap (λ (x : Verdict). verdict x front) (sym told) ∙ said)
         where
           same : front ≡ take (u * k) lent
@@ -109,17 +112,14 @@ module _ (method : Method) (u g : ℕ) (t lent : List ℕ) (q : ℕ) (e : q ≡ 
                 left = ap (λ (x : List ℕ). x ++ drop (u * k) lent) same ∙ take-append-drop (u * k) lent ∙ after-refused 9 _ r _ lent (λ h. omega arith);
               }
 
--- the handed call: only the first bytes of its tables count, and its answers' length
-module _ (u g k : ℕ) (a b : List ℕ) (e : k ≡ 2 ^ (u + g)) where
-  pub handed-whole : answerTable u (u + g) (lowenheim (u + g) (present (take k a)) (held (u + g) (take (u * k) b))) ≡ handedTable u g a b
-  unfolding handedTable
-  handed-whole =
-      rw e
-      (handed-table u g (present (take (2 ^ (u + g)) a)) (held (u + g) (take (u * 2 ^ (u + g)) b))
-      ∙ tableByValues-cong u (u + g) _ _ (λ j p hj hp. ap₂ (λ (x y : Bool). cond x y (bit p j))
-      (value-cong (u + g) _ _ p (λ m l. present-take (2 ^ (u + g)) a m l)) (value-cong (u + g) _ _ p (λ m l. held-take (u + g) u b j m hj l)))
-      ∙ sym (handed-table u g (present a) (held (u + g) b)))
+-- the handed call: the length of its answers
+pub length-handed : (u g k : ℕ) (a b : List ℕ) → k ≡ 2 ^ (u + g) → u * k ≡ length (handedTable u g a b)
+unfolding handedTable
+length-handed u g k a b e = ap (λ (m : ℕ). u * m) e ∙ sym (length-answerTable u (u + g) _)
 
-  pub length-handed : u * k ≡ length (handedTable u g a b)
-  unfolding handedTable
-  length-handed = ap (λ (m : ℕ). u * m) e ∙ sym (length-answerTable u (u + g) _)
+-- only the first bytes of a table count
+pub first-is : (n k : ℕ) (t : List ℕ) → k ≡ 2 ^ n → IsTableOf n (present t) (take k t)
+first-is n k t e m l = present-take k t m (omega arith)
+
+pub first-are : (u n k : ℕ) (t : List ℕ) → k ≡ 2 ^ n → AreTablesOf u n (held n t) (take (u * k) t)
+first-are u n k t e j m hj hm = ap (λ (x : ℕ). held n (take (u * x) t) j m) e ∙ held-take n u t j m hj hm

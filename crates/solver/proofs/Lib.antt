@@ -1,5 +1,5 @@
-pub mod Handed
+pub mod Tables
 pub mod OnWords
-pub mod Verdicts
+pub mod Written
 pub mod Calls
 pub mod Injective

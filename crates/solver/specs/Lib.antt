@@ -1,3 +1,3 @@
 pub mod Calls
 pub mod Methods
-pub mod Handed
+pub mod Words

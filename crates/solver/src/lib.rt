@@ -1,26 +1,24 @@
 // Solving a condition: Boole's answers, the particular solution, Löwenheim's formula on the own particular solution or on handed polynomials.
-// Public calls, none with a `requires`: `boole`, `particular`, `lowenheim`, `lowenheim_handed`. `solve` is Boole's method for the crates
-// above, which ask the questions first; the other functions are theirs alone.
-// The work is done on truth values, point by point (`elimination`), and comes back to polynomials; the contracts cite the polynomials' own
-// definitions.
-use elimination::Method;
+// Public calls, none with a `requires`: `boole`, `particular`, `lowenheim`, `lowenheim_handed`. `solve_values` and `solve` are Boole's method for the
+// crates above, which ask the questions first; the other functions are theirs alone.
+// The work is done on truth values, 64 points to a word (`elimination`), in any order of the unknowns; the calls fix 0, 1, 2, ..
+// It comes back to polynomials, and the contracts cite the polynomials' own definitions.
 use ring::State;
 use tables::Outcome;
 ghost use mathlib.Core.Path.{_≡_};
-ghost use mathlib.Core.Bool.{cond};
-ghost use mathlib.Core.List.{[]};
-ghost use Prim.Native.Nat.{_+_, _-_, _*_, _^_, _≤_, _<_};
-ghost use lib.Dec.{eqb};
+ghost use mathlib.Core.List.{List, []};
+ghost use Prim.Native.Nat.{ℕ, _+_, _-_, _*_, _^_, _≤_, _<_};
 ghost use lib.ListN.{length};
 ghost use Rattle.ring.specs.Polynomial.{Polynomial, value};
-ghost use Rattle.ring.specs.Table.{IsTable, AreBits, present, tabulate, held, answerTable};
+ghost use Rattle.ring.specs.Table.{IsTable, AreBits, held, answerTable};
 ghost use Rattle.tables.specs.Reply.{reply, after, outcome};
-ghost use Rattle.solution.specs.Elimination.{defaultOrder, lowenheim, solve};
-ghost use Rattle.words.specs.Words.{wordsOf};
+ghost use Rattle.words.specs.Words.{wordsOf, bitAt, answerWords};
+ghost use Rattle.solution.specs.Elimination.{booleAnswers, defaultOrder, lowenheim, solve};
+ghost use Rattle.solution.specs.ByPoints.{zeroChoice};
 ghost use Rattle.elimination.specs.Stages.{ListsEach};
 ghost use Rattle.solver.specs.Calls.{solvingRefusal, solvingReply, solving, booleTable, particularTable, lowenheimTable, handedRefusal, handedTable};
-ghost use Rattle.solver.specs.Methods.{tableBy, solveBy, verdict, answersAfter, solveWords};
-ghost use Rattle.solver.specs.Handed.{mixedBit};
+ghost use Rattle.solver.specs.Methods.{IsTableOf, AreTablesOf, answersBy, tableBy, solveBy, verdict, answersAfter, solveWords};
+ghost use Rattle.solver.specs.Words.{partValue, mixedValue};
 
 // What a solving call answers: the answers stand in the buffer, or there is none and every choice fails in this state, or the first no.
 pub enum Solving {
@@ -33,6 +31,13 @@ pub enum Solving {
 pub enum Verdict {
     Solved,
     None(State),
+}
+
+// Which answers are asked for.
+pub enum Method {
+    Boole,
+    Particular,
+    Lowenheim,
 }
 
 // Boole's answers.
@@ -59,6 +64,27 @@ pub fn lowenheim(unknowns: usize, givens: usize, condition: &[u8], answers: &mut
     ask_and_solve(Method::Lowenheim, unknowns, givens, condition, answers)
 }
 
+// The verdict by the values of a condition that has passed the questions, eliminating in any order: if there is a solution, the values of
+// Boole's answer for unknown j are in the words j * k to (j + 1) * k of `answers`, k words holding the values of one polynomial.
+// Uses up the condition's values.
+pub fn solve_values(
+    u: usize,
+    g: usize,
+    order: &[usize],
+    values: &mut [u64],
+    answers: &mut [u64],
+) -> Verdict
+    requires { ⌜ (u ≤ 6) × (u + g ≤ 10) × ListsEach u (now order) × (length (now values) ≡ 2 ^ (u + g - 6)) × (length (now answers) ≡ u * 2 ^ (u + g - 6)) ⌝ }
+    ensures { λ r. ⌜ ((f : Polynomial) → now (values .entry) ≡ wordsOf (2 ^ (u + g - 6)) (value (u + g) f) → verdict r (now (answers .exit)) ≡ solveWords u g (now (order .entry)) f) ⌝ }
+{
+    let state = elimination::solve_words(u, g, order, values, answers);
+    let end = tables::pow2(g);
+    if state < end {
+        return Verdict::None(State(state));
+    }
+    Verdict::Solved
+}
+
 // Questions 1, 4 and 8, then solving, which answers question 9.
 fn ask_and_solve(
     method: Method,
@@ -77,31 +103,11 @@ fn ask_and_solve(
     }
     let k = tables::pow2(u + g);
     let all = u * k;
-    let verdict = solve_by(method, u, g, &condition[..k], &mut answers[..all]);
+    let verdict = solve_default(method, u, g, &condition[..k], &mut answers[..all]);
     match verdict {
         Verdict::Solved => Solving::Solved,
         Verdict::None(state) => Solving::None(state),
     }
-}
-
-// The verdict by the values of a condition that has passed the questions, eliminating in any order: if there is a solution, the values of
-// Boole's answer for unknown j are in the words j * k to (j + 1) * k of `answers`, k words holding the values of one polynomial.
-// Uses up the condition's values.
-pub fn solve_values(
-    u: usize,
-    g: usize,
-    order: &[usize],
-    values: &mut [u64],
-    answers: &mut [u64],
-) -> Verdict
-    requires { ⌜ (u ≤ 6) × (u + g ≤ 10) × ListsEach u (now order) × (length (now values) ≡ 2 ^ (u + g - 6)) × (length (now answers) ≡ u * 2 ^ (u + g - 6)) ⌝ }
-    ensures { λ r. ⌜ ((f : Polynomial) → now (values .entry) ≡ wordsOf (2 ^ (u + g - 6)) (value (u + g) f) → verdict r (now (answers .exit)) ≡ solveWords u g (now (order .entry)) f) ⌝ }
-{
-    let state = elimination::solve_words(u, g, order, values, answers);
-    if state < tables::pow2(g) {
-        return Verdict::None(State(state));
-    }
-    Verdict::Solved
 }
 
 // The verdict of an archive entry, for a condition that has passed the questions: Boole's answers into a buffer of just their length.
@@ -110,27 +116,53 @@ pub fn solve(u: usize, g: usize, condition: &[u8], answers: &mut [u8]) -> Verdic
     ensures { λ r. ⌜ verdict r (now (answers .exit)) ≡ solve u g (defaultOrder u) (now (condition .entry)) ⌝ }
     ensures { λ _. ⌜ now (answers .exit) ≡ answersAfter (solve u g (defaultOrder u) (now (condition .entry))) (now (answers .entry)) ⌝ }
 {
-    solve_by(Method::Boole, u, g, condition, answers)
+    solve_default(Method::Boole, u, g, condition, answers)
 }
 
-// The scratch rows and points live here.
-fn solve_by(method: Method, u: usize, g: usize, condition: &[u8], answers: &mut [u8]) -> Verdict
+// Unknown 0 goes first, then 1, and so on.
+fn solve_default(
+    method: Method,
+    u: usize,
+    g: usize,
+    condition: &[u8],
+    answers: &mut [u8],
+) -> Verdict
     requires { ⌜ (u ≤ 6) × (u + g ≤ 10) × IsTable (u + g) (now condition) × (length (now answers) ≡ u * 2 ^ (u + g)) ⌝ }
-    ensures { λ r. ⌜ verdict r (now (answers .exit)) ≡ solveBy method u g (now (condition .entry)) ⌝ }
-    ensures { λ _. ⌜ now (answers .exit) ≡ answersAfter (solveBy method u g (now (condition .entry))) (now (answers .entry)) ⌝ }
+    ensures { λ r. ⌜ ((f : Polynomial) → IsTableOf (u + g) f (now (condition .entry)) → verdict r (now (answers .exit)) ≡ solveBy method u g (defaultOrder u) f) ⌝ }
+    ensures { λ _. ⌜ ((f : Polynomial) → IsTableOf (u + g) f (now (condition .entry)) → now (answers .exit) ≡ answersAfter (solveBy method u g (defaultOrder u) f) (now (answers .entry))) ⌝ }
 {
-    let k = tables::pow2(u + g);
-    let both = 2 * k;
-    let mut rows = [0u8; 2048];
-    let mut points = [0usize; 1024];
+    let order = [0usize, 1, 2, 3, 4, 5];
+    solve_by(method, u, g, &order[..u], condition, answers)
+}
+
+// The answers of a method, from a condition's table to theirs. The scratch words live here.
+fn solve_by(
+    method: Method,
+    u: usize,
+    g: usize,
+    order: &[usize],
+    condition: &[u8],
+    answers: &mut [u8],
+) -> Verdict
+    requires { ⌜ (u ≤ 6) × (u + g ≤ 10) × ListsEach u (now order) × IsTable (u + g) (now condition) × (length (now answers) ≡ u * 2 ^ (u + g)) ⌝ }
+    ensures { λ r. ⌜ ((f : Polynomial) → IsTableOf (u + g) f (now (condition .entry)) → verdict r (now (answers .exit)) ≡ solveBy method u g (now (order .entry)) f) ⌝ }
+    ensures { λ _. ⌜ ((f : Polynomial) → IsTableOf (u + g) f (now (condition .entry)) → now (answers .exit) ≡ answersAfter (solveBy method u g (now (order .entry)) f) (now (answers .entry))) ⌝ }
+{
+    let k = words::word_count(u + g);
+    let all = u * k;
+    let mut values = [0u64; 16];
+    let mut used = [0u64; 16];
+    let mut found = [0u64; 96];
     solve_with(
         method,
         u,
         g,
+        order,
         condition,
         answers,
-        &mut rows[..both],
-        &mut points[..k],
+        &mut values[..k],
+        &mut used[..k],
+        &mut found[..all],
     )
 }
 
@@ -138,25 +170,97 @@ fn solve_with(
     method: Method,
     u: usize,
     g: usize,
+    order: &[usize],
     condition: &[u8],
     answers: &mut [u8],
-    rows: &mut [u8],
-    points: &mut [usize],
+    values: &mut [u64],
+    used: &mut [u64],
+    found: &mut [u64],
 ) -> Verdict
-    requires { ⌜ (u ≤ 6) × (u + g ≤ 10) × IsTable (u + g) (now condition) × (length (now answers) ≡ u * 2 ^ (u + g)) ⌝ }
-    requires { ⌜ (length (now rows) ≡ 2 * 2 ^ (u + g)) × (length (now points) ≡ 2 ^ (u + g)) ⌝ }
-    ensures { λ r. ⌜ verdict r (now (answers .exit)) ≡ solveBy method u g (now (condition .entry)) ⌝ }
-    ensures { λ _. ⌜ now (answers .exit) ≡ answersAfter (solveBy method u g (now (condition .entry))) (now (answers .entry)) ⌝ }
+    requires { ⌜ (u ≤ 6) × (u + g ≤ 10) × ListsEach u (now order) × IsTable (u + g) (now condition) × (length (now answers) ≡ u * 2 ^ (u + g)) ⌝ }
+    requires { ⌜ (length (now values) ≡ 2 ^ (u + g - 6)) × (length (now used) ≡ 2 ^ (u + g - 6)) × (length (now found) ≡ u * 2 ^ (u + g - 6)) ⌝ }
+    ensures { λ r. ⌜ ((f : Polynomial) → IsTableOf (u + g) f (now (condition .entry)) → verdict r (now (answers .exit)) ≡ solveBy method u g (now (order .entry)) f) ⌝ }
+    ensures { λ _. ⌜ ((f : Polynomial) → IsTableOf (u + g) f (now (condition .entry)) → now (answers .exit) ≡ answersAfter (solveBy method u g (now (order .entry)) f) (now (answers .entry))) ⌝ }
 {
-    elimination::eliminate(u, g, condition, rows);
-    let start = tables::pow2(g);
-    let end = 2 * start;
-    let state = elimination::first_one(&rows[start..end]);
-    if state < start {
-        return Verdict::None(State(state));
+    words::take_values(u + g, condition, values);
+    words::copy(used, values);
+    let verdict = solve_values(u, g, order, used, found);
+    match verdict {
+        Verdict::Solved => {
+            write_by(method, u, g, values, found, used, answers);
+            Verdict::Solved
+        }
+        Verdict::None(state) => Verdict::None(state),
     }
-    elimination::write_answers(method, u, u + g, rows, points, answers);
-    Verdict::Solved
+}
+
+// The tables of a method's answers, from the values of Boole's.
+fn write_by(
+    method: Method,
+    u: usize,
+    g: usize,
+    values: &[u64],
+    found: &mut [u64],
+    own: &mut [u64],
+    answers: &mut [u8],
+)
+    requires { ⌜ (u ≤ 6) × (u + g ≤ 10) × (length (now values) ≡ 2 ^ (u + g - 6)) × (length (now found) ≡ u * 2 ^ (u + g - 6)) × (length (now own) ≡ 2 ^ (u + g - 6)) × (length (now answers) ≡ u * 2 ^ (u + g)) ⌝ }
+    ensures { λ _. ⌜ ((f : Polynomial) (order : List ℕ) → now (values .entry) ≡ wordsOf (2 ^ (u + g - 6)) (value (u + g) f) → now (found .entry) ≡ answerWords u (2 ^ (u + g - 6)) (λ j. value (u + g) (booleAnswers (u + g) f order j)) → now (answers .exit) ≡ answerTable u (u + g) (answersBy method u g order f)) ⌝ }
+{
+    match method {
+        Method::Boole => write_tables(u, u + g, found, answers),
+        Method::Particular => {
+            put_zeros(u, found);
+            write_tables(u, u + g, found, answers);
+        }
+        Method::Lowenheim => {
+            put_zeros(u, found);
+            write_mixed(u, u + g, values, found, own, answers);
+        }
+    }
+}
+
+// The tables of the polynomials whose values stand in `found`.
+fn write_tables(u: usize, n: usize, found: &[u64], answers: &mut [u8])
+    requires { ⌜ (u ≤ 6) × (n ≤ 10) × (length (now found) ≡ u * 2 ^ (n - 6)) × (length (now answers) ≡ u * 2 ^ n) ⌝ }
+    ensures { λ _. ⌜ now (answers .exit) ≡ answerTable u n (λ j. value n (partValue (2 ^ (n - 6)) (now (found .entry)) j)) ⌝ }
+{
+    let k = words::word_count(n);
+    let size = tables::pow2(n);
+    for x in 0..u {
+        let start = x * k;
+        let end = start + k;
+        let from = x * size;
+        let to = from + size;
+        words::put_copy(n, &found[start..end], &mut answers[from..to]);
+    }
+}
+
+// Every unknown at 0.
+fn put_zeros(u: usize, words: &mut [u64])
+    requires { ⌜ u ≤ 6 ⌝ }
+    ensures { λ _. ⌜ now (words .exit) ≡ wordsOf (length (now (words .entry))) (λ p. bitAt (now (words .entry)) (zeroChoice u p)) ⌝ }
+{
+    for x in 0..u {
+        words::put_zero(words, x);
+    }
+}
+
+// Löwenheim's answers from the values of the condition and of the polynomials b.
+fn write_mixed(u: usize, n: usize, values: &[u64], b: &[u64], own: &mut [u64], answers: &mut [u8])
+    requires { ⌜ (u ≤ 6) × (n ≤ 10) × (length (now values) ≡ 2 ^ (n - 6)) × (length (now b) ≡ u * 2 ^ (n - 6)) × (length (now own) ≡ 2 ^ (n - 6)) × (length (now answers) ≡ u * 2 ^ n) ⌝ }
+    ensures { λ _. ⌜ now (answers .exit) ≡ answerTable u n (λ j. value n (mixedValue (bitAt (now (values .entry))) (partValue (2 ^ (n - 6)) (now (b .entry)) j) j)) ⌝ }
+{
+    let k = words::word_count(n);
+    let size = tables::pow2(n);
+    for x in 0..u {
+        let start = x * k;
+        let end = start + k;
+        let from = x * size;
+        let to = from + size;
+        words::mix(values, x, &b[start..end], own);
+        words::put_table(n, own, &mut answers[from..to]);
+    }
 }
 
 // Löwenheim's answers from handed polynomials, whether or not they solve the condition.
@@ -194,14 +298,26 @@ pub fn lowenheim_handed(
     Outcome::Done
 }
 
-// The scratch table for the values of the condition lives here.
+// The scratch words live here.
 fn mix_handed(u: usize, g: usize, condition: &[u8], handed: &[u8], answers: &mut [u8])
     requires { ⌜ (u ≤ 6) × (u + g ≤ 10) × IsTable (u + g) (now condition) × (length (now handed) ≡ u * 2 ^ (u + g)) × AreBits (now handed) × (length (now answers) ≡ u * 2 ^ (u + g)) ⌝ }
-    ensures { λ _. ⌜ now (answers .exit) ≡ answerTable u (u + g) (lowenheim (u + g) (present (now (condition .entry))) (held (u + g) (now (handed .entry)))) ⌝ }
+    ensures { λ _. ⌜ ((f : Polynomial) (b : ℕ → Polynomial) → IsTableOf (u + g) f (now (condition .entry)) → AreTablesOf u (u + g) b (now (handed .entry)) → now (answers .exit) ≡ answerTable u (u + g) (lowenheim (u + g) f b)) ⌝ }
 {
-    let k = tables::pow2(u + g);
-    let mut truths = [0u8; 1024];
-    mix_handed_with(u, g, condition, handed, answers, &mut truths[..k]);
+    let k = words::word_count(u + g);
+    let all = u * k;
+    let mut values = [0u64; 16];
+    let mut own = [0u64; 16];
+    let mut b = [0u64; 96];
+    mix_handed_with(
+        u,
+        g,
+        condition,
+        handed,
+        answers,
+        &mut values[..k],
+        &mut own[..k],
+        &mut b[..all],
+    );
 }
 
 fn mix_handed_with(
@@ -210,35 +326,31 @@ fn mix_handed_with(
     condition: &[u8],
     handed: &[u8],
     answers: &mut [u8],
-    truths: &mut [u8],
+    values: &mut [u64],
+    own: &mut [u64],
+    b: &mut [u64],
 )
-    requires { ⌜ (u ≤ 6) × (u + g ≤ 10) × IsTable (u + g) (now condition) × (length (now handed) ≡ u * 2 ^ (u + g)) × AreBits (now handed) ⌝ }
-    requires { ⌜ (length (now answers) ≡ u * 2 ^ (u + g)) × (length (now truths) ≡ 2 ^ (u + g)) ⌝ }
-    ensures { λ _. ⌜ now (answers .exit) ≡ answerTable u (u + g) (lowenheim (u + g) (present (now (condition .entry))) (held (u + g) (now (handed .entry)))) ⌝ }
+    requires { ⌜ (u ≤ 6) × (u + g ≤ 10) × IsTable (u + g) (now condition) × (length (now handed) ≡ u * 2 ^ (u + g)) × AreBits (now handed) × (length (now answers) ≡ u * 2 ^ (u + g)) ⌝ }
+    requires { ⌜ (length (now values) ≡ 2 ^ (u + g - 6)) × (length (now own) ≡ 2 ^ (u + g - 6)) × (length (now b) ≡ u * 2 ^ (u + g - 6)) ⌝ }
+    ensures { λ _. ⌜ ((f : Polynomial) (b : ℕ → Polynomial) → IsTableOf (u + g) f (now (condition .entry)) → AreTablesOf u (u + g) b (now (handed .entry)) → now (answers .exit) ≡ answerTable u (u + g) (lowenheim (u + g) f b)) ⌝ }
 {
-    let n = u + g;
-    tables::take_values(n, condition, truths);
-    tables::copy(answers, handed);
-    tables::all_to_values(answers, n, u);
-    mix(n, truths, answers);
-    tables::all_to_values(answers, n, u);
+    words::take_values(u + g, condition, values);
+    take_all(u, u + g, handed, b);
+    write_mixed(u, u + g, values, b, own, answers);
 }
 
-// Where the condition is 0, the unknowns' own values; where it is 1, the handed ones stay.
-fn mix(n: usize, truths: &[u8], answers: &mut [u8])
-    requires { ⌜ (n ≤ 10) × IsTable n (now truths) × (length (now answers) ≤ 6 * 2 ^ n) × AreBits (now answers) ⌝ }
-    ensures { λ _. ⌜ now (answers .exit) ≡ tabulate (length (now (answers .entry))) (mixedBit n (now (truths .entry)) (now (answers .entry))) ⌝ }
+// The values of u tables, one after another.
+fn take_all(u: usize, n: usize, t: &[u8], words: &mut [u64])
+    requires { ⌜ (u ≤ 6) × (n ≤ 10) × (length (now t) ≡ u * 2 ^ n) × AreBits (now t) × (length (now words) ≡ u * 2 ^ (n - 6)) ⌝ }
+    ensures { λ _. ⌜ now (words .exit) ≡ answerWords u (2 ^ (n - 6)) (λ j. value n (held n (now (t .entry)) j)) ⌝ }
 {
-    let last = tables::pow2(n) - 1;
-    for i in 0..answers.len() {
-        let p = i & last;
-        answers[i] = mixed(truths[p], answers[i], elimination::bit_at(p, i >> n));
+    let k = words::word_count(n);
+    let size = tables::pow2(n);
+    for x in 0..u {
+        let start = x * k;
+        let end = start + k;
+        let from = x * size;
+        let to = from + size;
+        words::take_values(n, &t[from..to], &mut words[start..end]);
     }
-}
-
-// The handed value where the condition is 1, else the unknown's own.
-fn mixed(truth: u8, handed: u8, own: u8) -> u8
-    ensures { λ r. ⌜ r ≡ cond (eqb truth 1) handed own ⌝ }
-{
-    if truth == 1 { handed } else { own }
 }

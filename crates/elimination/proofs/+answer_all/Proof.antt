@@ -1,10 +1,10 @@
 -- The proof of the cycle of calls {answer_all}: the later unknowns first, and then the first.
 -- Assumes nothing.
-use mathlib.Core.Path.{_≡_, refl, sym, ap, _∙_}
+use mathlib.Core.Path.{refl, ap, _∙_}
 use native.Mathlib.Omega.{arith}
 use Prim.Native.Nat.{_≤_, _^_}
 use borrow.Author.Needs.{needs}
-use lib.ListN.{length, getD}
+use lib.ListN.{length}
 use lib.Pow.{pow-mono}
 use Rattle.elimination.proofs.Stages.{rest-length, rest-letters, rest-once, slot-room, length-stages, rest-stages, answers-none, answers-more, answered-size}
 use Prim.Native.Nat.{ℕ, _<_}

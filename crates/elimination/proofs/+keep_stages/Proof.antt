@@ -1,15 +1,15 @@
 -- The proof of the cycle of calls {keep_stages}: one unknown a call, the first one first.
 -- Assumes nothing.
-use mathlib.Core.Path.{_≡_, sym, ap, _∙_}
+use mathlib.Core.Path.{sym, _∙_}
 use native.Mathlib.Omega.{arith}
 use Prim.Native.Nat.{_≤_, _^_}
 use borrow.Author.Needs.{needs}
-use lib.ListN.{length, getD}
+use lib.ListN.{length}
 use lib.Pow.{pow-mono}
 use lib.Seq.{length-take-le}
 use Rattle.words.proofs.Turned.{machine-words}
 use Rattle.words.proofs.Words.{size-words}
-use Rattle.elimination.proofs.Stages.{rest-length, rest-letters, first-letter, slot-room, slots-rest, front-length, front-room, front-rest, stages-none, stages-empty, remains-more, stages-more}
+use Rattle.elimination.proofs.Stages.{rest-length, rest-letters, first-letter, slot-room, front-room, front-rest, stages-none, stages-empty, remains-more, stages-more}
 use Prim.Native.Nat.{ℕ, _<_}
 use borrow.Fn.Kinds.{In}
 use borrow.Fn.PlainCycle.{Measures, is, falls, and}

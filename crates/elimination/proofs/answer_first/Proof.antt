@@ -1,13 +1,10 @@
 -- `elimination::answer_first` meets its contract. Assumes nothing.
-use mathlib.Core.Path.{_≡_, sym, ap, _∙_}
-use Prim.Native.Nat.{_≤_, _^_, _<_}
+use mathlib.Core.Path.{sym, _∙_}
+use Prim.Native.Nat.{_≤_, _^_}
 use native.Mathlib.Omega.{arith}
 use borrow.Author.Needs.{needs}
-use lib.ListN.{length}
 use lib.Pow.{pow-mono}
 use lib.Seq.{length-take-le}
-use Rattle.words.proofs.Words.{size-words}
-use Rattle.elimination.proofs.Stages.{rest-letters, first-letter, slot-room, slots-rest, answered-front}
 use Rattle.elimination.proofs.answer_first.Statement.{statement}
 use Rattle.elimination.proofs.answer_first.Tie as tie
 

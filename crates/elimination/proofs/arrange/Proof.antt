@@ -1,6 +1,6 @@
 -- `elimination::arrange` meets its contract: the slots of the unknowns before x are copied. Assumes nothing.
-use mathlib.Core.Path.{_≡_, sym, ap, _∙_}
-use Prim.Native.Nat.{_≤_, _<_, _^_, _-_, _+_, _*_}
+use mathlib.Core.Path.{_≡_, sym, _∙_}
+use Prim.Native.Nat.{_≤_, _^_, _-_, _*_}
 use native.Mathlib.Omega.{arith}
 use native.Mathlib.Nat.{zero-mul}
 use borrow.Author.Needs.{needs}
@@ -8,7 +8,8 @@ use borrow.Author.Tests.{lt-ltb}
 use lib.ListN.{length}
 use Rattle.tables.proofs.Filled.{filled, filled-start}
 use Rattle.elimination.specs.Stages.{slotWord}
-use Rattle.elimination.proofs.Slots.{parts-more, parts-end, part-fits, part-length, slot-copied}
+use Rattle.words.proofs.Parts.{parts-more, parts-end, part-fits, part-length}
+use Rattle.elimination.proofs.Slots.{slot-copied}
 use Rattle.elimination.proofs.arrange.Statement.{statement}
 use Rattle.elimination.proofs.arrange.Tie as tie
 

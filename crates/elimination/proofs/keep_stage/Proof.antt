@@ -1,5 +1,4 @@
 -- `elimination::keep_stage` meets its contract. Assumes nothing.
-use mathlib.Core.Path.{_≡_, ap, _∙_}
 use borrow.Author.Needs.{needs}
 use Rattle.elimination.proofs.Stages.{both-copied}
 use Rattle.elimination.proofs.keep_stage.Statement.{statement}

@@ -1,13 +1,7 @@
 -- `elimination::solve_slots` meets its contract. Assumes nothing.
-use mathlib.Core.Path.{_≡_, refl, sym, ap, _∙_}
-use Prim.Native.Nat.{_≤_, _<_, _^_, _-_, _+_, _*_}
+use Prim.Native.Nat.{_-_}
 use native.Mathlib.Omega.{arith}
-use native.Mathlib.Nat.{zero-mul}
 use borrow.Author.Needs.{needs}
-use borrow.Author.Tests.{lt-ltb}
-use lib.ListN.{length}
-use Rattle.ring.specs.Polynomial.{value}
-use Rattle.tables.proofs.Parts.{part-room}
 use Rattle.elimination.proofs.States.{order-letters, same-power, same-slots, own-stages, state-remains, slots-answered}
 use Rattle.elimination.proofs.solve_slots.Statement.{statement}
 use Rattle.elimination.proofs.solve_slots.Tie as tie

@@ -10,7 +10,7 @@ use lib.ListN.{length}
 use lib.Seq.{length-take-le}
 use Rattle.tables.proofs.Questions.{Fine, fine, first-table}
 use Rattle.tables.proofs.Steps.{pow-small}
-use Rattle.solver.proofs.Calls.{refused-first, answered, without}
+use Rattle.solver.proofs.Calls.{refused-first, answered, without, first-is}
 use Rattle.solver.proofs.ask_and_solve.Statement.{statement}
 use Rattle.solver.proofs.ask_and_solve.Tie as tie
 
@@ -34,8 +34,8 @@ room : (c : tie.After-pow2)
     → c .before .before .before .before .before .before .args .u * c .pow2 .result ≤ length (c .before .before .before .before .before .before .args .answers .now)
 room c = rw (c .pow2 .ensures) (all-yes (c .before) .result-room)
 
-solve-by-requires : tie.Need-solve-by-requires
-solve-by-requires c κs =
+solve-default-requires : tie.Need-solve-default-requires
+solve-default-requires c κs =
     let known = c .before .before in
     let u = known .before .before .before .before .before .before .args .u in
     let f = all-yes (known .before) in
@@ -50,7 +50,7 @@ returns-2 c =
     let start = asked .before .before .before .before in
     let a =
     answered (start .args .method) _ _ _ (start .args .answers .now) _ (asked .table-refusal .ensures) (known .before .if1 .left) _ (known .pow2 .ensures) _ _
-    (worked .solve-by .ensures .0) (worked .solve-by .ensures .1) (c .enum-told .given .1) in
+    (worked .solve-default .ensures .0 _ (first-is _ _ (start .args .condition .now) (known .pow2 .ensures))) (worked .solve-default .ensures .1 _ (first-is _ _ (start .args .condition .now) (known .pow2 .ensures))) (c .enum-told .given .1) in
     (a .replied, a .left)
 
 returns-3 : tie.Need-returns-3
@@ -61,7 +61,7 @@ returns-3 c =
     let start = asked .before .before .before .before in
     let a =
     without (start .args .method) _ _ _ (start .args .answers .now) _ (asked .table-refusal .ensures) (known .before .if1 .left) _ (known .pow2 .ensures) _ _
-    (worked .solve-by .ensures .0) (worked .solve-by .ensures .1) _ (c .before .verdict .given .1) in
+    (worked .solve-default .ensures .0 _ (first-is _ _ (start .args .condition .now) (known .pow2 .ensures))) (worked .solve-default .ensures .1 _ (first-is _ _ (start .args .condition .now) (known .pow2 .ensures))) _ (c .before .verdict .given .1) in
     (a .replied, a .left)
 
 pub ask-and-solve-spec : {M : Type 1} → statement M
@@ -77,7 +77,7 @@ ask-and-solve-spec =
     (λ c. sym (length-take-le _ _ (omega (arith, c .before .pow2 .ensures, all-yes (c .before .before) .first-room))))
     (λ c. room (c .before))
     (λ c. sym (length-take-le _ _ (room (c .before .before))))
-    solve-by-requires
+    solve-default-requires
     (λ c. search needs)
     (λ c. search needs)
     (λ c. search needs)

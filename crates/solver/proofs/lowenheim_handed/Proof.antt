@@ -10,8 +10,8 @@ use lib.Seq.{length-take-le}
 use Rattle.tables.proofs.Questions.{Fine, fine, first-table, second-length, second-are-bits}
 use Rattle.tables.proofs.Reply.{call-refused, call-done}
 use Rattle.tables.proofs.Steps.{pow-small}
-use Rattle.solver.specs.Calls.{handedRefusal}
-use Rattle.solver.proofs.Calls.{handed-whole, length-handed}
+use Rattle.solver.specs.Calls.{handedRefusal, handedTable}
+use Rattle.solver.proofs.Calls.{length-handed, first-is, first-are}
 use Rattle.solver.proofs.lowenheim_handed.Statement.{statement}
 use Rattle.solver.proofs.lowenheim_handed.Tie as tie
 
@@ -52,13 +52,14 @@ mix-handed-requires c κs =
     )
 
 returns-2 : tie.Need-returns-2
-unfolding handedRefusal
+unfolding handedRefusal handedTable
 returns-2 c =
     let worked = c .before .before in
     let known = worked .before .before .before .before in
     let asked = known .before .before in
+    let start = asked .before .before .before .before in
     call-done _ _ (asked .table-refusal .ensures) _ _ _ _ _ (known .before .if1 .left)
-    (worked .mix-handed .ensures ∙ handed-whole _ _ _ _ _ (known .pow2 .ensures)) (length-handed _ _ _ _ _ (known .pow2 .ensures))
+    (worked .mix-handed .ensures _ _ (first-is _ _ (start .args .condition .now) (known .pow2 .ensures)) (first-are _ _ _ (start .args .handed .now) (known .pow2 .ensures))) (length-handed _ _ _ _ _ (known .pow2 .ensures))
 
 pub lowenheim-handed-spec : {M : Type 1} → statement M
 lowenheim-handed-spec =

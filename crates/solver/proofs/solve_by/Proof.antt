@@ -1,25 +1,39 @@
 -- `solver::solve_by` meets its contract: the scratch has the length that the work needs.
 -- Assumes nothing.
 use mathlib.Core.Path.{sym, ap, _∙_}
-use Prim.Native.Nat.{_*_, _≤_}
+use Prim.Native.Nat.{ℕ, _-_, _*_}
 use native.Mathlib.Omega.{arith}
 use borrow.Author.Needs.{needs}
 use lib.Seq.{length-take-le}
-use Rattle.tables.proofs.Steps.{pow-small}
+use Rattle.words.proofs.Letters.{count-small}
+use Rattle.solver.proofs.Tables.{words-fit}
 use Rattle.solver.proofs.solve_by.Statement.{statement}
 use Rattle.solver.proofs.solve_by.Tie as tie
 
-fits : (c : tie.After-pow2) → c .pow2 .result ≤ 1024
-fits c = pow-small _ _ (c .pow2 .ensures) (c .before .before .before .pre .1)
+mul-all : tie.Need-mul-all
+mul-all c = omega (arith, words-fit _ _ ((c .before .before .before .before .pre) .0) (count-small _ _ ((c .word-count) .ensures) ((c .before .before .before .before .pre) .1)))
 
-both-fit : (c : tie.After-pow2) → 2 * c .pow2 .result ≤ 2048
-both-fit c = omega (arith, fits c)
+array-borrow-prefix-values : tie.Need-array-borrow-prefix-values
+array-borrow-prefix-values c = count-small _ _ ((c .before .word-count) .ensures) ((c .before .before .before .before .before .pre) .1)
+
+slice-aggregate-solve-with : tie.Need-slice-aggregate-solve-with
+slice-aggregate-solve-with c = sym (length-take-le _ _ (count-small _ _ ((c .before .before .word-count) .ensures) ((c .before .before .before .before .before .before .pre) .1)))
+
+array-borrow-prefix-used : tie.Need-array-borrow-prefix-used
+array-borrow-prefix-used c = count-small _ _ ((c .before .before .word-count) .ensures) ((c .before .before .before .before .before .before .pre) .1)
+
+slice-aggregate-solve-with-2 : tie.Need-slice-aggregate-solve-with-2
+slice-aggregate-solve-with-2 c = sym (length-take-le _ _ (count-small _ _ ((c .before .before .before .word-count) .ensures) ((c .before .before .before .before .before .before .before .pre) .1)))
+
+array-borrow-prefix-found : tie.Need-array-borrow-prefix-found
+array-borrow-prefix-found c = words-fit _ _ ((c .before .before .before .before .before .before .before .pre) .0) (count-small _ _ ((c .before .before .before .word-count) .ensures) ((c .before .before .before .before .before .before .before .pre) .1))
+
+slice-aggregate-solve-with-3 : tie.Need-slice-aggregate-solve-with-3
+slice-aggregate-solve-with-3 c = sym (length-take-le _ _ (words-fit _ _ ((c .before .before .before .before .before .before .before .before .pre) .0) (count-small _ _ ((c .before .before .before .before .word-count) .ensures) ((c .before .before .before .before .before .before .before .before .pre) .1))))
 
 solve-with-requires : tie.Need-solve-with-requires
 solve-with-requires c κs =
-    let known = c .before .before .before in
-    let e = known .pow2 .ensures in
-    ((c .before .before .before .before .before .before .pre), (length-take-le _ _ (both-fit known) ∙ ap (λ k. 2 * k) e, length-take-le _ _ (fits known) ∙ e))
+    ((c .before .before .before .before .before .before .before .before .pre), (length-take-le _ _ (count-small _ _ ((c .before .before .before .before .word-count) .ensures) ((c .before .before .before .before .before .before .before .before .pre) .1)) ∙ (c .before .before .before .before .word-count) .ensures, length-take-le _ _ (count-small _ _ ((c .before .before .before .before .word-count) .ensures) ((c .before .before .before .before .before .before .before .before .pre) .1)) ∙ (c .before .before .before .before .word-count) .ensures, length-take-le _ _ (words-fit _ _ ((c .before .before .before .before .before .before .before .before .pre) .0) (count-small _ _ ((c .before .before .before .before .word-count) .ensures) ((c .before .before .before .before .before .before .before .before .pre) .1))) ∙ ap (λ (k : ℕ). (c .before .before .before .before .before .before .before .before .args) .u * k) ((c .before .before .before .before .word-count) .ensures)))
 
 pub solve-by-spec : {M : Type 1} → statement M
 solve-by-spec =
@@ -27,11 +41,13 @@ solve-by-spec =
     (tie.spec
     (λ c. search needs)
     (λ c κs. search needs)
-    (λ c. omega (arith, both-fit c))
-    (λ c. both-fit (c .before))
-    (λ c. sym (length-take-le _ _ (both-fit (c .before .before))))
-    (λ c. fits (c .before .before))
-    (λ c. sym (length-take-le _ _ (fits (c .before .before .before))))
+    mul-all
+    array-borrow-prefix-values
+    slice-aggregate-solve-with
+    array-borrow-prefix-used
+    slice-aggregate-solve-with-2
+    array-borrow-prefix-found
+    slice-aggregate-solve-with-3
     solve-with-requires
     (λ c. search needs)
     (λ c. search needs))

@@ -1,5 +1,4 @@
 -- `solver::solve_values` meets its contract. Assumes nothing.
-use native.Mathlib.Omega.{arith}
 use borrow.Author.Needs.{needs}
 use Rattle.solver.proofs.OnWords.{none-said, solved-said}
 use Rattle.solver.proofs.solve_values.Statement.{statement}

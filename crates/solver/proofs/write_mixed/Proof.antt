@@ -1,0 +1,94 @@
+-- `solver::write_mixed` meets its contract: the tables of the unknowns below x are written. Assumes nothing.
+use mathlib.Core.Path.{_≡_, sym, _∙_}
+use Prim.Native.Nat.{_≤_, _-_, _*_, _^_}
+use native.Mathlib.Nat.{zero-mul}
+use native.Mathlib.Omega.{arith}
+use borrow.Author.Needs.{needs}
+use lib.ListN.{length}
+use Rattle.ring.specs.Polynomial.{value}
+use Rattle.tables.proofs.Filled.{filled, filled-start}
+use Rattle.words.specs.Words.{bitAt}
+use Rattle.words.proofs.Words.{size-words}
+use Rattle.words.proofs.Parts.{part-fits, part-length}
+use Rattle.solver.specs.Words.{partValue, mixedValue}
+use Rattle.solver.proofs.Tables.{answerByte, tables-more, tables-done, mixed-table}
+use Rattle.solver.proofs.write_mixed.Statement.{statement}
+use Rattle.solver.proofs.write_mixed.Tie as tie
+
+abbrev Inv-loop : tie.InvT-loop
+Inv-loop u n values b own₀ answers₀ k size x₀ own answers x =
+    (x ≤ u) × (answers ≡ filled (x * size) (answerByte n (λ j. value n (mixedValue (bitAt values) (partValue (2 ^ (n - 6)) b j) j))) answers₀)
+    × (length answers ≡ length answers₀) × (length own ≡ length own₀)
+
+abbrev μ-loop : tie.MeasureT-loop
+μ-loop u n values b own₀ answers₀ k size x₀ own answers x = u - x
+
+mul-start : tie.Need-mul-start Inv-loop μ-loop
+mul-start c = omega (arith, part-fits _ _ _ _ _ ((c .before .before .before .word-count) .ensures) ((c .loop-test) .taken) ((c .before .before .before .before .before .before .before .before .pre) .3))
+
+add-end : tie.Need-add-end Inv-loop μ-loop
+add-end c = omega (arith, part-fits _ _ _ _ _ ((c .before .before .before .word-count) .ensures) ((c .loop-test) .taken) ((c .before .before .before .before .before .before .before .before .pre) .3))
+
+mul-from : tie.Need-mul-from Inv-loop μ-loop
+mul-from c = omega (arith, part-fits _ _ _ _ _ ((c .before .before .pow2) .ensures) ((c .loop-test) .taken) ((c .before .before .before .before .before .before .before .before .pre) .5))
+
+add-to : tie.Need-add-to Inv-loop μ-loop
+add-to c = omega (arith, part-fits _ _ _ _ _ ((c .before .before .pow2) .ensures) ((c .loop-test) .taken) ((c .before .before .before .before .before .before .before .before .pre) .5))
+
+mul-mix : tie.Need-mul-mix Inv-loop μ-loop
+mul-mix c = omega (arith, part-fits _ _ _ _ _ ((c .before .before .before .word-count) .ensures) ((c .loop-test) .taken) ((c .before .before .before .before .before .before .before .before .pre) .3))
+
+part-mix-end : tie.Need-part-mix-end Inv-loop μ-loop
+part-mix-end c = omega (arith, part-fits _ _ _ _ _ ((c .before .before .before .word-count) .ensures) ((c .loop-test) .taken) ((c .before .before .before .before .before .before .before .before .pre) .3))
+
+mix-requires : tie.Need-mix-requires Inv-loop μ-loop
+mix-requires c κs =
+    (omega (arith, (c .before .before .before .before .before .before .before .before .before .before .pre) .0, (c .before .before .loop-test) .taken), (c .before .before .before .before .before .before .before .before .before .before .pre) .2 ∙ sym ((c .before .before .before .loop) .inv .3 ∙ (c .before .before .before .before .before .before .before .before .before .before .pre) .4), part-length _ _ ((c .before .before .before .before .before .before .before .before .before .before .args) .b .now) (part-fits _ _ _ _ _ ((c .before .before .before .before .before .word-count) .ensures) ((c .before .before .loop-test) .taken) ((c .before .before .before .before .before .before .before .before .before .before .pre) .3)) ∙ (c .before .before .before .before .before .word-count) .ensures ∙ sym ((c .before .before .before .loop) .inv .3 ∙ (c .before .before .before .before .before .before .before .before .before .before .pre) .4))
+
+part-put-table-end : tie.Need-part-put-table-end Inv-loop μ-loop
+part-put-table-end c = omega (arith, part-fits _ _ _ _ _ ((c .before .before .before .before .before .before .before .before .pow2) .ensures) ((c .before .before .before .before .before .before .loop-test) .taken) ((c .before .before .before .before .before .before .before .before .before .before .before .before .before .before .pre) .5), (c .before .before .before .before .before .before .before .loop) .inv .2)
+
+put-table-requires : tie.Need-put-table-requires Inv-loop μ-loop
+put-table-requires c κs =
+    ((c .before .before .before .before .before .before .before .before .before .before .before .before .before .before .before .pre) .1, size-words _ _ _ ((c .before .before .before .before .mix) .ensures) ∙ (c .before .before .before .before .before .before .before .before .loop) .inv .3 ∙ (c .before .before .before .before .before .before .before .before .before .before .before .before .before .before .before .pre) .4, part-length _ _ _ (omega (arith, part-fits _ _ _ _ _ ((c .before .before .before .before .before .before .before .before .before .pow2) .ensures) ((c .before .before .before .before .before .before .before .loop-test) .taken) ((c .before .before .before .before .before .before .before .before .before .before .before .before .before .before .before .pre) .5), (c .before .before .before .before .before .before .before .before .loop) .inv .2)) ∙ (c .before .before .before .before .before .before .before .before .before .pow2) .ensures)
+
+loop-again : tie.Need-loop-again Inv-loop μ-loop
+loop-again c = (
+  search needs,
+  tables-more ((c .before .before .before .before .before .before .before .before .before .before .before .before .before .before .before .before .before .before .before .before .args) .n) _ _ _ _ _ _ _ ((c .before .before .before .before .before .before .before .before .before .before .before .before .before .before .pow2) .ensures) ((c .before .before .before .before .before .before .before .before .before .before .before .before .before .loop) .inv .1) ((c .before .before .before .before .put-table) .ensures)
+      (mixed-table ((c .before .before .before .before .before .before .before .before .before .before .before .before .before .before .before .before .before .before .before .before .args) .n) _ _ _ ((c .before .before .before .before .before .before .before .before .before .before .before .before .before .before .before .before .before .before .before .before .args) .values .now) ((c .before .before .before .before .before .before .before .before .before .before .before .before .before .before .before .before .before .before .before .before .args) .b .now) _ ((c .before .before .before .before .before .before .before .before .before .before .before .before .before .before .before .word-count) .ensures) ((c .before .before .before .before .before .before .before .before .before .before .before .before .before .loop) .inv .3 ∙ (c .before .before .before .before .before .before .before .before .before .before .before .before .before .before .before .before .before .before .before .before .pre) .4) ((c .before .before .before .before .before .before .before .before .before .mix) .ensures)),
+  search needs,
+  search needs,
+)
+
+returns : tie.Need-returns Inv-loop μ-loop
+returns c = tables-done ((c .before .before .before .before .before .before .before .before .args) .n) _ _ _ _ ((c .before .before .before .before .before .before .before .before .args) .answers .now) _ ((c .before .before .pow2) .ensures) (omega (arith, (c .before .loop) .inv .0, (c .loop-test) .left)) ((c .before .before .before .before .before .before .before .before .pre) .5) ((c .before .loop) .inv .1)
+
+pub write-mixed-spec : {M : Type 1} → statement M
+write-mixed-spec =
+    tie.close
+    (tie.spec
+    Inv-loop
+    μ-loop
+    (λ c κs. search needs)
+    (λ c κs. search needs)
+    (λ c. (search needs, filled-start _ _ _ (zero-mul (c .pow2 .result)), search needs, search needs))
+    mul-start
+    add-end
+    mul-from
+    add-to
+    mul-mix
+    (λ c. search needs)
+    (λ c. search needs)
+    part-mix-end
+    mix-requires
+    (λ c. search needs)
+    (λ c. search needs)
+    part-put-table-end
+    put-table-requires
+    (λ c. search needs)
+    (λ c. search needs)
+    loop-again
+    (λ c. search needs)
+    (λ c. search needs)
+    returns)
