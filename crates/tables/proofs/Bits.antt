@@ -8,7 +8,7 @@ use native.Mathlib.Numerals.{add-one}
 use native.Mathlib.Decide.{decLt}
 use native.Mathlib.Omega.{arith}
 use lib.Dec.{eqb, leb}
-use lib.Bits.{bitAnd, bitOr, bitXor, or-lt, or-add-and, and-le-l, and-le-r}
+use lib.Bits.{bitOr, bitXor, or-lt, or-add-and, and-le-l, and-le-r}
 use lib.ListN.{length, getD, take, drop, length-take, List·getD-eq-default}
 use lib.Seq.{take-suc, take-length, getD-take, getD-drop}
 use borrow.Author.Tests.{le-leb, leb-true}
@@ -26,13 +26,6 @@ xor-bytes (suc zero) zero ha hb = refl
 xor-bytes (suc zero) (suc zero) ha hb = refl
 xor-bytes (suc zero) (suc (suc b)) ha hb = absurd (omega arith)
 xor-bytes (suc (suc a)) b ha hb = absurd (omega arith)
-
-pub and-bytes : (a b : ℕ) → a < 2 → b < 2 → bitAnd a b ≡ digit (eqb a 1 && eqb b 1)
-and-bytes zero b ha hb = refl
-and-bytes (suc zero) zero ha hb = refl
-and-bytes (suc zero) (suc zero) ha hb = refl
-and-bytes (suc zero) (suc (suc b)) ha hb = absurd (omega arith)
-and-bytes (suc (suc a)) b ha hb = absurd (omega arith)
 
 pub byte-digit : (a : ℕ) → a < 2 → a ≡ digit (eqb a 1)
 byte-digit zero h = refl

@@ -1,4 +1,3 @@
 pub mod Questions
 pub mod Reply
-pub mod Steps
 pub mod Put

@@ -1,15 +1,13 @@
-// The shared bottom of the calls: the questions on letters and buffers, and work on lent tables of bytes.
+// The shared bottom of the calls: the questions on letters and buffers, and the copy and the sum of lent tables of bytes.
 // Nothing here is a public call of the library. The functions with a `requires` are for the crates above, which ask the questions first
 // and then lend slices of exactly the length that is needed.
 ghost use mathlib.Core.Path.{_≡_};
-ghost use mathlib.Core.Bool.{_&&_};
 ghost use mathlib.Core.List.{[], _∷_};
-ghost use Prim.Native.Nat.{_+_, _*_, _^_, _≤_, _<_};
+ghost use Prim.Native.Nat.{_+_, _^_, _≤_};
 ghost use lib.ListN.{length};
-ghost use Rattle.ring.specs.Polynomial.{value, sum};
-ghost use Rattle.ring.specs.Table.{AreBits, IsTable, present, tabulate, values, held, answerTable};
+ghost use Rattle.ring.specs.Polynomial.{sum};
+ghost use Rattle.ring.specs.Table.{AreBits, present, tabulate};
 ghost use Rattle.tables.specs.Questions.{firstNo, lettersFit, areBits, holdsBits, tableQuestions, reads, writes};
-ghost use Rattle.tables.specs.Steps.{stepped, xorRun};
 
 // The questions of document 01 that are asked here and in the crates above, by number.
 pub const LETTERS: u8 = 1; // Are U at most 6, G at most 8, n at most 10?
@@ -143,96 +141,5 @@ pub fn add_into(d: &mut [u8], s: &[u8])
 {
     for i in 0..d.len() {
         d[i] = d[i] ^ s[i];
-    }
-}
-
-// The product of two tables of values, point by point.
-pub fn multiply_into(d: &mut [u8], s: &[u8])
-    requires { ⌜ (length (now d) ≡ length (now s)) × AreBits (now d) × AreBits (now s) ⌝ }
-    ensures { λ _. ⌜ now (d .exit) ≡ tabulate (length (now (d .entry))) (λ p. present (now (d .entry)) p && present (now (s .entry)) p) ⌝ }
-{
-    for i in 0..d.len() {
-        d[i] = d[i] & s[i];
-    }
-}
-
-// A block of a step: w bytes, each added to the one w behind it.
-fn add_block(t: &mut [u8], lo: usize, w: usize)
-    requires { ⌜ lo + w + w ≤ length (now t) ⌝ }
-    ensures { λ _. ⌜ now (t .exit) ≡ xorRun (now (t .entry)) lo w w ⌝ }
-{
-    for i in 0..w {
-        let p = lo + w + i;
-        t[p] = t[p] ^ t[lo + i];
-    }
-}
-
-// One letter's step, in blocks of two times w, which the caller may give as a literal.
-fn step_by(t: &mut [u8], j: usize, w: usize, n: usize)
-    requires { ⌜ (j < n) × (n ≤ 10) × IsTable n (now t) × (w ≡ 2 ^ j) ⌝ }
-    ensures { λ _. ⌜ now (t .exit) ≡ tabulate (2 ^ n) (stepped (present (now (t .entry))) j) ⌝ }
-{
-    let blocks = pow2(n - j - 1);
-    for b in 0..blocks {
-        add_block(t, 2 * b * w, w);
-    }
-}
-
-// A literal width for each of the lowest letters, so that each becomes a loop of vectors.
-fn step(t: &mut [u8], j: usize, n: usize)
-    requires { ⌜ (j < n) × (n ≤ 10) × IsTable n (now t) ⌝ }
-    ensures { λ _. ⌜ now (t .exit) ≡ tabulate (2 ^ n) (stepped (present (now (t .entry))) j) ⌝ }
-{
-    if j == 0 {
-        step_by(t, 0, 1, n);
-        return;
-    }
-    if j == 1 {
-        step_by(t, 1, 2, n);
-        return;
-    }
-    if j == 2 {
-        step_by(t, 2, 4, n);
-        return;
-    }
-    if j == 3 {
-        step_by(t, 3, 8, n);
-        return;
-    }
-    let w = pow2(j);
-    step_by(t, j, w, n);
-}
-
-// From coefficients to values, or back, in place: the last letter first.
-pub fn to_values(t: &mut [u8], n: usize)
-    requires { ⌜ (n ≤ 10) × IsTable n (now t) ⌝ }
-    ensures { λ _. ⌜ now (t .exit) ≡ values n (now (t .entry)) ⌝ }
-{
-    let mut j = n;
-    while 0 < j {
-        j -= 1;
-        step(t, j, n);
-    }
-}
-
-// The values of a table, into a buffer of its own.
-pub fn take_values(n: usize, t: &[u8], out: &mut [u8])
-    requires { ⌜ (n ≤ 10) × IsTable n (now t) × (length (now out) ≡ 2 ^ n) ⌝ }
-    ensures { λ _. ⌜ now (out .exit) ≡ values n (now (t .entry)) ⌝ }
-{
-    copy(out, t);
-    to_values(out, n);
-}
-
-// The values in place for each of `count` tables that stand one after another.
-pub fn all_to_values(t: &mut [u8], n: usize, count: usize)
-    requires { ⌜ (n ≤ 10) × (count ≤ 6) × (length (now t) ≡ count * 2 ^ n) × AreBits (now t) ⌝ }
-    ensures { λ _. ⌜ now (t .exit) ≡ answerTable count n (λ j. value n (held n (now (t .entry)) j)) ⌝ }
-{
-    let k = pow2(n);
-    for j in 0..count {
-        let start = j * k;
-        let end = start + k;
-        to_values(&mut t[start..end], n);
     }
 }

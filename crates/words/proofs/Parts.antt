@@ -1,20 +1,20 @@
 -- Parts of k words that stand one after another, each put in its turn.
 -- Assumes nothing.
-use mathlib.Core.Path.{_≡_, refl, sym, ap, ap₂, _∙_}
+use mathlib.Core.Path.{_≡_, sym, ap, ap₂, _∙_}
 use mathlib.Core.Bool.{Bool}
-use mathlib.Core.List.{List, _++_, append-assoc}
-use Prim.Native.Nat.{ℕ, zero, suc, _+_, _-_, _*_, _/_, _%_, _≤_, _<_}
+use mathlib.Core.List.{List, append-assoc}
+use Prim.Native.Nat.{ℕ, _+_, _-_, _*_, _/_, _%_, _≤_, _<_}
 use native.Mathlib.Decide.{decLt}
 use native.Mathlib.Nat.{add-mul, one-mul, mul-assoc, mul-comm, mul-le-mul-right, mod-lt, div-add-mod'}
 use native.Mathlib.Omega.{arith}
 use lib.Arith.{digits-lt, digits-div, digits-mod}
-use lib.ListN.{length, getD, take, drop, length-drop}
+use lib.ListN.{length, take, drop, length-drop}
 use lib.Seq.{take-at, drop-at, drop-drop, length-take-le}
 use borrow.Rule.Slice.PartMut.{putMid}
 use Rattle.ring.specs.Lists.{listed}
 use Rattle.ring.proofs.Lists.{length-listed, listed-add}
 use Rattle.tables.proofs.Filled.{filled, filled-all}
-use Rattle.words.specs.Words.{wordOf, wordsOf, bitAt, answerWords}
+use Rattle.words.specs.Words.{wordOf, bitAt, answerWords}
 use Rattle.words.proofs.Words.{words-listed, word-cong, at-known}
 
 -- one more part of k elements put

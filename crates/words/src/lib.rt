@@ -9,8 +9,7 @@ ghost use lib.ListN.{length, getD};
 ghost use Rattle.ring.specs.Letters.{digit, bit, assign};
 ghost use Rattle.ring.specs.Polynomial.{_⊕_, count, value};
 ghost use Rattle.ring.specs.Table.{AreBits, IsTable, present, tabulate, table};
-ghost use Rattle.tables.specs.Steps.{stepped, xorRun};
-ghost use Rattle.words.specs.Words.{wordOf, wordsOf, bitAt, First, lowLetters, steppedBelow, turned, spreadOf};
+ghost use Rattle.words.specs.Words.{wordOf, wordsOf, bitAt, First, lowLetters, stepped, steppedBelow, xorRun, turned, spreadOf};
 
 // The number of words of n letters.
 pub fn word_count(n: usize) -> usize
