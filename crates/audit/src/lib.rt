@@ -6,9 +6,9 @@ ghost use Prim.Native.Nat.{ℕ, _+_, _*_, _^_};
 ghost use lib.ListN.{length};
 ghost use Rattle.tables.specs.Questions.{firstNo};
 ghost use Rattle.solution.specs.Elimination.{solved, none};
-ghost use Rattle.entry.specs.Held.{records};
+ghost use Rattle.entry.specs.Held.{records, heldVerdict};
 ghost use Rattle.entry.specs.Questions.{entryQuestions, sameBytes, sameVerdict, answersHold};
-ghost use Rattle.records.specs.Headings.{headingOf};
+ghost use Rattle.records.specs.Headings.{headingOf, said};
 ghost use Rattle.solver.specs.Methods.{verdict};
 ghost use Rattle.audit.specs.Audit.{auditReply, audited};
 use records::Heading;
@@ -61,30 +61,28 @@ fn same_state(held: State, afresh: Verdict) -> bool
 fn answers_hold(
     bytes: &[u8],
     heading: Heading,
+    told: Said,
     condition: &mut [u8],
     held: &mut [u8],
     fresh: &mut [u8],
 ) -> bool
-    requires { ⌜ (firstNo (entryQuestions (records (now bytes))) ≡ 0) × (heading ≡ headingOf (records (now bytes))) ⌝ }
+    requires { ⌜ (firstNo (entryQuestions (records (now bytes))) ≡ 0) × (heading ≡ headingOf (records (now bytes))) × (told ≡ said (heldVerdict (records (now bytes)))) ⌝ }
     requires { ⌜ (length (now condition) ≡ 2 ^ (heading .unknowns + heading .givens)) × (length (now held) ≡ heading .unknowns * 2 ^ (heading .unknowns + heading .givens)) × (length (now fresh) ≡ heading .unknowns * 2 ^ (heading .unknowns + heading .givens)) ⌝ }
     ensures { λ r. ⌜ r ≡ answersHold (records (now (bytes .entry))) ⌝ }
 {
     let u = heading.unknowns;
     let g = heading.givens;
-    reader::fill_condition(bytes, u, g, condition);
+    reader::fill_tables(bytes, u, g, condition, held);
     let afresh = solver::solve(u, g, condition, fresh);
-    match records::said_by(bytes) {
-        Said::Solved => {
-            reader::fill_answers(bytes, u, g, held);
-            same_answers(held, afresh, fresh)
-        }
+    match told {
+        Said::Solved => same_answers(held, afresh, fresh),
         Said::None(state) => same_state(state, afresh),
     }
 }
 
 // The scratch tables live here: the condition, the answers held and those solved afresh.
-fn holds_afresh(bytes: &[u8], heading: Heading) -> bool
-    requires { ⌜ (firstNo (entryQuestions (records (now bytes))) ≡ 0) × (heading ≡ headingOf (records (now bytes))) ⌝ }
+fn holds_afresh(bytes: &[u8], heading: Heading, told: Said) -> bool
+    requires { ⌜ (firstNo (entryQuestions (records (now bytes))) ≡ 0) × (heading ≡ headingOf (records (now bytes))) × (told ≡ said (heldVerdict (records (now bytes)))) ⌝ }
     ensures { λ r. ⌜ r ≡ answersHold (records (now (bytes .entry))) ⌝ }
 {
     let u = heading.unknowns;
@@ -96,6 +94,7 @@ fn holds_afresh(bytes: &[u8], heading: Heading) -> bool
     answers_hold(
         bytes,
         heading,
+        told,
         &mut condition[..k],
         &mut held[..all],
         &mut fresh[..all],
@@ -106,13 +105,14 @@ fn holds_afresh(bytes: &[u8], heading: Heading) -> bool
 pub fn audit(bytes: &[u8]) -> Audited
     ensures { λ r. ⌜ audited r ≡ auditReply (now (bytes .entry)) ⌝ }
 {
-    let refusal = records::entry_refusal(bytes);
-    if refusal != 0 {
-        return Audited::Refused(refusal);
+    let survey = records::survey_entry(bytes);
+    if survey.refusal != 0 {
+        return Audited::Refused(survey.refusal);
     }
-    let heading = records::heading_of(bytes);
-    if !holds_afresh(bytes, heading) {
+    let heading = survey.heading;
+    let told = survey.said;
+    if !holds_afresh(bytes, heading, told) {
         return Audited::Refused(tables::SOLVED);
     }
-    Audited::Passed(heading, records::said_by(bytes))
+    Audited::Passed(heading, told)
 }

@@ -7,11 +7,12 @@ use Prim.Native.Nat.{ℕ, _+_, _*_, _^_, _≤_, _<_}
 use native.Mathlib.Nat.{one-mul}
 use native.Mathlib.Omega.{arith}
 use lib.Dec.{leb}
-use lib.ListN.{length, drop}
+use lib.ListN.{length, take, drop, length-append, take-append-drop}
+use lib.Seq.{length-take-le, take-append-seam, drop-append-seam}
 use borrow.Author.Tests.{le-leb, lt-leb}
 use Rattle.ring.specs.declared.State.{State}
-use Rattle.ring.specs.Table.{table, answerTable}
-use Rattle.ring.proofs.Table.{length-table, length-answerTable}
+use Rattle.ring.specs.Table.{tabulate, table, answerTable}
+use Rattle.ring.proofs.Table.{length-tabulate, length-table, length-answerTable}
 use Rattle.tables.specs.Questions.{firstNo, lettersFit, hasRoom, haveRoom}
 use Rattle.tables.specs.Reply.{accepted, after}
 use Rattle.tables.proofs.FirstNo.{first-counts}
@@ -30,7 +31,46 @@ use Rattle.reader.specs.declared.Read.the-variants.{Solved, None, Refuse
 use Rattle.records.specs.declared.Said.{Said}
 use Rattle.records.specs.declared.Said.the-variants as said-variants
 use Rattle.reader.specs.Reading.{readRefusal, readValues, stateOf, answersOf, heldAnswers}
-use Rattle.reader.specs.Filling.{Fitting, Reads}
+use Rattle.reader.specs.Filling.{zeros, putMonomial, filled, roomFor, Fitting, Reads}
+use Rattle.reader.proofs.Filling.{filled-condition, filled-answers, filled-nothing}
+
+-- ---- a buffer whose front was cleared
+front-is : (k : ℕ) (front rest : List ℕ) → front ≡ zeros k → take k (front ++ rest) ≡ zeros k
+front-is k front rest e = rw e (ap (λ (i : ℕ). take i (zeros k ++ rest)) (sym (length-tabulate k (λ i. false))) ∙ take-append-seam (zeros k) rest)
+
+rest-is : (k : ℕ) (front rest : List ℕ) → front ≡ zeros k → drop k (front ++ rest) ≡ rest
+rest-is k front rest e = rw e (ap (λ (i : ℕ). drop i (zeros k ++ rest)) (sym (length-tabulate k (λ i. false))) ∙ drop-append-seam (zeros k) rest)
+
+no-zeros : zeros 0 ≡ []
+unfolding tabulate
+no-zeros = refl
+
+-- ---- the part of a buffer that is lent
+pub part-long : (k : ℕ) (l : List ℕ) → k ≤ length l → k ≡ length (take k l)
+part-long k l h = sym (length-take-le k l h)
+
+-- a part once more, when the first j bytes have been cleared
+module _ (j : ℕ) (c c₁ : List ℕ) (e : c₁ ≡ zeros (length (take j c))) where
+  again-whole : length (c₁ ++ drop j c) ≡ length c
+  again-whole =
+      let h : length c₁ ≡ length (take j c) = ap length e ∙ length-tabulate (length (take j c)) (λ i. false) in
+      length-append c₁ (drop j c) ∙ ap (λ (i : ℕ). i + length (drop j c)) h ∙ sym (length-append (take j c) (drop j c)) ∙ ap length (take-append-drop j c)
+
+  pub again-fits : {k : ℕ} → k ≤ length c → k ≤ length (c₁ ++ drop j c)
+  again-fits l = rw again-whole l
+
+  pub again-long : (k : ℕ) → k ≤ length c → k ≡ length (take k (c₁ ++ drop j c))
+  again-long k l = part-long k (c₁ ++ drop j c) (again-fits l)
+
+  pub again-size : (k : ℕ) {n : ℕ} → k ≤ length c → k ≡ n → length (take k (c₁ ++ drop j c)) ≡ n
+  again-size k l f = sym (again-long k l) ∙ f
+
+pub room-fits : (v : Said) {room size : ℕ} (l : ℕ) → room ≡ roomFor v size → size ≤ l → room ≤ l
+room-fits v {room} {size} l e h = rw e (go v)
+  where
+    go : (v : Said) → roomFor v size ≤ l
+    go said-variants.Solved = h
+    go (said-variants.None state) = omega arith
 
 -- ---- refused before question 4
 pub read-refused : (bs c a : List ℕ) {q : ℕ} → q ≡ firstNo (entryQuestions (records bs)) → (q ≡ 0 → ⊥) → Reads bs c a (Refused q) c a
@@ -83,14 +123,14 @@ module _ (bs : List ℕ) (p : firstNo (entryQuestions (records bs)) ≡ 0) {h : 
   size-small ek = answers-fit heading-unknowns ek heading-small
 
   module _ (c a : List ℕ) {k : ℕ} (ek : k ≡ 2 ^ (h .unknowns + h .givens)) where
-    room : Bool
-    room = leb k (length c) && leb (h .unknowns * k) (length a)
+    roomy : Bool
+    roomy = leb k (length c) && leb (h .unknowns * k) (length a)
 
-    refusal : readRefusal bs (length c) (length a) ≡ cond room 0 4
-    unfolding room
+    refusal : readRefusal bs (length c) (length a) ≡ cond roomy 0 4
+    unfolding roomy
     refusal = then-4 bs p (sym of-u) (sym of-g) (length c) (length a) ∙ rw (← ek)
 
-    short : room ≡ false → Reads bs c a (Refused 4) c a
+    short : roomy ≡ false → Reads bs c a (Refused 4) c a
     short e =
         let f : 4 ≡ readRefusal bs (length c) (length a) = sym (refusal ∙ rw e) in
         let n : (_≡_ {A = ℕ} 4 0 → ⊥) = λ z. omega arith in
@@ -101,46 +141,67 @@ module _ (bs : List ℕ) (p : firstNo (entryQuestions (records bs)) ≡ 0) {h : 
         }
 
     pub read-short : length c < k → Reads bs c a (Refused 4) c a
-    unfolding room
+    unfolding roomy
     read-short l = short (rw (lt-leb k (length c) l))
 
     module _ (l : k ≤ length c) where
       pub read-few : length a < h .unknowns * k → Reads bs c a (Refused 4) c a
-      unfolding room
+      unfolding roomy
       read-few m = short (rw (le-leb k (length c) l, lt-leb (h .unknowns * k) (length a) m))
 
-      module _ (m : h .unknowns * k ≤ length a) {c₁ : List ℕ} (ec : c₁ ≡ table (h .unknowns + h .givens) (conditionIn (records bs))) {v : Said} (ev : v ≡ said (heldVerdict (records bs))) where
+      -- cleared, filled from the records, and back in place
+      module _ (m : h .unknowns * k ≤ length a) {v : Said} (ev : v ≡ said (heldVerdict (records bs))) {room : ℕ} (er : room ≡ roomFor v (h .unknowns * k)) {c₁ c₂ a₁ a₂ : List ℕ}
+          (ec₁ : c₁ ≡ zeros (length (take k c)))
+          (ec₂ : c₂ ≡ filled (putMonomial 0 (2 ^ (h .unknowns + h .givens))) (records bs) (take k (c₁ ++ drop k c)))
+          (ea₁ : a₁ ≡ zeros (length (take room a)))
+          (ea₂ : a₂ ≡ filled (putMonomial 1 (2 ^ (h .unknowns + h .givens))) (records bs) (take room (a₁ ++ drop room a))) where
         done : 0 ≡ readRefusal bs (length c) (length a)
-        unfolding room
+        unfolding roomy
         done = sym (refusal ∙ rw (le-leb k (length c) l, le-leb (h .unknowns * k) (length a) m))
 
-        condition-done : c₁ ++ drop k c ≡ after (readRefusal bs (length c) (length a)) (heldCondition (records bs)) c
+        cleared-c : c₁ ≡ zeros k
+        cleared-c = ec₁ ∙ ap zeros (length-take-le k c l)
+
+        condition-is : c₂ ≡ table (h .unknowns + h .givens) (conditionIn (records bs))
+        condition-is =
+            filled-condition (h .unknowns) (h .givens) (records bs) heading-fits k {t₁ = take k (c₁ ++ drop k c)} (front-is k c₁ (drop k c) cleared-c) ec₂ ek
+
+        condition-done : c₂ ++ drop k (c₁ ++ drop k c) ≡ after (readRefusal bs (length c) (length a)) (heldCondition (records bs)) c
         unfolding heldCondition
         condition-done =
-            after-done 0 _ done (heldCondition (records bs)) c k c₁ refl (ec ∙ rw (of-u, of-g))
+            ap (λ (z : List ℕ). c₂ ++ z) (rest-is k c₁ (drop k c) cleared-c)
+            ∙ after-done 0 _ done (heldCondition (records bs)) c k c₂ refl (condition-is ∙ rw (of-u, of-g))
             (ek ∙ rw (of-u, of-g) (sym (length-table (unknownsOf (records bs) + givensOf (records bs)) (conditionIn (records bs)))))
 
         values : {given : List ℕ} → stateOf (heldVerdict (records bs)) ≡ given → (h .route ∷ h .unknowns ∷ h .givens ∷ h .used ∷ given) ≡ readValues (records bs)
         unfolding readValues headingOf lengthUsed
         values e = rw (eh, held .whole, e)
 
-        pub read-none : {state : State} → v ≡ said-variants.None state → Reads bs c a (None h state) (c₁ ++ drop k c) a
+        pub read-none : {state : State} → v ≡ said-variants.None state → Reads bs c a (None h state) (c₂ ++ drop k (c₁ ++ drop k c)) (a₂ ++ drop room (a₁ ++ drop room a))
         unfolding heldAnswers
         read-none {state} s =
             let w : heldVerdict (records bs) ≡ none state = said-none (heldVerdict (records bs)) state (sym ev ∙ s) in
+            let z : room ≡ 0 = er ∙ ap (λ (x : Said). roomFor x (h .unknowns * k)) s in
+            let a₁-none : a₁ ≡ [] = ea₁ ∙ rw z no-zeros in
+            let a₂-none : a₂ ≡ [] = ea₂ ∙ rw z (filled-nothing 1 (2 ^ (h .unknowns + h .givens)) (records bs)) in
             record {
               answer = ap accepted (values (ap stateOf w)) ∙ reply-accepted 0 _ done (readValues (records bs)) refl;
               condition = condition-done;
-              answers = after-done 0 _ done (heldAnswers (records bs)) a 0 [] refl (sym (ap answersOf w)) (sym (ap (λ (x : Verdict (List ℕ)). length (answersOf x)) w));
+              answers = rw (z, a₁-none, a₂-none) (after-done 0 _ done (heldAnswers (records bs)) a 0 [] refl (sym (ap answersOf w)) (sym (ap (λ (x : Verdict (List ℕ)). length (answersOf x)) w)));
             }
 
-        pub read-solved : v ≡ said-variants.Solved → {a₁ : List ℕ} → a₁ ≡ answerTable (h .unknowns) (h .unknowns + h .givens) (answersIn (records bs)) → Reads bs c a (Solved h) (c₁ ++ drop k c) (a₁ ++ drop (h .unknowns * k) a)
+        pub read-solved : v ≡ said-variants.Solved → Reads bs c a (Solved h) (c₂ ++ drop k (c₁ ++ drop k c)) (a₂ ++ drop room (a₁ ++ drop room a))
         unfolding heldAnswers heldVerdict
-        read-solved s {a₁} ea =
+        read-solved s =
             let w : heldVerdict (records bs) ≡ solved (answerTable (unknownsOf (records bs)) (unknownsOf (records bs) + givensOf (records bs)) (answersIn (records bs))) = said-solved _ (records bs) (sym ev ∙ s) in
+            let z : room ≡ h .unknowns * k = er ∙ ap (λ (x : Said). roomFor x (h .unknowns * k)) s in
+            let fits : room ≤ length a = rw z m in
+            let cleared-a : a₁ ≡ zeros room = ea₁ ∙ ap zeros (length-take-le room a fits) in
+            let is : a₂ ≡ answerTable (h .unknowns) (h .unknowns + h .givens) (answersIn (records bs)) = filled-answers (h .unknowns) (h .givens) (records bs) heading-fits room (front-is room a₁ (drop room a) cleared-a) ea₂ (z ∙ ap (λ (x : ℕ). h .unknowns * x) ek) in
             record {
               answer = ap accepted (values (ap stateOf w)) ∙ reply-accepted 0 _ done (readValues (records bs)) refl;
               condition = condition-done;
-              answers = after-done 0 _ done (heldAnswers (records bs)) a (h .unknowns * k) a₁ refl (ea ∙ rw (of-u, of-g) (sym (ap answersOf w)))
-                  (rw (ek, of-u, of-g) (sym (ap (λ (x : Verdict (List ℕ)). length (answersOf x)) w ∙ length-answerTable (unknownsOf (records bs)) (unknownsOf (records bs) + givensOf (records bs)) (answersIn (records bs)))));
+              answers = ap (λ (y : List ℕ). a₂ ++ y) (rest-is room a₁ (drop room a) cleared-a)
+                  ∙ after-done 0 _ done (heldAnswers (records bs)) a room a₂ refl (is ∙ rw (of-u, of-g) (sym (ap answersOf w)))
+                  (z ∙ rw (ek, of-u, of-g) (sym (ap (λ (x : Verdict (List ℕ)). length (answersOf x)) w ∙ length-answerTable (unknownsOf (records bs)) (unknownsOf (records bs) + givensOf (records bs)) (answersIn (records bs)))));
             }

@@ -5,79 +5,113 @@ use mathlib.Core.Bool.{Bool, true, false, cond, _&&_, _||_}
 use mathlib.Core.List.{List, [], _∷_}
 use mathlib.Core.Logic.{_⊎_, inl, inr}
 use Prim.Native.Nat.{ℕ, suc, _+_, _-_, _*_, _/_, _%_, _^_, _≤_, _<_}
-use native.Mathlib.Nat.{zero-add, div-add-mod', div-eq-of-lt, mod-eq-of-lt}
+use native.Mathlib.Nat.{zero-add, add-mul, mul-le-mul, div-add-mod', div-eq-of-lt, mod-eq-of-lt}
 use native.Mathlib.Omega.{arith}
-use lib.Dec.{leb, eqb}
+use lib.Dec.{leb, ltb, eqb}
 use lib.Arith.{digits-div, digits-mod}
+use lib.Pow.{pow-mono}
 use lib.ListN.{length, getD, drop, set, length-set}
-use lib.Seq.{ext-getD, getD-set-same, getD-set-other}
-use borrow.Author.Tests.{le-leb, lt-leb, leb-true, leb-false, eq-eqb, ne-eqb, eqb-true, eqb-false}
+use lib.Seq.{ext-getD, getD-set-same, getD-set-other, set-out}
+use borrow.Author.Tests.{le-leb, ltb-true, leb-true, leb-false, eq-eqb, ne-eqb, eqb-true, eqb-false}
 use Rattle.ring.specs.Letters.{digit}
 use Rattle.ring.specs.Table.{tabulate, table, answerTable}
 use Rattle.ring.proofs.Bool.{bool-iff, and-left, and-right, both, bool-cases}
 use Rattle.ring.proofs.Table.{length-tabulate, getD-tabulate, tabulate-cong}
-use Rattle.tables.proofs.Parts.{answers-fit}
 use Rattle.entry.specs.declared.Record.{Record}
+use Rattle.entry.specs.declared.Record.the-variants.{Start, Condition, Answer, End, None, Broken}
 use Rattle.entry.specs.Record.{size, kind, isEnd, isMonomial, maskIn, tableIn}
 use Rattle.entry.specs.Held.{next, records, hasMonomial, conditionIn, answersIn}
 use Rattle.entry.specs.Questions.{inBounds}
 use Rattle.entry.specs.Places.{placeOf, fitsBehind}
 use Rattle.entry.proofs.Records.{records-none, here-none, here}
-use Rattle.entry.proofs.Places.{mask-in-bounds, table-in-bounds}
+use Rattle.entry.proofs.Places.{mask-in-bounds}
 use Rattle.entry.proofs.Unique.{fits-bounds, fits-rest}
+use Rattle.records.proofs.Loops.{on-fits}
 use Rattle.reader.specs.Filling.{zeros, putMonomial, filled, Fitting}
 
 -- ---- one record
-module _ (base k : ℕ) (r : Record) (t : List ℕ) where
-  pub put-other : {b : Bool} → b ≡ isMonomial r → b ≡ false → t ≡ putMonomial base k r t
+module _ (k : ℕ) {r : Record} (t : List ℕ) where
+  -- one without a monomial
+  pub put-start : (base : ℕ) {route u g : ℕ} → r ≡ Start route u g → t ≡ putMonomial base k r t
   unfolding putMonomial
-  put-other e f = let h : isMonomial r ≡ false = sym e ∙ f in rw h
+  put-start base e = rw e
 
-  pub put-before : {i : ℕ} → i ≡ tableIn r → i < base → t ≡ putMonomial base k r t
+  pub put-end : (base : ℕ) {route : ℕ} → r ≡ End route → t ≡ putMonomial base k r t
   unfolding putMonomial
-  put-before {i} e l = let h : leb base (tableIn r) ≡ false = rw (← e) (lt-leb base i l) in rw h (sym (ap (λ (b : Bool). cond b (set t ((tableIn r - base) * k + maskIn r) 1) t) (never-both (isMonomial r))))
-    where
-      never-both : (b : Bool) → (b && false) ≡ false
-      never-both true = refl
-      never-both false = refl
+  put-end base e = rw e
 
-  pub put-here : {b : Bool} {i m w : ℕ} {t′ : List ℕ} → b ≡ isMonomial r → b ≡ true → i ≡ tableIn r → base ≤ i → m ≡ maskIn r → w ≡ k → t′ ≡ set t ((i - base) * w + m) 1 → t′ ≡ putMonomial base k r t
+  pub put-none : (base : ℕ) {state : ℕ} → r ≡ None state → t ≡ putMonomial base k r t
   unfolding putMonomial
-  put-here e f ei l em ew et =
-      let h : isMonomial r ≡ true = sym e ∙ f in
-      et ∙ rw (h, ← ei, le-leb _ _ l, ← em, ew)
+  put-none base e = rw e
 
-  pub length-put : length (putMonomial base k r t) ≡ length t
+  pub put-broken : (base : ℕ) → r ≡ Broken → t ≡ putMonomial base k r t
   unfolding putMonomial
-  length-put = go (isMonomial r && leb base (tableIn r))
-    where
-      go : (b : Bool) → length (cond b (set t ((tableIn r - base) * k + maskIn r) 1) t) ≡ length t
-      go true = length-set t ((tableIn r - base) * k + maskIn r) 1
-      go false = refl
+  put-broken base e = rw e
+
+  -- one of the condition
+  pub put-condition : {m : ℕ} {t′ : List ℕ} → r ≡ Condition m → t′ ≡ set t m 1 → t′ ≡ putMonomial 0 k r t
+  unfolding putMonomial
+  put-condition {m} e et = let f : 0 * k + m ≡ m = (omega arith) in et ∙ rw (e, f)
+
+  pub condition-apart : {m : ℕ} → r ≡ Condition m → t ≡ putMonomial 1 k r t
+  unfolding putMonomial
+  condition-apart e = rw e
+
+  -- one of an answer, which lies past the condition's end
+  pub put-answer : {j m w : ℕ} {t′ : List ℕ} → r ≡ Answer j m → w ≡ k → t′ ≡ set t (j * w + m) 1 → t′ ≡ putMonomial 1 k r t
+  unfolding putMonomial
+  put-answer {j} e ew et =
+      let f : suc j - 1 ≡ j = (omega arith) in
+      let b : leb 1 (suc j) ≡ true = le-leb 1 (suc j) (omega arith) in
+      et ∙ rw (e, b, f, ew)
+
+  pub answer-apart : {j m w : ℕ} → r ≡ Answer j m → w ≡ k → length t ≡ w → t ≡ putMonomial 0 k r t
+  unfolding putMonomial
+  answer-apart {j} {m} e ew l =
+      let f : suc j - 0 ≡ j + 1 = (omega arith) in
+      let b : leb 0 (suc j) ≡ true = le-leb 0 (suc j) (omega arith) in
+      let past : length t ≤ (j + 1) * k + m = (omega (arith, add-mul j 1 k)) in
+      rw (e, b, f) (sym (set-out t ((j + 1) * k + m) 1 past))
+
+pub length-put : (base k : ℕ) (r : Record) (t : List ℕ) → length (putMonomial base k r t) ≡ length t
+unfolding putMonomial
+length-put base k r t = go (isMonomial r && leb base (tableIn r))
+  where
+    go : (b : Bool) → length (cond b (set t ((tableIn r - base) * k + maskIn r) 1) t) ≡ length t
+    go true = length-set t ((tableIn r - base) * k + maskIn r) 1
+    go false = refl
+
+pub put-long : (base k : ℕ) (r : Record) (t : List ℕ) {t′ : List ℕ} → t′ ≡ putMonomial base k r t → length t′ ≡ length t
+put-long base k r t e = ap length e ∙ length-put base k r t
 
 -- the byte's index is small
-pub put-small : (base u g : ℕ) (r : Record) {i k : ℕ} → u ≤ 6 → u + g ≤ 10 → inBounds u g r ≡ true → i ≡ tableIn r → k ≡ 2 ^ (u + g) → (i - base) * k ≤ 6144
-put-small base u g r {i} {k} hu h b ei ek =
-    let l : i ≤ u = rw ei (table-in-bounds u g r b) in
-    answers-fit (omega arith) ek h
+pub put-small : (u g : ℕ) (r : Record) {j m k : ℕ} → u + g ≤ 10 → inBounds u g r ≡ true → r ≡ Answer j m → k ≡ 2 ^ (u + g) → (j * k ≤ 10240) × (m < 1024)
+put-small u g r {j} {m} {k} h b e ek =
+    let p : 2 ^ (u + g) ≤ 1024 = pow-mono h in
+    let q : inBounds u g (Answer j m) ≡ true = rw e at b in
+    let l : m < 2 ^ (u + g) = mask-in-bounds u g (Answer j m) q refl in
+    let i : j < u = ltb-true j u (and-left (ltb j u) (ltb m (2 ^ (u + g))) q) in
+    let few : j ≤ 10 = (omega arith) in
+    let kl : k ≤ 1024 = rw ek p in
+    (mul-le-mul few kl, omega arith)
 
--- ---- what the loop of `fill` keeps
-pub record Filling (bs : List ℕ) (base u g : ℕ) (t₀ t : List ℕ) (at : ℕ) : Type 0 where
+-- ---- what a loop that puts the records in keeps, for one of its tables
+pub record Filling (put : Record → List ℕ → List ℕ) (bs : List ℕ) (u g : ℕ) (t₀ t : List ℕ) (at : ℕ) : Type 0 where
   pub inside : at ≤ length bs
   pub long : length t ≡ length t₀
-  pub same : filled base (2 ^ (u + g)) (records bs) t₀ ≡ filled base (2 ^ (u + g)) (records (drop at bs)) t
+  pub same : filled put (records bs) t₀ ≡ filled put (records (drop at bs)) t
   pub fitting : Fitting u g (records (drop at bs))
 
-pub fill-start : (bs : List ℕ) (base u g : ℕ) (t : List ℕ) → Fitting u g (records bs) → Filling bs base u g t t 0
-fill-start bs base u g t f = record { inside = omega arith; long = refl; same = refl; fitting = f }
+pub fill-start : (put : Record → List ℕ → List ℕ) (bs : List ℕ) (u g : ℕ) (t : List ℕ) → Fitting u g (records bs) → Filling put bs u g t t 0
+fill-start put bs u g t f = record { inside = omega arith; long = refl; same = refl; fitting = f }
 
-module _ (bs : List ℕ) (base u g : ℕ) (t₀ t : List ℕ) (at : ℕ) (w : Filling bs base u g t₀ t at) where
-  pub fill-none : length bs ≤ at → t ≡ filled base (2 ^ (u + g)) (records bs) t₀
+module _ (put : Record → List ℕ → List ℕ) (bs : List ℕ) (u g : ℕ) (t₀ t : List ℕ) (at : ℕ) (w : Filling put bs u g t₀ t at) where
+  pub fill-none : length bs ≤ at → t ≡ filled put (records bs) t₀
   unfolding filled
   fill-none h = sym (w .same ∙ rw (records-none bs at h))
 
   module _ {r : Record} (er : r ≡ next (drop at bs)) {n : ℕ} (en : n ≡ size r) where
-    pub fill-broken : n ≡ 0 → t ≡ filled base (2 ^ (u + g)) (records bs) t₀
+    pub fill-broken : n ≡ 0 → t ≡ filled put (records bs) t₀
     unfolding filled
     fill-broken e = sym (w .same ∙ rw (here-none bs at er en e))
 
@@ -88,19 +122,19 @@ module _ (bs : List ℕ) (base u g : ℕ) (t₀ t : List ℕ) (at : ℕ) (w : Fi
       pub fill-bounds : inBounds u g r ≡ true
       fill-bounds = fits-bounds u g (w .fitting .from) r _ fits-here
 
-      module _ {t′ : List ℕ} (et : t′ ≡ putMonomial base (2 ^ (u + g)) r t) {k : ℕ} (ek : k ≡ kind r) where
-        pub fill-end : k ≡ 4 → t′ ≡ filled base (2 ^ (u + g)) (records bs) t₀
+      module _ {t′ : List ℕ} (et : t′ ≡ put r t) {k : ℕ} (ek : k ≡ kind r) where
+        pub fill-end : k ≡ 4 → t′ ≡ filled put (records bs) t₀
         unfolding filled
         fill-end e = sym (w .same ∙ rw (here bs at er en s, ← ek, eq-eqb k 4 e) (sym et))
 
-        pub fill-next : at + n ≤ length bs → (k ≡ 4 → ⊥) → Filling bs base u g t₀ t′ (at + n)
+        pub fill-next : length t′ ≡ length t → (k ≡ 4 → ⊥) → Filling put bs u g t₀ t′ (at + n)
         unfolding filled
         fill-next l e =
             let not-end : isEnd r ≡ false = rw (← ek) (ne-eqb k 4 e) in
             record {
-              inside = l;
-              long = ap length et ∙ length-put base (2 ^ (u + g)) r t ∙ w .long;
-              same = w .same ∙ rw (here bs at er en s, not-end) (ap (filled base (2 ^ (u + g)) (records (drop (at + n) bs))) (sym et));
+              inside = on-fits bs at (w .inside) er en;
+              long = l ∙ w .long;
+              same = w .same ∙ rw (here bs at er en s, not-end) (ap (filled put (records (drop (at + n) bs))) (sym et));
               fitting = record {
                 unknowns = w .fitting .unknowns;
                 letters = w .fitting .letters;
@@ -114,7 +148,7 @@ hits : ℕ → ℕ → ℕ → List Record → Bool
 hits base k x [] = false
 hits base k x (r ∷ rs) = (isMonomial r && (leb base (tableIn r) && eqb x ((tableIn r - base) * k + maskIn r))) || hits base k x rs
 
-length-filled : (base k : ℕ) (rs : List Record) (t : List ℕ) → length (filled base k rs t) ≡ length t
+length-filled : (base k : ℕ) (rs : List Record) (t : List ℕ) → length (filled (putMonomial base k) rs t) ≡ length t
 unfolding filled
 length-filled base k [] t = refl
 length-filled base k (r ∷ rs) t = length-filled base k rs (putMonomial base k r t) ∙ length-put base k r t
@@ -130,7 +164,7 @@ put-at base k x r t h = go (isMonomial r) (leb base (tableIn r)) (bool-cases (eq
     go true true (inl e) = let p : x ≡ (tableIn r - base) * k + maskIn r = eqb-true _ _ e in rw (e, ← p) (getD-set-same t x 1 0 h)
     go true true (inr e) = rw e (getD-set-other t ((tableIn r - base) * k + maskIn r) x 1 0 (eqb-false _ _ e))
 
-filled-at : (base k x : ℕ) (rs : List Record) (t : List ℕ) → x < length t → getD (filled base k rs t) x 0 ≡ cond (hits base k x rs) 1 (getD t x 0)
+filled-at : (base k x : ℕ) (rs : List Record) (t : List ℕ) → x < length t → getD (filled (putMonomial base k) rs t) x 0 ≡ cond (hits base k x rs) 1 (getD t x 0)
 unfolding filled hits
 filled-at base k x [] t h = refl
 filled-at base k x (r ∷ rs) t h =
@@ -189,30 +223,30 @@ digit-cond true = refl
 digit-cond false = refl
 
 filled-table : (base U G q l : ℕ) (rs : List Record) → fitsBehind U G q rs ≡ true
-    → filled base (2 ^ (U + G)) rs (zeros l) ≡ tabulate l (λ x. hasMonomial (base + x / 2 ^ (U + G)) (x % 2 ^ (U + G)) rs)
+    → filled (putMonomial base (2 ^ (U + G))) rs (zeros l) ≡ tabulate l (λ x. hasMonomial (base + x / 2 ^ (U + G)) (x % 2 ^ (U + G)) rs)
 filled-table base U G q l rs f =
-    ext-getD 0 (filled base (2 ^ (U + G)) rs (zeros l)) _ (long ∙ sym (length-tabulate l _))
+    ext-getD 0 (filled (putMonomial base (2 ^ (U + G))) rs (zeros l)) _ (long ∙ sym (length-tabulate l _))
     (λ x h. at x (rw long at h))
   where
-    long : length (filled base (2 ^ (U + G)) rs (zeros l)) ≡ l
+    long : length (filled (putMonomial base (2 ^ (U + G))) rs (zeros l)) ≡ l
     long = length-filled base (2 ^ (U + G)) rs (zeros l) ∙ length-tabulate l (λ i. false)
 
-    at : (x : ℕ) → x < l → getD (filled base (2 ^ (U + G)) rs (zeros l)) x 0 ≡ getD (tabulate l (λ x. hasMonomial (base + x / 2 ^ (U + G)) (x % 2 ^ (U + G)) rs)) x 0
+    at : (x : ℕ) → x < l → getD (filled (putMonomial base (2 ^ (U + G))) rs (zeros l)) x 0 ≡ getD (tabulate l (λ x. hasMonomial (base + x / 2 ^ (U + G)) (x % 2 ^ (U + G)) rs)) x 0
     at x h =
         filled-at base (2 ^ (U + G)) x rs (zeros l) (rw (length-tabulate l (λ i. false)) h)
         ∙ rw (getD-tabulate l (λ i. false) x h, hits-has base U G q x rs f) (digit-cond (hasMonomial (base + x / 2 ^ (U + G)) (x % 2 ^ (U + G)) rs))
         ∙ sym (getD-tabulate l (λ x. hasMonomial (base + x / 2 ^ (U + G)) (x % 2 ^ (U + G)) rs) x h)
 
 -- the tables that are asked for, filled from cleared bytes
-module _ (U G : ℕ) (rs : List Record) (f : Fitting U G rs) (t : List ℕ) {t₁ t₂ : List ℕ} (e₁ : t₁ ≡ zeros (length t)) where
-  pub filled-condition : t₂ ≡ filled 0 (2 ^ (U + G)) rs t₁ → length t ≡ 2 ^ (U + G) → t₂ ≡ table (U + G) (conditionIn rs)
+module _ (U G : ℕ) (rs : List Record) (f : Fitting U G rs) (k : ℕ) {t₁ t₂ : List ℕ} (e₁ : t₁ ≡ zeros k) where
+  pub filled-condition : t₂ ≡ filled (putMonomial 0 (2 ^ (U + G))) rs t₁ → k ≡ 2 ^ (U + G) → t₂ ≡ table (U + G) (conditionIn rs)
   unfolding table conditionIn
   filled-condition e₂ l =
       e₂ ∙ rw (e₁, l) (filled-table 0 U G (f .from) (2 ^ (U + G)) rs (f .fits))
       ∙ tabulate-cong (2 ^ (U + G)) _ _
       (λ x h. ap₂ (λ (i m : ℕ). hasMonomial i m rs) (zero-add (x / 2 ^ (U + G)) ∙ div-eq-of-lt h) (mod-eq-of-lt h))
 
-  pub filled-answers : t₂ ≡ filled 1 (2 ^ (U + G)) rs t₁ → length t ≡ U * 2 ^ (U + G) → t₂ ≡ answerTable U (U + G) (answersIn rs)
+  pub filled-answers : t₂ ≡ filled (putMonomial 1 (2 ^ (U + G))) rs t₁ → k ≡ U * 2 ^ (U + G) → t₂ ≡ answerTable U (U + G) (answersIn rs)
   unfolding answerTable answersIn
   filled-answers e₂ l =
       e₂ ∙ rw (e₁, l) (filled-table 1 U G (f .from) (U * 2 ^ (U + G)) rs (f .fits))
@@ -220,3 +254,11 @@ module _ (U G : ℕ) (rs : List Record) (f : Fitting U G rs) (t : List ℕ) {t�
     where
       next-one : (y : ℕ) → 1 + y ≡ suc y
       next-one y = omega arith
+
+-- where there is no room nothing is put
+pub filled-nothing : (base k : ℕ) (rs : List Record) → filled (putMonomial base k) rs [] ≡ []
+filled-nothing base k rs = none (filled (putMonomial base k) rs []) (length-filled base k rs [])
+  where
+    none : (xs : List ℕ) → length xs ≡ 0 → xs ≡ []
+    none [] e = refl
+    none (x ∷ xs) e = absurd (omega arith)

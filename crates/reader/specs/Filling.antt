@@ -12,6 +12,8 @@ use Rattle.entry.specs.declared.Record.{Record}
 use Rattle.entry.specs.Record.{isMonomial, maskIn, tableIn}
 use Rattle.entry.specs.Held.{records, heldCondition}
 use Rattle.entry.specs.Places.{fitsBehind}
+use Rattle.records.specs.declared.Said.{Said}
+use Rattle.records.specs.declared.Said.the-variants.{Solved, None}
 use Rattle.reader.specs.declared.Read.{Read}
 use Rattle.reader.specs.Reading.{reading, readRefusal, readValues, heldAnswers}
 
@@ -23,9 +25,15 @@ zeros k = tabulate k (λ i. false)
 unfoldable pub putMonomial : ℕ → ℕ → Record → List ℕ → List ℕ
 putMonomial base k r t = cond (isMonomial r && leb base (tableIn r)) (set t ((tableIn r - base) * k + maskIn r) 1) t
 
-unfoldable pub filled : ℕ → ℕ → List Record → List ℕ → List ℕ
-filled base k [] t = t
-filled base k (r ∷ rs) t = filled base k rs (putMonomial base k r t)
+-- all the records, put in one after another
+unfoldable pub filled : (Record → List ℕ → List ℕ) → List Record → List ℕ → List ℕ
+filled put [] t = t
+filled put (r ∷ rs) t = filled put rs (put r t)
+
+-- the bytes that the answers take, of as many as `size`: none where the entry says 'none'
+abbrev pub roomFor : Said → ℕ → ℕ
+roomFor Solved size = size
+roomFor (None state) size = 0
 
 -- records that pass question 12 for U and G that pass question 1, behind one with the place `from`
 pub record Fitting (U G : ℕ) (rs : List Record) : Type 0 where

@@ -1,5 +1,5 @@
 // Reading an archive entry into tables. `read_entry` is the public call of the library.
-// `fill_condition` and `fill_answers` are for the audit too: what they require, such callers meet.
+// `fill_tables` is for the audit: what it requires, such callers meet.
 ghost use mathlib.Core.Path.{_≡_};
 ghost use mathlib.Core.Bool.{true};
 ghost use Prim.Native.Nat.{_+_, _*_, _^_, _≤_};
@@ -7,11 +7,11 @@ ghost use lib.ListN.{length, set};
 ghost use Rattle.ring.specs.Table.{table, answerTable};
 ghost use Rattle.tables.specs.Questions.{firstNo};
 ghost use Rattle.tables.specs.Reply.{reply, after};
-ghost use Rattle.entry.specs.Held.{records, conditionIn, answersIn, heldCondition};
+ghost use Rattle.entry.specs.Held.{records, conditionIn, answersIn, heldCondition, heldVerdict};
 ghost use Rattle.entry.specs.Questions.{inBounds, entryQuestions};
-ghost use Rattle.records.specs.Headings.{headingOf};
+ghost use Rattle.records.specs.Headings.{headingOf, said};
 ghost use Rattle.reader.specs.Reading.{reading, readRefusal, readValues, heldAnswers};
-ghost use Rattle.reader.specs.Filling.{putMonomial, filled, zeros, Fitting, Reads};
+ghost use Rattle.reader.specs.Filling.{putMonomial, filled, zeros, roomFor, Fitting, Reads};
 use entry::Record;
 use records::Heading;
 use records::Said;
@@ -41,24 +41,29 @@ fn put_one(t: &mut [u8], p: usize)
     }
 }
 
-fn put_monomial(r: Record, base: usize, u: usize, g: usize, t: &mut [u8])
-    requires { ⌜ (u ≤ 6) × (u + g ≤ 10) × (inBounds u g r ≡ true) ⌝ }
-    ensures { λ _. ⌜ now (t .exit) ≡ putMonomial base (2 ^ (u + g)) r (now (t .entry)) ⌝ }
+// The monomial of a record becomes 1 in its table, of k bytes.
+fn put_monomial(r: Record, u: usize, g: usize, k: usize, condition: &mut [u8], answers: &mut [u8])
+    requires { ⌜ (u + g ≤ 10) × (inBounds u g r ≡ true) × (k ≡ 2 ^ (u + g)) × (length (now condition) ≡ k) ⌝ }
+    ensures { λ _. ⌜ now (condition .exit) ≡ putMonomial 0 (2 ^ (u + g)) r (now (condition .entry)) ⌝ }
+    ensures { λ _. ⌜ now (answers .exit) ≡ putMonomial 1 (2 ^ (u + g)) r (now (answers .entry)) ⌝ }
 {
-    if !records::is_monomial(r) {
-        return;
+    match r {
+        Record::Start(_, _, _) => {}
+        Record::Condition(m) => put_one(condition, m),
+        Record::Answer(j, m) => put_one(answers, (j as usize) * k + m),
+        Record::End(_) => {}
+        Record::None(_) => {}
+        Record::Broken => {}
     }
-    let i = records::table_in(r);
-    if i < base {
-        return;
-    }
-    put_one(t, (i - base) * tables::pow2(u + g) + records::mask_in(r));
 }
 
-fn fill(s: &[u8], base: usize, u: usize, g: usize, t: &mut [u8])
-    requires { ⌜ Fitting u g (records (now s)) ⌝ }
-    ensures { λ _. ⌜ now (t .exit) ≡ filled base (2 ^ (u + g)) (records (now (s .entry))) (now (t .entry)) ⌝ }
+// The monomials of an accepted entry into cleared tables. Answers for which there is no room are left out.
+fn fill(s: &[u8], u: usize, g: usize, condition: &mut [u8], answers: &mut [u8])
+    requires { ⌜ Fitting u g (records (now s)) × (length (now condition) ≡ 2 ^ (u + g)) ⌝ }
+    ensures { λ _. ⌜ now (condition .exit) ≡ filled (putMonomial 0 (2 ^ (u + g))) (records (now (s .entry))) (now (condition .entry)) ⌝ }
+    ensures { λ _. ⌜ now (answers .exit) ≡ filled (putMonomial 1 (2 ^ (u + g))) (records (now (s .entry))) (now (answers .entry)) ⌝ }
 {
+    let k = tables::pow2(u + g);
     let mut at = 0;
     while at < s.len() {
         let r = records::record_at(s, at);
@@ -66,7 +71,7 @@ fn fill(s: &[u8], base: usize, u: usize, g: usize, t: &mut [u8])
         if n == 0 {
             return;
         }
-        put_monomial(r, base, u, g, t);
+        put_monomial(r, u, g, k, condition, answers);
         if records::kind_of(r) == 4 {
             return;
         }
@@ -74,27 +79,30 @@ fn fill(s: &[u8], base: usize, u: usize, g: usize, t: &mut [u8])
     }
 }
 
-// The condition that an accepted entry holds.
-pub fn fill_condition(s: &[u8], u: usize, g: usize, t: &mut [u8])
-    requires { ⌜ Fitting u g (records (now s)) × (length (now t) ≡ 2 ^ (u + g)) ⌝ }
-    ensures { λ _. ⌜ now (t .exit) ≡ table (u + g) (conditionIn (records (now (s .entry)))) ⌝ }
+// The condition and the answers that an accepted entry holds.
+pub fn fill_tables(s: &[u8], u: usize, g: usize, condition: &mut [u8], answers: &mut [u8])
+    requires { ⌜ Fitting u g (records (now s)) × (length (now condition) ≡ 2 ^ (u + g)) × (length (now answers) ≡ u * 2 ^ (u + g)) ⌝ }
+    ensures { λ _. ⌜ now (condition .exit) ≡ table (u + g) (conditionIn (records (now (s .entry)))) ⌝ }
+    ensures { λ _. ⌜ now (answers .exit) ≡ answerTable u (u + g) (answersIn (records (now (s .entry)))) ⌝ }
 {
-    clear(t);
-    fill(s, 0, u, g, t);
+    clear(condition);
+    clear(answers);
+    fill(s, u, g, condition, answers);
 }
 
-// The answers that it holds.
-pub fn fill_answers(s: &[u8], u: usize, g: usize, t: &mut [u8])
-    requires { ⌜ Fitting u g (records (now s)) × (length (now t) ≡ u * 2 ^ (u + g)) ⌝ }
-    ensures { λ _. ⌜ now (t .exit) ≡ answerTable u (u + g) (answersIn (records (now (s .entry)))) ⌝ }
+// The bytes that the answers take: none where the entry says 'none'.
+fn answer_room(told: Said, size: usize) -> usize
+    ensures { λ r. ⌜ r ≡ roomFor told size ⌝ }
 {
-    clear(t);
-    fill(s, 1, u, g, t);
+    match told {
+        Said::Solved => size,
+        Said::None(_) => 0,
+    }
 }
 
 // Question 4, and the buffers of an entry that passes the questions before it.
-fn read_into(s: &[u8], h: Heading, condition: &mut [u8], answers: &mut [u8]) -> Read
-    requires { ⌜ (firstNo (entryQuestions (records (now s))) ≡ 0) × (h ≡ headingOf (records (now s))) ⌝ }
+fn read_into(s: &[u8], h: Heading, told: Said, condition: &mut [u8], answers: &mut [u8]) -> Read
+    requires { ⌜ (firstNo (entryQuestions (records (now s))) ≡ 0) × (h ≡ headingOf (records (now s))) × (told ≡ said (heldVerdict (records (now s)))) ⌝ }
     ensures { λ r. ⌜ Reads (now (s .entry)) (now (condition .entry)) (now (answers .entry)) r (now (condition .exit)) (now (answers .exit)) ⌝ }
 {
     let u = h.unknowns;
@@ -104,15 +112,16 @@ fn read_into(s: &[u8], h: Heading, condition: &mut [u8], answers: &mut [u8]) -> 
         return Read::Refused(tables::ROOM);
     }
     let size = u * k;
-    if answers.len() < size {
+    let room = answer_room(told, size);
+    let lent = answers.len();
+    if lent < size {
         return Read::Refused(tables::ROOM);
     }
-    fill_condition(s, u, g, &mut condition[..k]);
-    match records::said_by(s) {
-        Said::Solved => {
-            fill_answers(s, u, g, &mut answers[..size]);
-            Read::Solved(h)
-        }
+    clear(&mut condition[..k]);
+    clear(&mut answers[..room]);
+    fill(s, u, g, &mut condition[..k], &mut answers[..room]);
+    match told {
+        Said::Solved => Read::Solved(h),
         Said::None(state) => Read::None(h, state),
     }
 }
@@ -123,9 +132,11 @@ pub fn read_entry(bytes: &[u8], condition: &mut [u8], answers: &mut [u8]) -> Rea
     ensures { λ _. ⌜ now (condition .exit) ≡ after (readRefusal (now (bytes .entry)) (length (now (condition .entry))) (length (now (answers .entry)))) (heldCondition (records (now (bytes .entry)))) (now (condition .entry)) ⌝ }
     ensures { λ _. ⌜ now (answers .exit) ≡ after (readRefusal (now (bytes .entry)) (length (now (condition .entry))) (length (now (answers .entry)))) (heldAnswers (records (now (bytes .entry)))) (now (answers .entry)) ⌝ }
 {
-    let refusal = records::entry_refusal(bytes);
-    if refusal != 0 {
-        return Read::Refused(refusal);
+    let survey = records::survey_entry(bytes);
+    if survey.refusal != 0 {
+        return Read::Refused(survey.refusal);
     }
-    read_into(bytes, records::heading_of(bytes), condition, answers)
+    let heading = survey.heading;
+    let told = survey.said;
+    read_into(bytes, heading, told, condition, answers)
 }

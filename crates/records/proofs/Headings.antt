@@ -8,22 +8,13 @@ use native.Mathlib.Omega.{arith}
 use Rattle.ring.specs.declared.State.{State}
 use Rattle.solution.specs.Elimination.{Verdict, solved, none}
 use Rattle.entry.specs.declared.Record.{Record}
-use Rattle.entry.specs.Held.{next, records, first, unknownsOf, givensOf, unlessNone}
-use Rattle.entry.specs.Record.{routeIn, unknownsIn, givensIn}
-use Rattle.entry.proofs.Records.{first-next}
+use Rattle.entry.specs.Held.{unknownsOf, givensOf, unlessNone}
 use Rattle.entry.proofs.Canonical.{unless-cases}
 use Rattle.records.specs.declared.Heading.{Heading}
 use Rattle.records.specs.declared.Said.the-variants as said-variants
-use Rattle.records.specs.Headings.{lengthUsed, headingOf, said}
+use Rattle.records.specs.Headings.{headingOf, said}
 
 -- ---- the heading
-pub heading-is : (bs : List ℕ) {r : Record} {route u g n : ℕ} → r ≡ next bs → route ≡ routeIn r → u ≡ unknownsIn r → g ≡ givensIn r → n ≡ lengthUsed (records bs)
-    → record { route = route; unknowns = u; givens = g; used = n } ≡ headingOf (records bs)
-unfolding headingOf
-heading-is bs {r} er eroute eu eg en =
-    let f : r ≡ first (records bs) = er ∙ sym (first-next bs) in
-    rw (eroute ∙ ap routeIn f, eu ∙ ap unknownsIn f, eg ∙ ap givensIn f, en)
-
 module _ (rs : List Record) {h : Heading} (eh : h ≡ headingOf rs) where
   pub heading-u : h .unknowns ≡ unknownsOf rs
   unfolding headingOf

@@ -1,16 +1,15 @@
-// The records that stand in bytes, one by one: decoding them, the questions that reading and audit share, what the start says, and
-// whether the entry says 'none'. Nothing here is a public call of the library: the functions are for the crates above, which meet what
-// they require.
+// The records that stand in bytes, one by one: decoding them, and going over an entry once for what reading and audit ask of it and for
+// what it says. Nothing here is a public call of the library: the functions are for the crates above, which meet what they require.
 ghost use mathlib.Core.Path.{_≡_};
-ghost use mathlib.Core.Bool.{true};
-ghost use Prim.Native.Nat.{_+_, _*_, _≤_};
+ghost use mathlib.Core.Bool.{true, _&&_, cond};
+ghost use Prim.Native.Nat.{_+_, _*_, _^_, _≤_, _<_};
+ghost use lib.Dec.{ltb};
 ghost use lib.ListN.{length, drop};
 ghost use Rattle.tables.specs.Questions.{firstNo};
-ghost use Rattle.entry.specs.Record.{size, kind, isMonomial, maskIn, tableIn, routeIn, unknownsIn, givensIn, stateIn};
-ghost use Rattle.entry.specs.Held.{next, records, heldVerdict};
-ghost use Rattle.entry.specs.Questions.{mayFollow, kindsFollow, inBounds, entryQuestions};
-ghost use Rattle.entry.specs.Places.{placeOf, standsBehind, fitsBehind};
-ghost use Rattle.records.specs.Headings.{lengthUsed, headingOf, said};
+ghost use Rattle.entry.specs.Record.{size, kind, routeIn, unknownsIn, givensIn};
+ghost use Rattle.entry.specs.Held.{next, records};
+ghost use Rattle.entry.specs.Questions.{mayFollow};
+ghost use Rattle.records.specs.Gathering.{endFollows, saidFirst, seenMonomial, seenRecord, gathered, saidBy, gatheredQuestions, surveyOf};
 use entry::Record;
 use ring::State;
 
@@ -28,6 +27,30 @@ pub enum Said {
     None(State),
 }
 
+// What going over an entry gives: the first no of 10, 11, 1, 2 and 12, or 0, and what the entry says.
+pub struct Survey {
+    pub refusal: u8,
+    pub heading: Heading,
+    pub said: Said,
+}
+
+// What has been seen of the records up to a place.
+pub struct Seen {
+    pub kind: usize, // of the last record, 0 at the start
+    pub place: usize, // of the last record's monomial, 0 if it has none
+    pub kinds: bool, // question 11 of the records so far
+    pub numbers: bool, // question 12 of the records so far
+    pub none: usize, // 1 above the state that the first kind 5 says, 0 if there was none
+}
+
+// What has been seen when the records end, and the length used, 0 if there is no kind 4.
+pub struct Gathered {
+    pub used: usize,
+    pub kinds: bool,
+    pub numbers: bool,
+    pub none: usize,
+}
+
 fn wide(x: u8) -> usize
     ensures { λ r. ⌜ r ≡ x ⌝ }
 {
@@ -41,7 +64,7 @@ fn mask_of(low: u8, high: u8) -> usize
     wide(low) + 256 * wide(high)
 }
 
-// The record that the bytes begin with. The shorter kinds are looked for first, so that each length is tested once.
+// The record that the bytes begin with.
 fn decode(s: &[u8]) -> Record
     ensures { λ r. ⌜ r ≡ next (now (s .entry)) ⌝ }
 {
@@ -49,29 +72,29 @@ fn decode(s: &[u8]) -> Record
     if n < 2 {
         return Record::Broken;
     }
-    let k = s[0];
-    if k == 4 {
-        return Record::End(s[1]);
+    match s[0] {
+        1 => {
+            if n < 4 {
+                return Record::Broken;
+            }
+            Record::Start(s[1], s[2], s[3])
+        }
+        2 => {
+            if n < 3 {
+                return Record::Broken;
+            }
+            Record::Condition(mask_of(s[1], s[2]))
+        }
+        3 => {
+            if n < 4 {
+                return Record::Broken;
+            }
+            Record::Answer(s[1], mask_of(s[2], s[3]))
+        }
+        4 => Record::End(s[1]),
+        5 => Record::None(s[1]),
+        _ => Record::Broken,
     }
-    if k == 5 {
-        return Record::None(s[1]);
-    }
-    if n < 3 {
-        return Record::Broken;
-    }
-    if k == 2 {
-        return Record::Condition(mask_of(s[1], s[2]));
-    }
-    if n < 4 {
-        return Record::Broken;
-    }
-    if k == 1 {
-        return Record::Start(s[1], s[2], s[3]);
-    }
-    if k == 3 {
-        return Record::Answer(s[1], mask_of(s[2], s[3]));
-    }
-    Record::Broken
 }
 
 pub fn record_at(s: &[u8], at: usize) -> Record
@@ -107,46 +130,10 @@ pub fn kind_of(r: Record) -> usize
     }
 }
 
-pub fn is_monomial(r: Record) -> bool
-    ensures { λ b. ⌜ b ≡ isMonomial r ⌝ }
-{
-    let k = kind_of(r);
-    if k == 2 {
-        return true;
-    }
-    k == 3
-}
-
-pub fn mask_in(r: Record) -> usize
-    ensures { λ m. ⌜ m ≡ maskIn r ⌝ }
-{
-    match r {
-        Record::Start(_, _, _) => 0,
-        Record::Condition(m) => m,
-        Record::Answer(_, m) => m,
-        Record::End(_) => 0,
-        Record::None(_) => 0,
-        Record::Broken => 0,
-    }
-}
-
 fn behind(j: u8) -> usize
-    ensures { λ i. ⌜ i ≡ j + 1 ⌝ }
+    ensures { λ i. ⌜ (i ≡ j + 1) × (i ≤ 256) ⌝ }
 {
     wide(j) + 1
-}
-
-pub fn table_in(r: Record) -> usize
-    ensures { λ i. ⌜ i ≡ tableIn r ⌝ }
-{
-    match r {
-        Record::Start(_, _, _) => 0,
-        Record::Condition(_) => 0,
-        Record::Answer(j, _) => behind(j),
-        Record::End(_) => 0,
-        Record::None(_) => 0,
-        Record::Broken => 0,
-    }
 }
 
 fn route_in(r: Record) -> u8
@@ -188,38 +175,6 @@ fn givens_in(r: Record) -> usize
     }
 }
 
-fn state_in(r: Record) -> usize
-    ensures { λ s. ⌜ s ≡ stateIn r ⌝ }
-{
-    match r {
-        Record::Start(_, _, _) => 0,
-        Record::Condition(_) => 0,
-        Record::Answer(_, _) => 0,
-        Record::End(_) => 0,
-        Record::None(state) => wide(state),
-        Record::Broken => 0,
-    }
-}
-
-// Question 10: the length to the end of the first kind 4, or 0 where the answer is no.
-fn used_length(s: &[u8]) -> usize
-    ensures { λ r. ⌜ r ≡ lengthUsed (records (now (s .entry))) ⌝ }
-{
-    let mut at = 0;
-    while at < s.len() {
-        let r = record_at(s, at);
-        let n = size_of(r);
-        if n == 0 {
-            return 0;
-        }
-        at += n;
-        if kind_of(r) == 4 {
-            return at;
-        }
-    }
-    0
-}
-
 fn may_follow(p: usize, k: usize) -> bool
     ensures { λ b. ⌜ b ≡ mayFollow p k ⌝ }
 {
@@ -235,160 +190,205 @@ fn may_follow(p: usize, k: usize) -> bool
     2 <= k
 }
 
-// Question 11, where the first record has the route.
-fn kinds_follow(s: &[u8], route: u8) -> bool
-    ensures { λ b. ⌜ b ≡ kindsFollow 0 route (records (now (s .entry))) ⌝ }
+fn both(a: bool, b: bool) -> bool
+    ensures { λ r. ⌜ r ≡ (a && b) ⌝ }
 {
-    let mut at = 0;
-    let mut before = 0;
-    while at < s.len() {
-        let r = record_at(s, at);
-        let n = size_of(r);
-        if n == 0 {
-            return false;
-        }
-        let k = kind_of(r);
-        if !may_follow(before, k) {
-            return false;
-        }
-        if k == 4 {
-            return route_in(r) == route;
-        }
-        before = k;
-        at += n;
+    if a {
+        return b;
     }
     false
 }
 
-fn in_bounds(u: usize, g: usize, r: Record) -> bool
-    requires { ⌜ u + g ≤ 10 ⌝ }
-    ensures { λ b. ⌜ b ≡ inBounds u g r ⌝ }
+// Question 11 of the end, behind a record of kind p.
+fn end_follows(p: usize, again: u8, route: u8) -> bool
+    ensures { λ b. ⌜ b ≡ endFollows p again route ⌝ }
 {
+    both(may_follow(p, 4), again == route)
+}
+
+// Question 12 of an answer's monomial.
+fn answer_fits(u: usize, masks: usize, j: usize, m: usize) -> bool
+    ensures { λ b. ⌜ b ≡ (ltb j u && ltb m masks) ⌝ }
+{
+    both(j < u, m < masks)
+}
+
+// 1 above the state that is said first.
+fn said_first(none: usize, state: usize) -> usize
+    requires { ⌜ state < 256 ⌝ }
+    ensures { λ r. ⌜ r ≡ saidFirst none state ⌝ }
+{
+    if none == 0 {
+        return state + 1;
+    }
+    none
+}
+
+fn seen_next(seen: Seen, k: usize, p: usize, follows: bool, fits: bool, none: usize) -> Seen
+    ensures { λ x. ⌜ x ≡ record { kind = k; place = p; kinds = seen .kinds && follows; numbers = seen .numbers && fits; none = none } ⌝ }
+{
+    let kinds = both(seen.kinds, follows);
+    let numbers = both(seen.numbers, fits);
+    Seen {
+        kind: k,
+        place: p,
+        kinds,
+        numbers,
+        none,
+    }
+}
+
+// A monomial of table i. One rising number tells its place: its table, then its rank in the written order.
+fn see_monomial(seen: Seen, k: usize, i: usize, m: usize, fits: bool) -> Seen
+    requires { ⌜ (i ≤ 256) × (fits ≡ true → m < 1024) ⌝ }
+    ensures { λ x. ⌜ x ≡ seenMonomial seen k i m fits ⌝ }
+{
+    let follows = may_follow(seen.kind, k);
+    let none = seen.none;
+    if !fits {
+        return seen_next(seen, k, 0, follows, false, none);
+    }
+    let p = 16384 * i + order::rank_of(m) + 1;
+    let rises = seen.place < p;
+    seen_next(seen, k, p, follows, rises, none)
+}
+
+// What has been seen with one more record.
+fn see(seen: Seen, route: u8, u: usize, masks: usize, states: usize, r: Record) -> Seen
+    requires { ⌜ masks ≤ 1024 ⌝ }
+    ensures { λ x. ⌜ x ≡ seenRecord route u masks states seen r ⌝ }
+{
+    let before = seen.kind;
+    let none = seen.none;
     match r {
-        Record::Start(_, _, _) => true,
-        Record::Condition(m) => m < tables::pow2(u + g),
+        Record::Start(_, _, _) => seen_next(seen, 1, 0, may_follow(before, 1), true, none),
+        Record::Condition(m) => see_monomial(seen, 2, 0, m, m < masks),
         Record::Answer(j, m) => {
-            if u <= wide(j) {
-                return false;
-            }
-            m < tables::pow2(u + g)
+            see_monomial(seen, 3, behind(j), m, answer_fits(u, masks, wide(j), m))
         }
-        Record::End(_) => true,
-        Record::None(state) => wide(state) < tables::pow2(g),
-        Record::Broken => true,
+        Record::End(again) => seen_next(seen, 4, 0, end_follows(before, again, route), true, none),
+        Record::None(state) => {
+            let said = said_first(none, wide(state));
+            seen_next(
+                seen,
+                5,
+                0,
+                may_follow(before, 5),
+                wide(state) < states,
+                said,
+            )
+        }
+        Record::Broken => seen_next(seen, 0, 0, may_follow(before, 0), true, none),
     }
 }
 
-// One rising number for each monomial: its table, then its rank in the written order; 0 for a record that holds none.
-fn place_of(u: usize, g: usize, r: Record) -> usize
-    requires { ⌜ (u + g ≤ 10) × (inBounds u g r ≡ true) ⌝ }
-    ensures { λ p. ⌜ p ≡ placeOf r ⌝ }
+fn gathered_at(used: usize, seen: Seen) -> Gathered
+    ensures { λ r. ⌜ r ≡ record { used = used; kinds = seen .kinds; numbers = seen .numbers; none = seen .none } ⌝ }
 {
-    if !is_monomial(r) {
-        return 0;
+    let kinds = seen.kinds;
+    let numbers = seen.numbers;
+    let none = seen.none;
+    Gathered {
+        used,
+        kinds,
+        numbers,
+        none,
     }
-    16384 * table_in(r) + order::rank_of(mask_in(r)) + 1
 }
 
-fn stands_behind(q: usize, p: usize) -> bool
-    ensures { λ b. ⌜ b ≡ standsBehind q p ⌝ }
-{
-    if p == 0 {
-        return true;
-    }
-    q < p
-}
-
-// Question 12.
-fn numbers_fit(s: &[u8], u: usize, g: usize) -> bool
-    requires { ⌜ u + g ≤ 10 ⌝ }
-    ensures { λ b. ⌜ b ≡ fitsBehind u g 0 (records (now (s .entry))) ⌝ }
+// Goes over the records to the first kind 4, or to where no whole record stands.
+fn gather(s: &[u8], route: u8, u: usize, masks: usize, states: usize) -> Gathered
+    requires { ⌜ masks ≤ 1024 ⌝ }
+    ensures { λ r. ⌜ r ≡ gathered route u masks states (records (now (s .entry))) ⌝ }
 {
     let mut at = 0;
-    let mut last = 0;
+    let mut seen = Seen {
+        kind: 0,
+        place: 0,
+        kinds: true,
+        numbers: true,
+        none: 0,
+    };
     while at < s.len() {
         let r = record_at(s, at);
         let n = size_of(r);
         if n == 0 {
-            return true;
+            return gathered_at(0, seen);
         }
-        if !in_bounds(u, g, r) {
-            return false;
-        }
-        let p = place_of(u, g, r);
-        if !stands_behind(last, p) {
-            return false;
-        }
-        if kind_of(r) == 4 {
-            return true;
-        }
-        last = p;
+        seen = see(seen, route, u, masks, states, r);
         at += n;
+        if kind_of(r) == 4 {
+            return gathered_at(at, seen);
+        }
     }
-    true
+    gathered_at(0, seen)
 }
 
-// The first no of 10, 11, 1, 2 and 12, or 0.
-pub fn entry_refusal(s: &[u8]) -> u8
-    ensures { λ r. ⌜ r ≡ firstNo (entryQuestions (records (now (s .entry)))) ⌝ }
+// The first no of 10, 11, 1, 2 and 12, or 0; `fits` answers 1.
+fn refusal_of(gathered: Gathered, fits: bool, route: u8) -> u8
+    ensures { λ r. ⌜ r ≡ firstNo (gatheredQuestions gathered fits route) ⌝ }
 {
-    if used_length(s) == 0 {
+    if gathered.used == 0 {
         return tables::RECORDS;
     }
-    let first = record_at(s, 0);
-    let route = route_in(first);
-    if !kinds_follow(s, route) {
+    if !gathered.kinds {
         return tables::KINDS;
     }
-    let u = unknowns_in(first);
-    let g = givens_in(first);
-    if !tables::letters_fit(u, g) {
+    if !fits {
         return tables::LETTERS;
     }
     if !entry::route_fits(route as usize) {
         return tables::ROUTE;
     }
-    if !numbers_fit(s, u, g) {
+    if !gathered.numbers {
         return tables::MASKS;
     }
     0
 }
 
-// What the start says, and the length used.
-pub fn heading_of(s: &[u8]) -> Heading
-    ensures { λ h. ⌜ h ≡ headingOf (records (now (s .entry))) ⌝ }
+fn said_of(none: usize) -> Said
+    ensures { λ v. ⌜ v ≡ saidBy none ⌝ }
+{
+    if none == 0 {
+        return Said::Solved;
+    }
+    Said::None(State(none - 1))
+}
+
+// No number of letters where question 1 is answered no, so that the bounds of 12 can be formed.
+fn fitting(fits: bool, letters: usize) -> usize
+    ensures { λ r. ⌜ r ≡ cond fits letters 0 ⌝ }
+{
+    if fits {
+        return letters;
+    }
+    0
+}
+
+// Goes over the entry that the bytes begin with.
+pub fn survey_entry(s: &[u8]) -> Survey
+    ensures { λ r. ⌜ r ≡ surveyOf (records (now (s .entry))) ⌝ }
 {
     let first = record_at(s, 0);
     let route = route_in(first);
     let unknowns = unknowns_in(first);
     let givens = givens_in(first);
-    let used = used_length(s);
-    Heading {
+    let fits = tables::letters_fit(unknowns, givens);
+    let u = fitting(fits, unknowns);
+    let g = fitting(fits, givens);
+    let gathered = gather(s, route, u, tables::pow2(u + g), tables::pow2(g));
+    let refusal = refusal_of(gathered, fits, route);
+    let used = gathered.used;
+    let heading = Heading {
         route,
         unknowns,
         givens,
         used,
+    };
+    let said = said_of(gathered.none);
+    Survey {
+        refusal,
+        heading,
+        said,
     }
-}
-
-pub fn said_by(s: &[u8]) -> Said
-    ensures { λ v. ⌜ v ≡ said (heldVerdict (records (now (s .entry)))) ⌝ }
-{
-    let mut at = 0;
-    while at < s.len() {
-        let r = record_at(s, at);
-        let n = size_of(r);
-        if n == 0 {
-            return Said::Solved;
-        }
-        let k = kind_of(r);
-        if k == 5 {
-            return Said::None(State(state_in(r)));
-        }
-        if k == 4 {
-            return Said::Solved;
-        }
-        at += n;
-    }
-    Said::Solved
 }

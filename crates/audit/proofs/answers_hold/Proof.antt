@@ -7,55 +7,39 @@ use Rattle.audit.proofs.Same.{condition-table, hold-none, hold-solved}
 use Rattle.audit.proofs.answers_hold.Statement.{statement}
 use Rattle.audit.proofs.answers_hold.Tie as tie
 
-fill-condition-requires : tie.Need-fill-condition-requires
-fill-condition-requires c κs =
-    let start = c .before .before .before .before .before in
-    (heading-fits _ (start .pre .0 .0) (start .pre .0 .1), start .pre .1 .0)
+fill-tables-requires : tie.Need-fill-tables-requires
+fill-tables-requires c κs =
+    let start = c .before .before .before .before .before .before in
+    (heading-fits _ (start .pre .0 .0) (start .pre .0 .1), start .pre .1 .0, start .pre .1 .1)
 
 solve-requires : tie.Need-solve-requires
 solve-requires c κs =
-    let read = c .before .before .before .before in
-    let start = read .before .before .before .before .before .before in
+    let start = c .before .before .before .before .before .before .before .before .before .before .before .before .before in
     let p = start .pre .0 .0 in
     let e = start .pre .0 .1 in
-    (heading-unknowns _ p e, heading-small _ p e, condition-table _ _ e _ (read .fill-condition .ensures), start .pre .1 .2)
-
-fill-answers-requires : tie.Need-fill-answers-requires
-fill-answers-requires c κs =
-    let told = c .before .before .before .before .before .before in
-    let start = told .before .before .before .before .before .before .before .before .before .before .before in
-    (heading-fits _ (start .pre .0 .0) (start .pre .0 .1), start .pre .1 .1)
+    (heading-unknowns _ p e, heading-small _ p e, condition-table _ _ e _ (c .before .before .before .before .before .before .fill-tables .ensures .0), start .pre .1 .2)
 
 returns : tie.Need-returns
 returns c =
-    let filled = c .before .before .before .before .before in
-    let told = filled .before .before in
-    let asked = told .before .before in
-    let fresh = asked .before .before .before in
-    let read = fresh .before .before .before .before .before in
-    let start = read .before .before .before .before .before .before in
-    hold-solved _ _ (start .pre .0 .1) _ (read .fill-condition .ensures) _ (fresh .solve .ensures .0) _ _
-    (sym (asked .said-by .ensures) ∙ told .enum-told .given .1) (filled .fill-answers .ensures) (c .same-answers .ensures)
+    let start = c .before .before .before .before .before .before .before .before .before .before .before .before .before .before .before .before .before .before .before .before .before in
+    let read = c .before .before .before .before .before .before .before .before .before .before .before .before .before .before in
+    hold-solved _ _ (start .pre .0 .1) _ (read .fill-tables .ensures .0) _ (c .before .before .before .before .before .before .before .solve .ensures .0) _ _
+    (sym (start .pre .0 .2) ∙ c .before .before .before .enum-told .given .1) (read .fill-tables .ensures .1) (c .same-answers .ensures)
 
 returns-2 : tie.Need-returns-2
 returns-2 c =
-    let told = c .before .before in
-    let asked = told .before .before in
-    let fresh = asked .before .before .before in
-    let read = fresh .before .before .before .before .before in
-    let start = read .before .before .before .before .before .before in
-    hold-none _ _ (start .pre .0 .1) _ (read .fill-condition .ensures) _ (fresh .solve .ensures .0) _ _
-    (sym (asked .said-by .ensures) ∙ told .state .given .1) (c .same-state .ensures _)
+    let start = c .before .before .before .before .before .before .before .before .before .before .before .before .before .before .before .before .before .before .before .before in
+    let read = c .before .before .before .before .before .before .before .before .before .before .before .before .before in
+    hold-none _ _ (start .pre .0 .1) _ (read .fill-tables .ensures .0) _ (c .before .before .before .before .before .before .solve .ensures .0) _ _
+    (sym (start .pre .0 .2) ∙ c .before .before .told .given .1) (c .same-state .ensures _)
 
 pub answers-hold-spec : {M : Type 1} → statement M
 answers-hold-spec =
     tie.close
     (tie.spec
-    fill-condition-requires
+    fill-tables-requires
     solve-requires
-    (λ c κs. search needs)
     (λ c. search needs)
-    fill-answers-requires
     (λ c κs. search needs)
     (λ c. search needs)
     (λ c κs. search needs)
@@ -63,6 +47,7 @@ answers-hold-spec =
     (λ c. search needs)
     (λ c. search needs)
     returns
+    (λ c. search needs)
     (λ c. search needs)
     (λ c. search needs)
     returns-2)

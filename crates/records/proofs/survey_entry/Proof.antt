@@ -1,0 +1,30 @@
+-- The bounds of question 12 are formed of letters that fit, so that they are small. Assumes nothing.
+use Prim.Native.Nat.{_+_, _≤_}
+use native.Mathlib.Omega.{arith}
+use borrow.Author.Needs.{needs}
+use Rattle.tables.proofs.Steps.{pow-small}
+use Rattle.records.proofs.Answers.{few-letters, survey-is}
+use Rattle.records.proofs.survey_entry.Statement.{statement}
+use Rattle.records.proofs.survey_entry.Tie as tie
+
+few : (c : tie.After-fitting2) → c .before .fitting .result + c .fitting2 .result ≤ 10
+few c = search few-letters
+
+pub survey-entry-spec : {M : Type 1} → statement M
+survey-entry-spec =
+    tie.close
+    (tie.spec
+    (λ c κs. search needs)
+    (λ c κs. search needs)
+    (λ c κs. search needs)
+    (λ c κs. search needs)
+    (λ c κs. search needs)
+    (λ c κs. search needs)
+    (λ c κs. search needs)
+    (λ c. omega (arith, few c))
+    (λ c κs. few c)
+    (λ c κs. omega (arith, few (c .before)))
+    (λ c κs. pow-small _ _ (c .before .pow2 .ensures) (few (c .before .before)))
+    (λ c κs. search needs)
+    (λ c κs. search needs)
+    (λ c. search survey-is))
