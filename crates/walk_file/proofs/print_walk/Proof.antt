@@ -1,9 +1,9 @@
--- Assumes nothing.
+-- The line lies within its room. Assumes nothing.
 use mathlib.Core.Path.{sym}
 use borrow.Author.Needs.{needs}
 use lib.Seq.{length-take-le}
-use Rattle.walk.proofs.print_walk.Statement.{statement}
-use Rattle.walk.proofs.print_walk.Tie as tie
+use Rattle.walk_file.proofs.print_walk.Statement.{statement}
+use Rattle.walk_file.proofs.print_walk.Tie as tie
 
 room : tie.Need-array-share-prefix-out
 room c = search needs
@@ -15,7 +15,14 @@ print-walk-spec =
     (λ c κs. search needs)
     (λ c. search needs)
     (λ c κs. search needs)
+    (λ c κs. search needs)
+    (λ c. search needs)
+    (λ c. search needs)
+    (λ c κs. search needs)
     room
     (λ c. sym (length-take-le _ _ (room (c .before))))
     (λ c κs. search needs)
+    (λ c. search needs)
+    (λ c κs. search needs)
+    (λ c. search needs)
     (λ c. search needs))

@@ -10,7 +10,7 @@ use Rattle.volume.specs.declared.Walked.{Walked}
 use Rattle.volume.specs.declared.Walked.the-variants.{Count, Refused}
 use Rattle.volume.specs.Walk.{walkReply, walked}
 use Rattle.printing.specs.Print.{unreadableLine, refusedLine, replyLine}
-use Rattle.walk.specs.Walk.{walkPrinted}
+use Rattle.walk_file.specs.Walk.{walkPrinted}
 
 module _ (volume : List ℕ) where
   pub walk-long : 65536 < length volume → unreadableLine ≡ walkPrinted volume

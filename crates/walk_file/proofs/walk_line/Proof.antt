@@ -1,9 +1,9 @@
 -- One way out for each answer of the walk, and one for a volume that is too long. Assumes nothing.
 use borrow.Author.Needs.{needs}
 use Rattle.tables.proofs.Put.{put-same}
-use Rattle.walk.proofs.Walk.{walk-long, walk-count, walk-refused}
-use Rattle.walk.proofs.walk_line.Statement.{statement}
-use Rattle.walk.proofs.walk_line.Tie as tie
+use Rattle.walk_file.proofs.Walk.{walk-long, walk-count, walk-refused}
+use Rattle.walk_file.proofs.walk_line.Statement.{statement}
+use Rattle.walk_file.proofs.walk_line.Tie as tie
 
 returns : tie.Need-returns
 returns c = put-same (c .before .before .put-unreadable .ensures) (walk-long _ (c .before .before .before .before .if1 .taken))
