@@ -1,9 +1,9 @@
 -- The words of a text are the values of the table that it is read into, and they give it back.
 -- Assumes nothing.
-use mathlib.Core.Path.{_≡_, refl, sym, ap, _∙_}
+use mathlib.Core.Path.{_≡_, sym, _∙_}
 use mathlib.Core.Bool.{Bool, true, false}
 use mathlib.Core.List.{List}
-use Prim.Native.Nat.{ℕ, _+_, _-_, _*_, _^_, _≤_, _<_}
+use Prim.Native.Nat.{ℕ, _+_, _-_, _^_, _<_}
 use native.Mathlib.Omega.{arith}
 use lib.ListN.{length, getD}
 use Rattle.ring.specs.Polynomial.{value}
@@ -12,12 +12,12 @@ use Rattle.ring.proofs.Table.{present-table}
 use Rattle.ring.proofs.Value.{value-cong}
 use Rattle.tables.specs.Reply.{after}
 use Rattle.grammar.specs.Symbols.{symbols, every, allSigns, allDeclared}
-use Rattle.grammar.specs.Meaning.{atPoint, normalForm}
-use Rattle.grammar.specs.Reader.{Reading, sum, reads, isWhole, treeRead, grammarReads, treeOf}
+use Rattle.grammar.specs.Meaning.{normalForm}
+use Rattle.grammar.specs.Reader.{sum, reads, isWhole, grammarReads, treeOf}
 use Rattle.grammar.specs.Text.{IsRead, textTable}
 use Rattle.grammar.proofs.Points.{value-normal}
 use Rattle.grammar.proofs.Theorems.{text-declared}
-use Rattle.words.specs.Words.{wordsOf, bitAt}
+use Rattle.words.specs.Words.{bitAt}
 use Rattle.words.proofs.Words.{words-cong, length-words, at-known}
 use Rattle.words.proofs.Letters.{room, table-back}
 use Rattle.parser.specs.Blocks.{wholeWords}

@@ -9,7 +9,7 @@ use native.Mathlib.Omega.{arith}
 use borrow.Author.Tests.{eqb-true, ne-eqb}
 use lib.Bits.{bitAnd, bitOr, bitXor, and-lt, or-lt, xor-lt}
 use lib.Dec.{eqb}
-use lib.ListN.{length, getD, set, drop, take, length-append, length-drop, List·getD-append}
+use lib.ListN.{length, getD, set, drop, take, List·getD-append}
 use lib.Seq.{take-at, getD-take, getD-append-add}
 use Rattle.ring.specs.Letters.{bit}
 use Rattle.ring.specs.Lists.{listed}
@@ -18,10 +18,10 @@ use Rattle.ring.proofs.Bitwise.{inclusive, and-bit, or-bit, xor-bit}
 use Rattle.ring.proofs.Lists.{length-listed, getD-listed, listed-cong}
 use Rattle.tables.proofs.Filled.{filled, filled-more, filled-read, filled-high, length-filled}
 use Rattle.grammar.specs.Symbols.{timesSign, plusSign, orSign}
-use Rattle.grammar.specs.Grammar.{Tree, constant, unknown, given, negation, times, plus, either}
+use Rattle.grammar.specs.Grammar.{Tree, constant, negation, times}
 use Rattle.grammar.specs.Meaning.{atPoint}
 use Rattle.grammar.specs.Reader.{joinsSum, joined}
-use Rattle.words.specs.Words.{wordOf, wordsOf, lowLetters}
+use Rattle.words.specs.Words.{wordsOf, lowLetters}
 use Rattle.words.proofs.Words.{word-is, word-lt, word-bit, word-cong}
 use Rattle.words.proofs.Turned.{low-letter, high-letter}
 use Rattle.parser.specs.Blocks.{ones, wordAt, joinOf, paired}
@@ -147,12 +147,6 @@ low-filled k j word a new l ew e = e ∙ ap (λ (z : List ℕ). z ++ drop k a) (
 pub high-word : (j w : ℕ) (b : Bool) → 6 ≤ j → eqb (w / 2 ^ (j - 6) % 2) 1 ≡ b → cond b ones 0 ≡ wordAt (λ p. bit p j) w
 unfolding wordAt
 high-word j w b h e = high-letter j w b h e
-
--- none of the five arms before the last
-pub low-last : (j : ℕ) → j < 6 → ((((Unit {0} × (j ≡ 0 → ⊥)) × (j ≡ 1 → ⊥)) × (j ≡ 2 → ⊥)) × (j ≡ 3 → ⊥)) × (j ≡ 4 → ⊥) → 0xffff_ffff_0000_0000 ≡ getD lowLetters j 0
-low-last j l r =
-    let e : j ≡ 5 = omega (arith, l, r .1, r .0 .1, r .0 .0 .1, r .0 .0 .0 .1, r .0 .0 .0 .0 .1) in
-    rw e
 
 -- no sign that joins
 pub put-last : (op a b : ℕ) → ((Unit {0} × (op ≡ timesSign → ⊥)) × (op ≡ orSign → ⊥)) × (op ≡ plusSign → ⊥) → b ≡ joinOf op a b

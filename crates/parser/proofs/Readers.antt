@@ -1,14 +1,15 @@
 -- The readers in terms of places and stacks: what `IsUpTo` is, step by step.
 -- A reader with a loop, `sum` or `product`, is a part, then any number of a sign and a part: `Loop` serves both.
 -- Assumes nothing.
-use mathlib.Core.Path.{_≡_, refl, _∙_, sym, subst, ap}
+use mathlib.Core.Path.{_≡_, refl, _∙_, sym, subst}
+use mathlib.Core.Logic.{_⊎_, ⊎-elim}
 use mathlib.Core.Bool.{Bool, true, false, cond}
 use mathlib.Core.List.{List, [], _∷_, _++_}
 use Prim.Native.Nat.{ℕ, _+_, _-_, _*_, _≤_, _<_}
 use native.Mathlib.Numerals.{add-one}
 use native.Mathlib.Omega.{arith}
 use borrow.Author.Tests.{ne-eqb, le-leb, lt-leb, lt-ltb, le-ltb}
-use lib.ListN.{length, getD, drop, take, drop-of-length-le, length-append, length-drop}
+use lib.ListN.{length, getD, drop, take, drop-of-length-le, length-drop}
 use lib.Seq.{drop-cons, length-take-le, take-append-le}
 use borrow.Rule.Slice.PartMut.{putMid, postOf, same-len-mid}
 use lib.Dec.{eqb}
@@ -20,7 +21,7 @@ use Rattle.grammar.specs.Meaning.{atPoint}
 use Rattle.grammar.specs.Reader.{Reading, found, Reader, sum, product, factor, sumFrom, productFrom, andThen, joinsSum, joined, closed, factorAt, reads}
 use Rattle.grammar.proofs.Fixed.{fixed, then-nothing, then-found}
 use Rattle.words.specs.Words.{wordsOf}
-use Rattle.parser.specs.Blocks.{ones, wordAt, joinOf, paired, IsUpTo, IsMissing, Agrees}
+use Rattle.parser.specs.Blocks.{ones, wordAt, letterOf, joinOf, paired, IsUpTo, IsMissing, Agrees}
 use Rattle.parser.specs.declared.Place.{Place}
 use Rattle.parser.specs.declared.Place.the-variants.{Missing, UpTo}
 use Rattle.parser.proofs.Blocks.{front-values, front-joined, size-filled, times-word, sum-word, constant-values, negation-values}
@@ -189,17 +190,23 @@ module _ (s : List ℕ) (at : ℕ) (h : at < length s) where
     pub reads-one : getD s at 0 ≡ oneSign → {new : List ℕ} → new ≡ filled k (λ i. joinOf 0 (getD stack i 0) ones) stack → IsUpTo U k s at (length stack) new (reads factor (drop at s)) (at + 1)
     reads-one q {new} z = one-symbol (constant true) new (rw q) (constant-values U k stack new true z) (size-filled k _ stack new z (omega arith))
 
-    pub reads-unknown : NoSign (getD s at 0) → getD s at 0 < 6 → {new : List ℕ} → new ≡ filled k (wordAt (λ p. bit p (getD s at 0))) stack → IsUpTo U k s at (length stack) new (reads factor (drop at s)) (at + 1)
-    unfolding atPoint
-    reads-unknown r b {new} z =
-        one-symbol (unknown (getD s at 0)) new
-        (simp (ne-eqb _ _ (r .0 .0 .0 .1), ne-eqb _ _ (r .0 .0 .1), ne-eqb _ _ (r .0 .1), ne-eqb _ _ (r .1), lt-ltb _ _ b)) (front-values k _ _ stack new z (λ w l. refl)) (size-filled k _ stack new z (omega arith))
+    module _ (r : NoSign (getD s at 0)) {new : List ℕ} (z : new ≡ filled k (wordAt (λ p. bit p (letterOf U (getD s at 0)))) stack) where
+      reads-unknown : getD s at 0 < 6 → IsUpTo U k s at (length stack) new (reads factor (drop at s)) (at + 1)
+      unfolding atPoint letterOf
+      reads-unknown b =
+          one-symbol (unknown (getD s at 0)) new
+          (simp (ne-eqb _ _ (r .0 .0 .0 .1), ne-eqb _ _ (r .0 .0 .1), ne-eqb _ _ (r .0 .1), ne-eqb _ _ (r .1), lt-ltb _ _ b))
+          (rw (lt-ltb (getD s at 0) 8 (omega arith)) at (front-values k _ _ stack new z (λ w l. refl))) (size-filled k _ stack new z (omega arith))
 
-    pub reads-given : NoSign (getD s at 0) → 8 ≤ getD s at 0 → getD s at 0 < 16 → {new : List ℕ} → new ≡ filled k (wordAt (λ p. bit p (U + (getD s at 0 - 8)))) stack → IsUpTo U k s at (length stack) new (reads factor (drop at s)) (at + 1)
-    unfolding atPoint
-    reads-given r a b {new} z =
-        one-symbol (given (getD s at 0 - 8)) new
-        (simp (ne-eqb _ _ (r .0 .0 .0 .1), ne-eqb _ _ (r .0 .0 .1), ne-eqb _ _ (r .0 .1), ne-eqb _ _ (r .1), le-ltb (getD s at 0) 6 (omega arith), le-leb _ _ a, lt-ltb _ _ b)) (front-values k _ _ stack new z (λ w l. refl)) (size-filled k _ stack new z (omega arith))
+      reads-given : 8 ≤ getD s at 0 → getD s at 0 < 16 → IsUpTo U k s at (length stack) new (reads factor (drop at s)) (at + 1)
+      unfolding atPoint letterOf
+      reads-given a b =
+          one-symbol (given (getD s at 0 - 8)) new
+          (simp (ne-eqb _ _ (r .0 .0 .0 .1), ne-eqb _ _ (r .0 .0 .1), ne-eqb _ _ (r .0 .1), ne-eqb _ _ (r .1), le-ltb (getD s at 0) 6 (omega arith), le-leb _ _ a, lt-ltb _ _ b))
+          (rw (le-ltb (getD s at 0) 8 a) at (front-values k _ _ stack new z (λ w l. refl))) (size-filled k _ stack new z (omega arith))
+
+      pub reads-letter : (getD s at 0 < 6) ⊎ ((8 ≤ getD s at 0) × (getD s at 0 < 16)) → IsUpTo U k s at (length stack) new (reads factor (drop at s)) (at + 1)
+      reads-letter which = ⊎-elim reads-unknown (λ w. reads-given (w .0) (w .1)) which
 
   module _ (U k size : ℕ) (small : k ≤ 16) (room : 8 * (length s - at) + 8 ≤ size) where
     pub reads-not : getD s at 0 ≡ notSign → {n : ℕ} {stack : List ℕ} (new : List ℕ) → IsUpTo U k s (at + 1) size stack (reads factor (drop (at + 1) s)) n

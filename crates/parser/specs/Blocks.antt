@@ -3,12 +3,11 @@
 -- Assumes nothing.
 use mathlib.Core.Path.{_≡_}
 use mathlib.Core.Bool.{Bool, cond}
-use mathlib.Core.List.{List, _++_}
-use Prim.Native.Nat.{ℕ, _+_, _*_, _≤_, _<_}
-use lib.Dec.{eqb}
+use mathlib.Core.List.{List}
+use Prim.Native.Nat.{ℕ, _+_, _-_, _*_, _≤_, _<_}
+use lib.Dec.{eqb, ltb}
 use lib.ListN.{length, getD, drop, take}
 use lib.Bits.{bitAnd, bitOr, bitXor}
-use Rattle.ring.specs.Lists.{listed}
 use Rattle.grammar.specs.Symbols.{timesSign, plusSign, orSign}
 use Rattle.grammar.specs.Grammar.{Tree}
 use Rattle.grammar.specs.Meaning.{atPoint}
@@ -24,6 +23,10 @@ ones = 0xffff_ffff_ffff_ffff
 -- word w of the values h
 unfoldable pub wordAt : (ℕ → Bool) → ℕ → ℕ
 wordAt h w = wordOf (λ i. h (64 * w + i))
+
+-- the number of the letter that a symbol stands for, over U unknowns
+unfoldable pub letterOf : ℕ → ℕ → ℕ
+letterOf U c = cond (ltb c 8) c (U + (c - 8))
 
 -- how a sign joins two words; any other code puts the second in the place of the first
 unfoldable pub joinOf : ℕ → ℕ → ℕ → ℕ

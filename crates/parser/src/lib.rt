@@ -14,7 +14,7 @@ ghost use Rattle.grammar.specs.Reader as reader;
 ghost use Rattle.grammar.specs.Reader.{reads, joinsSum, isWhole};
 ghost use Rattle.words.specs.Words.{lowLetters};
 ghost use Rattle.parser.specs.Questions.{unspaced, isKnown, isLetterDeclared};
-ghost use Rattle.parser.specs.Blocks.{wordAt, joinOf, paired, Agrees, wholeWords};
+ghost use Rattle.parser.specs.Blocks.{wordAt, letterOf, joinOf, paired, Agrees, wholeWords};
 
 // A symbol is a number: unknown j is j, given i is GIVEN + i, every other sign is its own byte.
 const GIVEN: u8 = 8;
@@ -141,7 +141,6 @@ fn joins_sum(c: u8) -> bool
 
 // One of the six lowest letters at the 64 points of any word.
 fn low_letter(j: usize) -> u64
-    requires { ⌜ j < 6 ⌝ }
     ensures { λ r. ⌜ r ≡ getD lowLetters j 0 ⌝ }
 {
     match j {
@@ -150,7 +149,8 @@ fn low_letter(j: usize) -> u64
         2 => 0xf0f0_f0f0_f0f0_f0f0,
         3 => 0xff00_ff00_ff00_ff00,
         4 => 0xffff_0000_ffff_0000,
-        _ => 0xffff_ffff_0000_0000,
+        5 => 0xffff_ffff_0000_0000,
+        _ => 0,
     }
 }
 
@@ -255,6 +255,26 @@ fn put_letter(stack: &mut [u64], k: usize, j: usize)
     }
 }
 
+// The number of the letter that a symbol stands for.
+fn letter_of(unknowns: usize, c: u8) -> usize
+    requires { ⌜ (unknowns ≤ 6) × (c < 16) ⌝ }
+    ensures { λ r. ⌜ (r ≡ letterOf unknowns c) × (r < 64) ⌝ }
+{
+    let symbol = c as usize;
+    if symbol < 8 {
+        return symbol;
+    }
+    unknowns + (symbol - 8)
+}
+
+// A block of the words of a symbol's letter. Unknowns and givens share it, so that no branch hangs on which of them it is.
+fn put_symbol(stack: &mut [u64], k: usize, unknowns: usize, c: u8)
+    requires { ⌜ (k ≤ length (now stack)) × (unknowns ≤ 6) × (c < 16) ⌝ }
+    ensures { λ _. ⌜ now (stack .exit) ≡ filled k (wordAt (λ p. bit p (letterOf unknowns c))) (now (stack .entry)) ⌝ }
+{
+    put_letter(stack, k, letter_of(unknowns, c));
+}
+
 fn sum(s: &[u8], at: usize, unknowns: usize, k: usize, stack: &mut [u64]) -> Place
     requires { ⌜ (at ≤ length (now s)) × (unknowns ≤ 6) × (k ≤ 16) × (8 * (length (now s) - at) + 8 ≤ length (now stack)) ⌝ }
     ensures { λ r. ⌜ Agrees unknowns k (now (s .entry)) at (length (now (stack .entry))) (now (stack .exit)) (reads reader.Reader.sum (drop at (now (s .entry)))) r ⌝ }
@@ -346,12 +366,8 @@ fn factor(s: &[u8], at: usize, unknowns: usize, k: usize, stack: &mut [u64]) -> 
                 }
             },
             // an unknown, a given
-            0..=5 => {
-                put_letter(stack, k, c as usize);
-                Place::UpTo(next)
-            }
-            8..=15 => {
-                put_letter(stack, k, unknowns + (c - GIVEN) as usize);
+            0..=5 | 8..=15 => {
+                put_symbol(stack, k, unknowns, c);
                 Place::UpTo(next)
             }
             _ => Place::Missing,
@@ -383,11 +399,11 @@ fn read_with(s: &[u8], unknowns: usize, words: &mut [u64], stack: &mut [u64]) ->
 
 // A short text needs a small stack. The stacks live here.
 fn read_short(s: &[u8], unknowns: usize, words: &mut [u64]) -> bool
-    requires { ⌜ (length (now s) ≤ 31) × (unknowns ≤ 6) × (length (now words) ≤ 16) ⌝ }
+    requires { ⌜ (length (now s) ≤ 63) × (unknowns ≤ 6) × (length (now words) ≤ 16) ⌝ }
     ensures { λ r. ⌜ r ≡ isWhole (reads reader.Reader.sum (now (s .entry))) ⌝ }
     ensures { λ _. ⌜ now (words .exit) ≡ wholeWords unknowns (reads reader.Reader.sum (now (s .entry))) (now (words .entry)) ⌝ }
 {
-    let mut stack = [0u64; 256];
+    let mut stack = [0u64; 512];
     read_with(s, unknowns, words, &mut stack)
 }
 
@@ -406,7 +422,7 @@ pub fn read_values(s: &[u8], unknowns: usize, words: &mut [u64]) -> bool
     ensures { λ r. ⌜ r ≡ isWhole (reads reader.Reader.sum (now (s .entry))) ⌝ }
     ensures { λ _. ⌜ now (words .exit) ≡ wholeWords unknowns (reads reader.Reader.sum (now (s .entry))) (now (words .entry)) ⌝ }
 {
-    if s.len() < 32 {
+    if s.len() < 64 {
         return read_short(s, unknowns, words);
     }
     read_long(s, unknowns, words)

@@ -1,7 +1,8 @@
 -- The proof of the cycle of calls {factor, product, sum}. The measure is three for each symbol that is left, and the reader's place in the descent.
 -- What each answer cites is a law of `Readers`; `search` finds its premises in what is known there. Assumes nothing.
-use mathlib.Core.Path.{_≡_, refl, _∙_}
-use Prim.Native.Nat.{_+_, _*_, _-_, _≤_}
+use mathlib.Core.Logic.{inl, inr, ⊎-elim}
+use mathlib.Core.Path.{_∙_}
+use Prim.Native.Nat.{_+_, _*_, _-_}
 use native.Mathlib.Omega.{arith}
 use borrow.Author.Needs.{needs}
 use borrow.Author.Tests.{eq-eqb, ne-eqb}
@@ -22,7 +23,7 @@ use Rattle.parser.proofs.sum.Kinds as sum-kinds
 use Rattle.parser.proofs.+factor+product+sum.Lts-sum as sum-lts
 use Rattle.parser.proofs.join.Reads as join-reads
 use Rattle.parser.proofs.joins_sum.Reads as joins-sum-reads
-use Rattle.parser.proofs.put_letter.Reads as put-letter-reads
+use Rattle.parser.proofs.put_symbol.Reads as put-symbol-reads
 use Rattle.parser.proofs.join_word.Reads as join-word-reads
 use Rattle.parser.proofs.+factor+product+sum.{statement}
 use Rattle.parser.proofs.+factor+product+sum.Tie.{close}
@@ -74,8 +75,8 @@ pub +factor+product+sum-spec : {M : Type 1} → statement M
   factor.Post,
   sum-below t,
   sum.Post,
-  put-letter-reads.Asked,
-  put-letter-reads.Learnt,
+  put-symbol-reads.Asked,
+  put-symbol-reads.Learnt,
 )
     (factor-at t)
     factor.Post
@@ -92,11 +93,7 @@ pub +factor+product+sum-spec : {M : Type 1} → statement M
     (λ c. search needs)
     (λ c. search needs)
     (λ c. search needs)
-    (λ c. search needs)
-    (λ c κs. search needs)
-    (λ c. search needs)
-    (λ c. search needs)
-    (λ c κs. search needs)
+    (λ c κs. (search needs, search needs, ⊎-elim (λ w. omega (arith, w .taken)) (λ w. omega (arith, w .2 .taken)) (c .before .if4 .came)))
     (λ c. search needs)
     (λ c. search (readers.reads-zero))
     (λ c. search needs)
@@ -110,15 +107,19 @@ pub +factor+product+sum-spec : {M : Type 1} → statement M
     (λ c. search needs)
     (λ c. search (readers.reads-brackets, up-to))
     (λ c. search needs)
-    (λ c. readers.close-missing _ _ (search needs) _ _ _ ((c .before .before .before .before .before .before .before .before .before .before .before .before .before .before .before .pre) .1 .2) ((c .before .before .before .before .before .before .before .before .before .before .before .before .before .before .before .pre) .1 .3) (search needs) (up-to ((c .before .before .before .before .n2) .given .1) ((c .before .before .before .before .before .before .before .before .sum) .ensures)) ((c .before .before .if2) .taken) ((c .if3) .left))
+    (λ c.
+    let pre = c .before .before .before .before .before .before .before .before .before .before .before .before .before .before .before .pre in
+    readers.close-missing _ _ (search needs) _ _ _ (pre .1 .2) (pre .1 .3) (search needs) (up-to ((c .before .before .before .before .n2) .given .1) ((c .before .before .before .before .before .before .before .before .sum) .ensures)) ((c .before .before .if2) .taken) ((c .if3) .left))
     (λ c. search needs)
-    (λ c. readers.close-at-end _ _ (search needs) _ _ _ ((c .before .before .before .before .before .before .before .before .before .before .before .before .before .pre) .1 .2) ((c .before .before .before .before .before .before .before .before .before .before .before .before .before .pre) .1 .3) (search needs) (up-to ((c .before .before .n2) .given .1) ((c .before .before .before .before .before .before .sum) .ensures)) ((c .if2) .left))
-    (λ c. search needs)
-    (λ c. search (readers.reads-unknown))
-    (λ c. search needs)
-    (λ c. search (readers.reads-given))
+    (λ c.
+    let pre = c .before .before .before .before .before .before .before .before .before .before .before .before .before .pre in
+    readers.close-at-end _ _ (search needs) _ _ _ (pre .1 .2) (pre .1 .3) (search needs) (up-to ((c .before .before .n2) .given .1) ((c .before .before .before .before .before .before .sum) .ensures)) ((c .if2) .left))
     (λ c. search (readers.between-missing))
     (λ c. search (readers.other-missing))
+    (λ c. search needs)
+    (λ c.
+    let which = ⊎-elim (λ w. inl (w .taken)) (λ w. inr (w .1 .left, w .2 .taken)) (c .before .before .before .before .if4 .came) in
+    readers.reads-letter _ _ (search needs) _ _ _ (search needs) (search needs) (c .before .before .before .before .before .match .rest) (c .before .before .put-symbol .ensures) which)
     (λ c. search (readers.at-end)))
     (λ t. product-lts.spec
     (factor-below t, factor.Post, join-reads.Asked, join-reads.Learnt)
@@ -133,19 +134,66 @@ pub +factor+product+sum-spec : {M : Type 1} → statement M
     (λ c. search needs)
     (λ c. search needs)
     (λ c. omega (arith, (c .before .before .before .before .before .before .before .before .before .before .before .before .before .pre) .1 .2))
-    (λ c. readers.part-start productLoop _ _ _ _ _ (up-to ((c .before .before .before .before .before .m) .given .1) ((c .before .before .before .before .before .before .before .before .before .factor) .ensures)) ((c .before .before .before .loop) .inv) ((c .before .before .loop-test) .taken) ((c .before .before .before .before .before .before .before .before .before .before .before .before .before .pre) .1 .2) ((c .before .before .before .before .before .before .before .before .before .before .before .before .before .pre) .1 .3))
-    (λ c. omega (arith, readers.part-start productLoop _ _ _ _ _ (up-to ((c .before .before .before .before .before .m) .given .1) ((c .before .before .before .before .before .before .before .before .before .factor) .ensures)) ((c .before .before .before .loop) .inv) ((c .before .before .loop-test) .taken) ((c .before .before .before .before .before .before .before .before .before .before .before .before .before .pre) .1 .2) ((c .before .before .before .before .before .before .before .before .before .before .before .before .before .pre) .1 .3)))
-    (λ c. omega (arith, readers.part-start productLoop _ _ _ _ _ (up-to ((c .before .before .before .before .before .m) .given .1) ((c .before .before .before .before .before .before .before .before .before .factor) .ensures)) ((c .before .before .before .loop) .inv) ((c .before .before .loop-test) .taken) ((c .before .before .before .before .before .before .before .before .before .before .before .before .before .pre) .1 .2) ((c .before .before .before .before .before .before .before .before .before .before .before .before .before .pre) .1 .3)))
-    (λ c κs. (omega (arith, (c .before .before .before .before .before .before .before .before .before .before .before .before .before .before .pre) .0, (c .before .before .before .before .loop) .inv .past, (c .before .before .before .loop-test) .taken), (omega (arith, (c .before .before .before .loop-test) .taken), (c .before .before .before .before .before .before .before .before .before .before .before .before .before .before .pre) .1 .1, (c .before .before .before .before .before .before .before .before .before .before .before .before .before .before .pre) .1 .2, readers.part-room productLoop _ _ _ _ _ (up-to ((c .before .before .before .before .before .before .m) .given .1) ((c .before .before .before .before .before .before .before .before .before .before .factor) .ensures)) ((c .before .before .before .before .loop) .inv) ((c .before .before .before .loop-test) .taken) ((c .before .before .before .before .before .before .before .before .before .before .before .before .before .before .pre) .1 .2) ((c .before .before .before .before .before .before .before .before .before .before .before .before .before .before .pre) .1 .3))))
+    (λ c.
+    let first = up-to (c .before .before .before .before .before .m .given .1) (c .before .before .before .before .before .before .before .before .before .factor .ensures) in
+    let pre = c .before .before .before .before .before .before .before .before .before .before .before .before .before .pre in
+    let loop = c .before .before .before .loop in
+    let test = c .before .before .loop-test in
+    readers.part-start productLoop _ _ _ _ _ first (loop .inv) (test .taken) (pre .1 .2) (pre .1 .3))
+    (λ c.
+    let first = up-to (c .before .before .before .before .before .m .given .1) (c .before .before .before .before .before .before .before .before .before .factor .ensures) in
+    let pre = c .before .before .before .before .before .before .before .before .before .before .before .before .before .pre in
+    let loop = c .before .before .before .loop in
+    let test = c .before .before .loop-test in
+    omega (arith, readers.part-start productLoop _ _ _ _ _ first (loop .inv) (test .taken) (pre .1 .2) (pre .1 .3)))
+    (λ c.
+    let first = up-to (c .before .before .before .before .before .m .given .1) (c .before .before .before .before .before .before .before .before .before .factor .ensures) in
+    let pre = c .before .before .before .before .before .before .before .before .before .before .before .before .before .pre in
+    let loop = c .before .before .before .loop in
+    let test = c .before .before .loop-test in
+    omega (arith, readers.part-start productLoop _ _ _ _ _ first (loop .inv) (test .taken) (pre .1 .2) (pre .1 .3)))
+    (λ c κs.
+    let first = up-to (c .before .before .before .before .before .before .m .given .1) (c .before .before .before .before .before .before .before .before .before .before .factor .ensures) in
+    let pre = c .before .before .before .before .before .before .before .before .before .before .before .before .before .before .pre in
+    let loop = c .before .before .before .before .loop in
+    let test = c .before .before .before .loop-test in
+    (omega (arith, pre .0, loop .inv .past, test .taken), (omega (arith, test .taken), pre .1 .1, pre .1 .2, readers.part-room productLoop _ _ _ _ _ first (loop .inv) (test .taken) (pre .1 .2) (pre .1 .3))))
     (λ c. search needs)
-    (λ c. let g = (up-to ((c .before .before .before .before .before .before .before .before .before .before .before .m) .given .1) ((c .before .before .before .before .before .before .before .before .before .before .before .before .before .before .before .factor) .ensures)) in readers.stays ((c .before .before .before .before .before .before .before .before .before .before .before .before .before .before .before .before .before .before .before .args) .k) ((c .before .before .before .before .before .before .before .before .before .loop) .stack) ((c .before .before .before .before .factor2) .last .1 .1 .1 .1 .0) ((c .before .before .before .before .factor2) .kept .1 .1 .1 .1 .0) ((c .before .before .before .before .before .before .before .before .before .loop) .inv .kept) (g .kept))
+    (λ c.
+    let g = up-to (c .before .before .before .before .before .before .before .before .before .before .before .m .given .1) (c .before .before .before .before .before .before .before .before .before .before .before .before .before .before .before .factor .ensures) in
+    let loop = c .before .before .before .before .before .before .before .before .before .loop in
+    let args = c .before .before .before .before .before .before .before .before .before .before .before .before .before .before .before .before .before .before .before .args in
+    let read = c .before .before .before .before .factor2 in
+    readers.stays (args .k) (loop .stack) (read .last .1 .1 .1 .1 .0) (read .kept .1 .1 .1 .1 .0) (loop .inv .kept) (g .kept))
     (λ c. search (readers.more-missing productLoop, missing, eq-eqb))
     (λ c. search needs)
-    (λ c κs. readers.both-room productLoop _ _ _ _ _ (up-to ((c .before .before .before .before .before .before .before .before .before .before .before .before .before .m) .given .1) ((c .before .before .before .before .before .before .before .before .before .before .before .before .before .before .before .before .before .factor) .ensures)) ((c .before .before .before .before .before .before .before .before .before .before .before .loop) .inv) ((c .before .before .before .before .before .before .before .before .before .before .loop-test) .taken) ((c .before .before .before .before .before .before .before .before .before .before .before .before .before .before .before .before .before .before .before .before .before .pre) .1 .2) ((c .before .before .before .before .before .before .before .before .before .before .before .before .before .before .before .before .before .before .before .before .before .pre) .1 .3) (up-to ((c .before .before .next) .given .1) ((c .before .before .before .before .before .before .factor2) .ensures)))
-    (λ c. let g = (up-to ((c .before .before .before .before .before .next) .given .1) ((c .before .before .before .before .before .before .before .before .before .factor2) .ensures)) in omega (arith, g .past, g .inside, (c .before .before .before .before .before .before .before .before .before .before .before .before .before .loop-test) .taken))
-    (λ c. readers.more productLoop _ _ _ _ _ (up-to ((c .before .before .before .before .before .before .before .before .before .before .before .before .before .before .before .before .m) .given .1) ((c .before .before .before .before .before .before .before .before .before .before .before .before .before .before .before .before .before .before .before .before .factor) .ensures)) ((c .before .before .before .before .before .before .before .before .before .before .before .before .before .before .loop) .inv) ((c .before .before .before .before .before .before .before .before .before .before .before .before .before .loop-test) .taken) ((c .before .before .before .before .before .before .before .before .before .before .before .before .before .before .before .before .before .before .before .before .before .before .before .before .pre) .1 .2) ((c .before .before .before .before .before .before .before .before .before .before .before .before .before .before .before .before .before .before .before .before .before .before .before .before .pre) .1 .3) (up-to ((c .before .before .before .before .before .next) .given .1) ((c .before .before .before .before .before .before .before .before .before .factor2) .ensures)) _ (eq-eqb _ _ ((c .before .before .before .before .before .before .before .before .before .before .before .if1) .taken)) ((c .before .before .join) .ensures))
-    (λ c. let g = (up-to ((c .before .before .before .before .before .m) .given .1) ((c .before .before .before .before .before .before .before .before .before .factor) .ensures)) in (c .before .before .before .loop) .inv .kept ∙ g .kept)
-    (λ c. readers.other-sign productLoop _ _ _ _ _ (up-to ((c .before .before .before .before .before .m) .given .1) ((c .before .before .before .before .before .before .before .before .before .factor) .ensures)) ((c .before .before .before .loop) .inv) ((c .before .before .loop-test) .taken) (ne-eqb _ _ ((c .if1) .left)))
+    (λ c κs.
+    let first = up-to (c .before .before .before .before .before .before .before .before .before .before .before .before .before .m .given .1) (c .before .before .before .before .before .before .before .before .before .before .before .before .before .before .before .before .before .factor .ensures) in
+    let part = up-to (c .before .before .next .given .1) (c .before .before .before .before .before .before .factor2 .ensures) in
+    let pre = c .before .before .before .before .before .before .before .before .before .before .before .before .before .before .before .before .before .before .before .before .before .pre in
+    let loop = c .before .before .before .before .before .before .before .before .before .before .before .loop in
+    let test = c .before .before .before .before .before .before .before .before .before .before .loop-test in
+    readers.both-room productLoop _ _ _ _ _ first (loop .inv) (test .taken) (pre .1 .2) (pre .1 .3) part)
+    (λ c.
+    let g = up-to (c .before .before .before .before .before .next .given .1) (c .before .before .before .before .before .before .before .before .before .factor2 .ensures) in
+    let test = c .before .before .before .before .before .before .before .before .before .before .before .before .before .loop-test in
+    omega (arith, g .past, g .inside, test .taken))
+    (λ c.
+    let first = up-to (c .before .before .before .before .before .before .before .before .before .before .before .before .before .before .before .before .m .given .1) (c .before .before .before .before .before .before .before .before .before .before .before .before .before .before .before .before .before .before .before .before .factor .ensures) in
+    let part = up-to (c .before .before .before .before .before .next .given .1) (c .before .before .before .before .before .before .before .before .before .factor2 .ensures) in
+    let pre = c .before .before .before .before .before .before .before .before .before .before .before .before .before .before .before .before .before .before .before .before .before .before .before .before .pre in
+    let loop = c .before .before .before .before .before .before .before .before .before .before .before .before .before .before .loop in
+    let test = c .before .before .before .before .before .before .before .before .before .before .before .before .before .loop-test in
+    readers.more productLoop _ _ _ _ _ first (loop .inv) (test .taken) (pre .1 .2) (pre .1 .3) part _ (eq-eqb _ _ ((c .before .before .before .before .before .before .before .before .before .before .before .if1) .taken)) ((c .before .before .join) .ensures))
+    (λ c.
+    let g = up-to (c .before .before .before .before .before .m .given .1) (c .before .before .before .before .before .before .before .before .before .factor .ensures) in
+    let loop = c .before .before .before .loop in
+    loop .inv .kept ∙ g .kept)
+    (λ c.
+    let first = up-to (c .before .before .before .before .before .m .given .1) (c .before .before .before .before .before .before .before .before .before .factor .ensures) in
+    let loop = c .before .before .before .loop in
+    let test = c .before .before .loop-test in
+    readers.other-sign productLoop _ _ _ _ _ first (loop .inv) (test .taken) (ne-eqb _ _ ((c .if1) .left)))
     (λ c. search needs)
     (λ c. search (readers.begin-missing productLoop, missing))
     (λ c. let g = (up-to ((c .before .before .before .m) .given .1) ((c .before .before .before .before .before .before .before .factor) .ensures)) in (c .before .loop) .inv .kept ∙ g .kept)
@@ -170,19 +218,68 @@ pub +factor+product+sum-spec : {M : Type 1} → statement M
     (λ c κs. search needs)
     (λ c. search needs)
     (λ c. omega (arith, (c .before .before .before .before .before .before .before .before .before .before .before .before .before .before .pre) .1 .2))
-    (λ c. readers.part-start sumLoop _ _ _ _ _ (up-to ((c .before .before .before .before .before .before .m) .given .1) ((c .before .before .before .before .before .before .before .before .before .before .product) .ensures)) ((c .before .before .before .before .loop) .inv) ((c .before .before .before .loop-test) .taken) ((c .before .before .before .before .before .before .before .before .before .before .before .before .before .before .pre) .1 .2) ((c .before .before .before .before .before .before .before .before .before .before .before .before .before .before .pre) .1 .3))
-    (λ c. omega (arith, readers.part-start sumLoop _ _ _ _ _ (up-to ((c .before .before .before .before .before .before .m) .given .1) ((c .before .before .before .before .before .before .before .before .before .before .product) .ensures)) ((c .before .before .before .before .loop) .inv) ((c .before .before .before .loop-test) .taken) ((c .before .before .before .before .before .before .before .before .before .before .before .before .before .before .pre) .1 .2) ((c .before .before .before .before .before .before .before .before .before .before .before .before .before .before .pre) .1 .3)))
-    (λ c. omega (arith, readers.part-start sumLoop _ _ _ _ _ (up-to ((c .before .before .before .before .before .before .m) .given .1) ((c .before .before .before .before .before .before .before .before .before .before .product) .ensures)) ((c .before .before .before .before .loop) .inv) ((c .before .before .before .loop-test) .taken) ((c .before .before .before .before .before .before .before .before .before .before .before .before .before .before .pre) .1 .2) ((c .before .before .before .before .before .before .before .before .before .before .before .before .before .before .pre) .1 .3)))
-    (λ c κs. (omega (arith, (c .before .before .before .before .before .before .before .before .before .before .before .before .before .before .before .pre) .0, (c .before .before .before .before .before .loop) .inv .past, (c .before .before .before .before .loop-test) .taken), (omega (arith, (c .before .before .before .before .loop-test) .taken), (c .before .before .before .before .before .before .before .before .before .before .before .before .before .before .before .pre) .1 .1, (c .before .before .before .before .before .before .before .before .before .before .before .before .before .before .before .pre) .1 .2, readers.part-room sumLoop _ _ _ _ _ (up-to ((c .before .before .before .before .before .before .before .m) .given .1) ((c .before .before .before .before .before .before .before .before .before .before .before .product) .ensures)) ((c .before .before .before .before .before .loop) .inv) ((c .before .before .before .before .loop-test) .taken) ((c .before .before .before .before .before .before .before .before .before .before .before .before .before .before .before .pre) .1 .2) ((c .before .before .before .before .before .before .before .before .before .before .before .before .before .before .before .pre) .1 .3))))
+    (λ c.
+    let first = up-to (c .before .before .before .before .before .before .m .given .1) (c .before .before .before .before .before .before .before .before .before .before .product .ensures) in
+    let pre = c .before .before .before .before .before .before .before .before .before .before .before .before .before .before .pre in
+    let loop = c .before .before .before .before .loop in
+    let test = c .before .before .before .loop-test in
+    readers.part-start sumLoop _ _ _ _ _ first (loop .inv) (test .taken) (pre .1 .2) (pre .1 .3))
+    (λ c.
+    let first = up-to (c .before .before .before .before .before .before .m .given .1) (c .before .before .before .before .before .before .before .before .before .before .product .ensures) in
+    let pre = c .before .before .before .before .before .before .before .before .before .before .before .before .before .before .pre in
+    let loop = c .before .before .before .before .loop in
+    let test = c .before .before .before .loop-test in
+    omega (arith, readers.part-start sumLoop _ _ _ _ _ first (loop .inv) (test .taken) (pre .1 .2) (pre .1 .3)))
+    (λ c.
+    let first = up-to (c .before .before .before .before .before .before .m .given .1) (c .before .before .before .before .before .before .before .before .before .before .product .ensures) in
+    let pre = c .before .before .before .before .before .before .before .before .before .before .before .before .before .before .pre in
+    let loop = c .before .before .before .before .loop in
+    let test = c .before .before .before .loop-test in
+    omega (arith, readers.part-start sumLoop _ _ _ _ _ first (loop .inv) (test .taken) (pre .1 .2) (pre .1 .3)))
+    (λ c κs.
+    let first = up-to (c .before .before .before .before .before .before .before .m .given .1) (c .before .before .before .before .before .before .before .before .before .before .before .product .ensures) in
+    let pre = c .before .before .before .before .before .before .before .before .before .before .before .before .before .before .before .pre in
+    let loop = c .before .before .before .before .before .loop in
+    let test = c .before .before .before .before .loop-test in
+    (omega (arith, pre .0, loop .inv .past, test .taken), (omega (arith, test .taken), pre .1 .1, pre .1 .2, readers.part-room sumLoop _ _ _ _ _ first (loop .inv) (test .taken) (pre .1 .2) (pre .1 .3))))
     (λ c. search needs)
-    (λ c. let g = (up-to ((c .before .before .before .before .before .before .before .before .before .before .before .before .m) .given .1) ((c .before .before .before .before .before .before .before .before .before .before .before .before .before .before .before .before .product) .ensures)) in readers.stays ((c .before .before .before .before .before .before .before .before .before .before .before .before .before .before .before .before .before .before .before .before .args) .k) ((c .before .before .before .before .before .before .before .before .before .before .loop) .stack) ((c .before .before .before .before .product2) .last .1 .1 .1 .1 .0) ((c .before .before .before .before .product2) .kept .1 .1 .1 .1 .0) ((c .before .before .before .before .before .before .before .before .before .before .loop) .inv .kept) (g .kept))
+    (λ c.
+    let g = up-to (c .before .before .before .before .before .before .before .before .before .before .before .before .m .given .1) (c .before .before .before .before .before .before .before .before .before .before .before .before .before .before .before .before .product .ensures) in
+    let loop = c .before .before .before .before .before .before .before .before .before .before .loop in
+    let args = c .before .before .before .before .before .before .before .before .before .before .before .before .before .before .before .before .before .before .before .before .args in
+    let read = c .before .before .before .before .product2 in
+    readers.stays (args .k) (loop .stack) (read .last .1 .1 .1 .1 .0) (read .kept .1 .1 .1 .1 .0) (loop .inv .kept) (g .kept))
     (λ c. search (readers.more-missing sumLoop, missing, readers.sum-test))
     (λ c. search needs)
-    (λ c κs. readers.both-room sumLoop _ _ _ _ _ (up-to ((c .before .before .before .before .before .before .before .before .before .before .before .before .before .before .m) .given .1) ((c .before .before .before .before .before .before .before .before .before .before .before .before .before .before .before .before .before .before .product) .ensures)) ((c .before .before .before .before .before .before .before .before .before .before .before .before .loop) .inv) ((c .before .before .before .before .before .before .before .before .before .before .before .loop-test) .taken) ((c .before .before .before .before .before .before .before .before .before .before .before .before .before .before .before .before .before .before .before .before .before .before .pre) .1 .2) ((c .before .before .before .before .before .before .before .before .before .before .before .before .before .before .before .before .before .before .before .before .before .before .pre) .1 .3) (up-to ((c .before .before .next) .given .1) ((c .before .before .before .before .before .before .product2) .ensures)))
-    (λ c. let g = (up-to ((c .before .before .before .before .before .next) .given .1) ((c .before .before .before .before .before .before .before .before .before .product2) .ensures)) in omega (arith, g .past, g .inside, (c .before .before .before .before .before .before .before .before .before .before .before .before .before .before .loop-test) .taken))
-    (λ c. readers.more sumLoop _ _ _ _ _ (up-to ((c .before .before .before .before .before .before .before .before .before .before .before .before .before .before .before .before .before .m) .given .1) ((c .before .before .before .before .before .before .before .before .before .before .before .before .before .before .before .before .before .before .before .before .before .product) .ensures)) ((c .before .before .before .before .before .before .before .before .before .before .before .before .before .before .before .loop) .inv) ((c .before .before .before .before .before .before .before .before .before .before .before .before .before .before .loop-test) .taken) ((c .before .before .before .before .before .before .before .before .before .before .before .before .before .before .before .before .before .before .before .before .before .before .before .before .before .pre) .1 .2) ((c .before .before .before .before .before .before .before .before .before .before .before .before .before .before .before .before .before .before .before .before .before .before .before .before .before .pre) .1 .3) (up-to ((c .before .before .before .before .before .next) .given .1) ((c .before .before .before .before .before .before .before .before .before .product2) .ensures)) _ (readers.sum-test _ _ (getD ((c .before .before .before .before .before .before .before .before .before .before .before .before .before .before .before .before .before .before .before .before .before .before .before .before .before .args) .s .now) ((c .before .before .before .before .before .before .before .before .before .before .before .before .before .before .before .loop) .n) 0) ((c .before .before .before .before .before .before .before .before .before .before .before .before .joins-sum) .ensures) ((c .before .before .before .before .before .before .before .before .before .before .before .if1) .taken)) ((c .before .before .join) .ensures))
-    (λ c. let g = (up-to ((c .before .before .before .before .before .before .m) .given .1) ((c .before .before .before .before .before .before .before .before .before .before .product) .ensures)) in (c .before .before .before .before .loop) .inv .kept ∙ g .kept)
-    (λ c. readers.other-sign sumLoop _ _ _ _ _ (up-to ((c .before .before .before .before .before .before .m) .given .1) ((c .before .before .before .before .before .before .before .before .before .before .product) .ensures)) ((c .before .before .before .before .loop) .inv) ((c .before .before .before .loop-test) .taken) (readers.sum-test _ _ (getD ((c .before .before .before .before .before .before .before .before .before .before .before .before .before .before .args) .s .now) ((c .before .before .before .before .loop) .n) 0) ((c .before .joins-sum) .ensures) ((c .if1) .left)))
+    (λ c κs.
+    let first = up-to (c .before .before .before .before .before .before .before .before .before .before .before .before .before .before .m .given .1) (c .before .before .before .before .before .before .before .before .before .before .before .before .before .before .before .before .before .before .product .ensures) in
+    let part = up-to (c .before .before .next .given .1) (c .before .before .before .before .before .before .product2 .ensures) in
+    let pre = c .before .before .before .before .before .before .before .before .before .before .before .before .before .before .before .before .before .before .before .before .before .before .pre in
+    let loop = c .before .before .before .before .before .before .before .before .before .before .before .before .loop in
+    let test = c .before .before .before .before .before .before .before .before .before .before .before .loop-test in
+    readers.both-room sumLoop _ _ _ _ _ first (loop .inv) (test .taken) (pre .1 .2) (pre .1 .3) part)
+    (λ c.
+    let g = up-to (c .before .before .before .before .before .next .given .1) (c .before .before .before .before .before .before .before .before .before .product2 .ensures) in
+    let test = c .before .before .before .before .before .before .before .before .before .before .before .before .before .before .loop-test in
+    omega (arith, g .past, g .inside, test .taken))
+    (λ c.
+    let first = up-to (c .before .before .before .before .before .before .before .before .before .before .before .before .before .before .before .before .before .m .given .1) (c .before .before .before .before .before .before .before .before .before .before .before .before .before .before .before .before .before .before .before .before .before .product .ensures) in
+    let part = up-to (c .before .before .before .before .before .next .given .1) (c .before .before .before .before .before .before .before .before .before .product2 .ensures) in
+    let pre = c .before .before .before .before .before .before .before .before .before .before .before .before .before .before .before .before .before .before .before .before .before .before .before .before .before .pre in
+    let loop = c .before .before .before .before .before .before .before .before .before .before .before .before .before .before .before .loop in
+    let test = c .before .before .before .before .before .before .before .before .before .before .before .before .before .before .loop-test in
+    let args = c .before .before .before .before .before .before .before .before .before .before .before .before .before .before .before .before .before .before .before .before .before .before .before .before .before .args in
+    readers.more sumLoop _ _ _ _ _ first (loop .inv) (test .taken) (pre .1 .2) (pre .1 .3) part _ (readers.sum-test _ _ (getD (args .s .now) (loop .n) 0) ((c .before .before .before .before .before .before .before .before .before .before .before .before .joins-sum) .ensures) ((c .before .before .before .before .before .before .before .before .before .before .before .if1) .taken)) ((c .before .before .join) .ensures))
+    (λ c.
+    let g = up-to (c .before .before .before .before .before .before .m .given .1) (c .before .before .before .before .before .before .before .before .before .before .product .ensures) in
+    let loop = c .before .before .before .before .loop in
+    loop .inv .kept ∙ g .kept)
+    (λ c.
+    let first = up-to (c .before .before .before .before .before .before .m .given .1) (c .before .before .before .before .before .before .before .before .before .before .product .ensures) in
+    let loop = c .before .before .before .before .loop in
+    let test = c .before .before .before .loop-test in
+    let args = c .before .before .before .before .before .before .before .before .before .before .before .before .before .before .args in
+    readers.other-sign sumLoop _ _ _ _ _ first (loop .inv) (test .taken) (readers.sum-test _ _ (getD (args .s .now) (loop .n) 0) ((c .before .joins-sum) .ensures) ((c .if1) .left)))
     (λ c. search needs)
     (λ c. search (readers.begin-missing sumLoop, missing))
     (λ c. let g = (up-to ((c .before .before .before .m) .given .1) ((c .before .before .before .before .before .before .before .product) .ensures)) in (c .before .loop) .inv .kept ∙ g .kept)
