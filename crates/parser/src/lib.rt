@@ -183,7 +183,7 @@ fn join_blocks(op: u8, stack: &mut [u64], k: usize)
     }
 }
 
-// Ten letters have 16 words, eight have 4: a loop whose end is known is one run of wide operations.
+// Ten letters have 16 words, eight have 4, six and fewer have 1: a loop whose end is known is one run of wide operations.
 fn join(op: u8, stack: &mut [u64], k: usize)
     requires { ⌜ k + k ≤ length (now stack) ⌝ }
     ensures { λ _. ⌜ now (stack .exit) ≡ filled k (paired op k (now (stack .entry))) (now (stack .entry)) ⌝ }
@@ -192,6 +192,8 @@ fn join(op: u8, stack: &mut [u64], k: usize)
         join_blocks(op, stack, 16);
     } else if k == 4 {
         join_blocks(op, stack, 4);
+    } else if k == 1 {
+        join_blocks(op, stack, 1);
     } else {
         join_blocks(op, stack, k);
     }
@@ -215,6 +217,8 @@ fn join_word(op: u8, stack: &mut [u64], k: usize, word: u64)
         join_each(op, stack, 16, word);
     } else if k == 4 {
         join_each(op, stack, 4, word);
+    } else if k == 1 {
+        join_each(op, stack, 1, word);
     } else {
         join_each(op, stack, k, word);
     }
@@ -238,6 +242,8 @@ fn put_high(stack: &mut [u64], k: usize, j: usize)
         fill_high(stack, 16, j);
     } else if k == 4 {
         fill_high(stack, 4, j);
+    } else if k == 1 {
+        fill_high(stack, 1, j);
     } else {
         fill_high(stack, k, j);
     }
