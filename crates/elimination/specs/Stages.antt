@@ -11,12 +11,16 @@ use Rattle.ring.specs.Letters.{bit, assign}
 use Rattle.ring.specs.Lists.{has}
 use Rattle.ring.specs.Polynomial.{_⊕_}
 use Rattle.solution.specs.Elimination.{IsOrder}
-use Rattle.solution.specs.ByPoints.{bothCases, answeredThrough}
+use Rattle.solution.specs.ByPoints.{bothCases, answeredThrough, zeroChoice}
 use Rattle.words.specs.Words.{wordsOf, bitAt}
 
 -- the letters of a list are below n
 abbrev pub InLetters : ℕ → List ℕ → Type 0
 InLetters n order = (x : ℕ) → has x order ≡ true → x < n
+
+-- at the points of k words f does not turn on the unknowns below u
+abbrev pub IgnoresUnknowns : ℕ → ℕ → (ℕ → Bool) → Type 0
+IgnoresUnknowns u k f = (p : ℕ) → p < 64 * k → f p ≡ f (zeroChoice u p)
 
 -- no letter stands in the list twice
 unfoldable pub noRepeats : List ℕ → Bool

@@ -13,7 +13,7 @@ ghost use Rattle.ring.specs.Polynomial.{_⊕_};
 ghost use Rattle.solution.specs.Elimination.{IsOrder, smallestBelow};
 ghost use Rattle.solution.specs.ByPoints.{bothCases, remainsThrough, answeredThrough};
 ghost use Rattle.words.specs.Words.{wordsOf, bitAt, answerWords};
-ghost use Rattle.elimination.specs.Stages.{InLetters, noRepeats, ListsEach, stageWords, slotWords, putWords, placeOf, slotWord};
+ghost use Rattle.elimination.specs.Stages.{InLetters, IgnoresUnknowns, noRepeats, ListsEach, stageWords, slotWords, putWords, placeOf, slotWord};
 
 // f into `stage`, and then the product of its two cases of x in its place.
 fn keep_stage(x: usize, c: usize, f: &mut [u64], stage: &mut [u64])
@@ -86,21 +86,17 @@ fn answer_all(order: &[usize], c: usize, stages: &mut [u64])
     answer_first(order, c, stages);
 }
 
-// The first state in which something remains, 2 ^ g if there is none.
+// The first state in which something remains, 2 ^ g if there is none: that of the first point, since what remains does not turn on the unknowns.
 fn first_state(f: &[u64], u: usize, g: usize) -> usize
-    requires { ⌜ (u + g ≤ 10) × (length (now f) ≡ 2 ^ (u + g - 6)) ⌝ }
+    requires { ⌜ (u + g ≤ 10) × (length (now f) ≡ 2 ^ (u + g - 6)) × IgnoresUnknowns u (2 ^ (u + g - 6)) (bitAt (now f)) ⌝ }
     ensures { λ r. ⌜ r ≡ smallestBelow (2 ^ g) (λ s. bitAt (now (f .entry)) (s * 2 ^ u)) ⌝ }
 {
     let end = tables::pow2(g);
-    let width = tables::pow2(u);
-    let mut s = 0;
-    while s < end {
-        if words::value_at(f, s * width) {
-            return s;
-        }
-        s += 1;
+    let state = words::first_one(f) >> u;
+    if state < end {
+        return state;
     }
-    s
+    end
 }
 
 // Where x stands in the order.

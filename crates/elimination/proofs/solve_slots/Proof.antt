@@ -1,14 +1,20 @@
 -- `elimination::solve_slots` meets its contract. Assumes nothing.
-use Prim.Native.Nat.{_-_}
+use mathlib.Core.Path.{ap, _∙_}
+use Prim.Native.Nat.{ℕ, _^_}
 use native.Mathlib.Omega.{arith}
 use borrow.Author.Needs.{needs}
-use Rattle.elimination.proofs.States.{order-letters, same-power, same-slots, own-stages, state-remains, slots-answered}
+use Rattle.words.proofs.Words.{size-words}
+use Rattle.elimination.proofs.States.{order-letters, same-power, same-slots, own-stages, state-remains, slots-answered, remains-ignores}
 use Rattle.elimination.proofs.solve_slots.Statement.{statement}
 use Rattle.elimination.proofs.solve_slots.Tie as tie
 
 keep-stages-requires : tie.Need-keep-stages-requires
 keep-stages-requires c κs =
     (omega (arith, (c .before .before .further) .ensures), order-letters ((c .before .before .before .before .before .before .args) .u) ((c .before .before .before .before .before .before .args) .g) _ ((c .before .before .before .before .before .before .args) .order .now) ((c .before .before .before .before .before .before .pre) .1) ((c .before .before .further) .ensures), same-power _ _ _ ((c .before .before .before .before .before .before .pre) .3) ((c .before .before .further) .ensures), same-slots _ _ _ _ ((c .before .before .before .before .before .before .pre) .4) ((c .before .before .further) .ensures))
+
+first-state-requires : tie.Need-first-state-requires
+first-state-requires c κs =
+    ((c .before .before .before .before .before .before .before .before .before .before .before .before .pre) .0, size-words _ _ _ ((c .before .before .before .before .before .keep-stages) .ensures .0) ∙ ap (λ (x : ℕ). 2 ^ x) ((c .before .before .before .before .before .before .before .before .further) .ensures), remains-ignores _ _ _ ((c .before .before .before .before .before .before .before .before .before .before .before .before .args) .f .now) _ ((c .before .before .before .before .before .before .before .before .before .before .before .before .args) .order .now) ((c .before .before .before .before .before .before .before .before .before .before .before .before .pre) .1) ((c .before .before .before .before .before .before .before .before .further) .ensures) ((c .before .before .before .before .before .keep-stages) .ensures .0))
 
 returns : tie.Need-returns
 returns c = (
@@ -35,7 +41,7 @@ solve-slots-spec =
     (λ c. search needs)
     (λ c κs. search needs)
     keep-stages-requires
-    (λ c κs. search needs)
+    first-state-requires
     (λ c κs. search needs)
     (λ c. search needs)
     (λ c. search needs)
