@@ -40,16 +40,30 @@ pub +answer-all-spec : {M : Type 1} → statement M
 )
     (answer-all-at t)
     answer-all.Post
-    (λ c. answers-none _ _ _ ((c .if1) .taken) ((c .before .before .before .pre) .1 .3))
+    (λ c. let start = c .before .before .before in
+    answers-none _ _ _ (c .if1 .taken) (start .pre .1 .3))
     (λ c κs. search needs)
     (λ c. search needs)
     (λ c. search needs)
     (λ c. search needs)
-    (λ c. let b : 2 ^ (c .before .before .before .before .before .args) .c ≤ 2 ^ 4 = pow-mono ((c .before .before .before .before .before .pre) .1 .0) in omega (arith, (c .before .pow2) .ensures))
-    (λ c. slot-room _ _ ((c .before .before .before .before .before .args) .order .now) ((c .before .before .before .before .before .args) .stages .now) ((c .before .pow2) .ensures) (ap length ((c .before .before .before .before .before .pre) .1 .3) ∙ length-stages ((c .before .before .before .before .before .args) .c) _ ((c .before .before .before .before .before .args) .order .now)) (omega arith))
-    (λ c. omega (arith, slot-room _ _ ((c .before .before .before .before .before .args) .order .now) ((c .before .before .before .before .before .args) .stages .now) ((c .before .pow2) .ensures) (ap length ((c .before .before .before .before .before .pre) .1 .3) ∙ length-stages ((c .before .before .before .before .before .args) .c) _ ((c .before .before .before .before .before .args) .order .now)) (omega arith)))
-    (λ c. omega (arith, slot-room _ _ ((c .before .before .before .before .before .args) .order .now) ((c .before .before .before .before .before .args) .stages .now) ((c .before .pow2) .ensures) (ap length ((c .before .before .before .before .before .pre) .1 .3) ∙ length-stages ((c .before .before .before .before .before .args) .c) _ ((c .before .before .before .before .before .args) .order .now)) (omega arith)))
-    (λ c κs. (omega (arith, (c .before .before .before .before .before .before .pre) .0, rest-length ((c .before .before .before .before .before .before .args) .order .now)), ((c .before .before .before .before .before .before .pre) .1 .0, rest-letters _ ((c .before .before .before .before .before .before .args) .order .now) ((c .before .before .before .before .before .before .pre) .1 .1), rest-once ((c .before .before .before .before .before .before .args) .order .now) ((c .before .before .before .before .before .before .pre) .1 .2), rest-stages _ _ ((c .before .before .before .before .before .before .args) .order .now) ((c .before .before .before .before .before .before .args) .stages .now) ((c .before .before .pow2) .ensures) ((c .before .before .before .before .before .before .pre) .1 .1) (omega arith) ((c .before .before .before .before .before .before .pre) .1 .3))))
-    (λ c κs. ((c .before .before .before .before .before .before .before .before .before .before .pre) .1 .0, omega arith, (c .before .before .before .before .before .before .before .before .before .before .pre) .1 .1, answered-size _ _ _ ((c .before .before .before .before .before .before .before .before .before .before .args) .order .now) ((c .before .before .before .before .before .before .before .before .before .before .args) .stages .now) _ ((c .before .before .before .before .before .before .pow2) .ensures) (omega arith) ((c .before .before .before .before .before .before .before .before .before .before .pre) .1 .3) ((c .before .before .before .answer-all) .ensures)))
+    (λ c. let start = c .before .before .before .before .before in
+    let b : 2 ^ start .args .c ≤ 2 ^ 4 = pow-mono (start .pre .1 .0) in omega (arith, c .before .pow2 .ensures))
+    (λ c. let start = c .before .before .before .before .before in
+    slot-room _ _ (start .args .order .now) (start .args .stages .now) (c .before .pow2 .ensures) (ap length (start .pre .1 .3) ∙ length-stages (start .args .c) _ (start .args .order .now)) (omega arith))
+    (λ c. let start = c .before .before .before .before .before in
+    omega (arith, slot-room _ _ (start .args .order .now) (start .args .stages .now) (c .before .pow2 .ensures) (ap length (start .pre .1 .3) ∙ length-stages (start .args .c) _ (start .args .order .now)) (omega arith)))
+    (λ c. let start = c .before .before .before .before .before in
+    omega (arith, slot-room _ _ (start .args .order .now) (start .args .stages .now) (c .before .pow2 .ensures) (ap length (start .pre .1 .3) ∙ length-stages (start .args .c) _ (start .args .order .now)) (omega arith)))
+    (λ c κs. let start = c .before .before .before .before .before .before in
+    let after-pow2 = c .before .before in
+    (omega (arith, start .pre .0, rest-length (start .args .order .now)), (start .pre .1 .0, rest-letters _ (start .args .order .now) (start .pre .1 .1), rest-once (start .args .order .now) (start .pre .1 .2), rest-stages _ _ (start .args .order .now) (start .args .stages .now) (after-pow2 .pow2 .ensures) (start .pre .1 .1) (omega arith) (start .pre .1 .3))))
+    (λ c κs. let start = c .before .before .before .before .before .before .before .before .before .before in
+    let after-pow2 = c .before .before .before .before .before .before in
+    let after-answer-all = c .before .before .before in
+    (start .pre .1 .0, omega arith, start .pre .1 .1, answered-size _ _ _ (start .args .order .now) (start .args .stages .now) _ (after-pow2 .pow2 .ensures) (omega arith) (start .pre .1 .3) (after-answer-all .answer-all .ensures)))
     (λ c. search needs)
-    (λ c. answers-more _ _ ((c .before .before .before .before .before .before .before .before .before .before .before .before .before .args) .order .now) ((c .before .before .before .before .before .before .before .before .before .before .before .before .before .args) .stages .now) _ _ _ ((c .before .before .before .before .before .before .before .before .before .pow2) .ensures) ((c .before .before .before .before .before .before .before .before .before .before .before .before .before .pre) .1 .1) ((c .before .before .before .before .before .before .before .before .before .before .before .before .before .pre) .1 .2) (omega arith) ((c .before .before .before .before .before .before .before .before .before .before .before .before .before .pre) .1 .3) ((c .before .before .before .before .before .before .answer-all) .ensures) refl ((c .before .before .answer-first) .ensures)))
+    (λ c. let start = c .before .before .before .before .before .before .before .before .before .before .before .before .before in
+    let after-pow2 = c .before .before .before .before .before .before .before .before .before in
+    let after-answer-all = c .before .before .before .before .before .before in
+    let after-answer-first = c .before .before in
+    answers-more _ _ (start .args .order .now) (start .args .stages .now) _ _ _ (after-pow2 .pow2 .ensures) (start .pre .1 .1) (start .pre .1 .2) (omega arith) (start .pre .1 .3) (after-answer-all .answer-all .ensures) refl (after-answer-first .answer-first .ensures)))

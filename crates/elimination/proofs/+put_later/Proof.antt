@@ -41,18 +41,34 @@ pub +put-later-spec : {M : Type 1} → statement M
 )
     (put-later-at t)
     put-later.Post
-    (λ c. let w = machine-words _ ((c .before .before .before .before .args) .a .now) ((c .before .before .before .before .pre) .1 .3) (λ i. omega (arith, (c .before .slice-known) .given i)) in put-none _ _ _ _ ((c .if1) .taken) w)
+    (λ c. let start = c .before .before .before .before in
+    let w = machine-words _ (start .args .a .now) (start .pre .1 .3) (λ i. omega (arith, c .before .slice-known .given i)) in put-none _ _ _ _ (c .if1 .taken) w)
     (λ c κs. search needs)
     (λ c. search needs)
     (λ c. search needs)
     (λ c. search needs)
-    (λ c. let b : 2 ^ (c .before .before .before .before .before .before .args) .c ≤ 2 ^ 4 = pow-mono ((c .before .before .before .before .before .before .pre) .1 .0) in omega (arith, (c .before .pow2) .ensures))
-    (λ c. slot-room _ _ ((c .before .before .before .before .before .before .args) .order .now) ((c .before .before .before .before .before .before .args) .slots .now) ((c .before .pow2) .ensures) ((c .before .before .before .before .before .before .pre) .1 .2) (omega arith))
-    (λ c. omega (arith, slot-room _ _ ((c .before .before .before .before .before .before .args) .order .now) ((c .before .before .before .before .before .before .args) .slots .now) ((c .before .pow2) .ensures) ((c .before .before .before .before .before .before .pre) .1 .2) (omega arith)))
-    (λ c. omega (arith, slot-room _ _ ((c .before .before .before .before .before .before .args) .order .now) ((c .before .before .before .before .before .before .args) .slots .now) ((c .before .pow2) .ensures) ((c .before .before .before .before .before .before .pre) .1 .2) (omega arith)))
-    (λ c κs. (omega (arith, (c .before .before .before .before .before .before .before .before .pre) .0, rest-length ((c .before .before .before .before .before .before .before .before .args) .order .now)), ((c .before .before .before .before .before .before .before .before .pre) .1 .0, rest-letters _ ((c .before .before .before .before .before .before .before .before .args) .order .now) ((c .before .before .before .before .before .before .before .before .pre) .1 .1), slots-rest _ _ ((c .before .before .before .before .before .before .before .before .args) .order .now) ((c .before .before .before .before .before .before .before .before .args) .slots .now) ((c .before .before .before .pow2) .ensures) ((c .before .before .before .before .before .before .before .before .pre) .1 .2) (omega arith), (c .before .before .before .before .before .before .before .before .pre) .1 .3)))
+    (λ c. let start = c .before .before .before .before .before .before in
+    let b : 2 ^ start .args .c ≤ 2 ^ 4 = pow-mono (start .pre .1 .0) in omega (arith, c .before .pow2 .ensures))
+    (λ c. let start = c .before .before .before .before .before .before in
+    slot-room _ _ (start .args .order .now) (start .args .slots .now) (c .before .pow2 .ensures) (start .pre .1 .2) (omega arith))
+    (λ c. let start = c .before .before .before .before .before .before in
+    omega (arith, slot-room _ _ (start .args .order .now) (start .args .slots .now) (c .before .pow2 .ensures) (start .pre .1 .2) (omega arith)))
+    (λ c. let start = c .before .before .before .before .before .before in
+    omega (arith, slot-room _ _ (start .args .order .now) (start .args .slots .now) (c .before .pow2 .ensures) (start .pre .1 .2) (omega arith)))
+    (λ c κs. let start = c .before .before .before .before .before .before .before .before in
+    let after-pow2 = c .before .before .before in
+    (omega (arith, start .pre .0, rest-length (start .args .order .now)), (start .pre .1 .0, rest-letters _ (start .args .order .now) (start .pre .1 .1), slots-rest _ _ (start .args .order .now) (start .args .slots .now) (after-pow2 .pow2 .ensures) (start .pre .1 .2) (omega arith), start .pre .1 .3)))
     (λ c. search needs)
-    (λ c. sym (length-take-le _ _ (slot-room _ _ ((c .before .before .before .before .before .before .before .before .before .before .before .before .before .before .args) .order .now) ((c .before .before .before .before .before .before .before .before .before .before .before .before .before .before .args) .slots .now) ((c .before .before .before .before .before .before .before .before .before .pow2) .ensures) ((c .before .before .before .before .before .before .before .before .before .before .before .before .before .before .pre) .1 .2) (omega arith))))
-    (λ c κs. (first-letter _ ((c .before .before .before .before .before .before .before .before .before .before .before .before .before .before .args) .order .now) ((c .before .before .before .before .before .before .before .before .before .before .before .before .before .before .pre) .1 .1) (omega arith), (c .before .before .before .before .before .before .before .before .before .before .before .before .before .before .pre) .1 .0, size-words _ _ _ ((c .before .before .before .before .before .put-later) .ensures), length-take-le _ _ (slot-room _ _ ((c .before .before .before .before .before .before .before .before .before .before .before .before .before .before .args) .order .now) ((c .before .before .before .before .before .before .before .before .before .before .before .before .before .before .args) .slots .now) ((c .before .before .before .before .before .before .before .before .before .pow2) .ensures) ((c .before .before .before .before .before .before .before .before .before .before .before .before .before .before .pre) .1 .2) (omega arith)) ∙ (c .before .before .before .before .before .before .before .before .before .pow2) .ensures))
+    (λ c. let start = c .before .before .before .before .before .before .before .before .before .before .before .before .before .before in
+    let after-pow2 = c .before .before .before .before .before .before .before .before .before in
+    sym (length-take-le _ _ (slot-room _ _ (start .args .order .now) (start .args .slots .now) (after-pow2 .pow2 .ensures) (start .pre .1 .2) (omega arith))))
+    (λ c κs. let start = c .before .before .before .before .before .before .before .before .before .before .before .before .before .before in
+    let after-pow2 = c .before .before .before .before .before .before .before .before .before in
+    let after-put-later = c .before .before .before .before .before in
+    (first-letter _ (start .args .order .now) (start .pre .1 .1) (omega arith), start .pre .1 .0, size-words _ _ _ (after-put-later .put-later .ensures), length-take-le _ _ (slot-room _ _ (start .args .order .now) (start .args .slots .now) (after-pow2 .pow2 .ensures) (start .pre .1 .2) (omega arith)) ∙ after-pow2 .pow2 .ensures))
     (λ c. search needs)
-    (λ c. put-more _ _ ((c .before .before .before .before .before .before .before .before .before .before .before .before .before .before .before .before .before .args) .order .now) ((c .before .before .before .before .before .before .before .before .before .before .before .before .before .before .before .before .before .args) .slots .now) ((c .before .before .before .before .before .before .before .before .before .before .before .before .before .before .before .before .before .args) .a .now) _ _ ((c .before .before .before .before .before .before .before .before .before .before .before .before .pow2) .ensures) ((c .before .before .before .before .before .before .before .before .before .before .before .before .before .before .before .before .before .pre) .1 .1) (omega arith) ((c .before .before .before .before .before .before .before .before .put-later) .ensures) ((c .before .before .replace-in) .ensures)))
+    (λ c. let start = c .before .before .before .before .before .before .before .before .before .before .before .before .before .before .before .before .before in
+    let after-pow2 = c .before .before .before .before .before .before .before .before .before .before .before .before in
+    let after-put-later = c .before .before .before .before .before .before .before .before in
+    let after-replace-in = c .before .before in
+    put-more _ _ (start .args .order .now) (start .args .slots .now) (start .args .a .now) _ _ (after-pow2 .pow2 .ensures) (start .pre .1 .1) (omega arith) (after-put-later .put-later .ensures) (after-replace-in .replace-in .ensures)))

@@ -8,13 +8,21 @@ use Rattle.elimination.proofs.first_state.Statement.{statement}
 use Rattle.elimination.proofs.first_state.Tie as tie
 
 first-one-requires : tie.Need-first-one-requires
-first-one-requires c κs = count-small _ _ ((c .before .before .pre) .1) ((c .before .before .pre) .0)
+first-one-requires c κs =
+    let start = c .before .before in
+    count-small _ _ (start .pre .1) (start .pre .0)
 
 returns : tie.Need-returns
-returns c = found-state ((c .before .before .before .before .args) .u) ((c .before .before .before .before .args) .g) _ _ _ ((c .before .before .before .before .args) .f .now) ((c .before .before .before .before .pre) .2) ((c .before .before .before .before .pre) .1) ((c .before .first-one) .ensures) refl ((c .before .before .pow2) .ensures) ((c .if1) .taken)
+returns c =
+    let start = c .before .before .before .before in
+    let after-pow2 = c .before .before in
+    found-state (start .args .u) (start .args .g) _ _ _ (start .args .f .now) (start .pre .2) (start .pre .1) (c .before .first-one .ensures) refl (after-pow2 .pow2 .ensures) (c .if1 .taken)
 
 returns-2 : tie.Need-returns-2
-returns-2 c = no-state ((c .before .before .before .before .args) .u) ((c .before .before .before .before .args) .g) _ _ _ ((c .before .before .before .before .args) .f .now) ((c .before .first-one) .ensures) refl ((c .before .before .pow2) .ensures) ((c .if1) .left)
+returns-2 c =
+    let start = c .before .before .before .before in
+    let after-pow2 = c .before .before in
+    no-state (start .args .u) (start .args .g) _ _ _ (start .args .f .now) (c .before .first-one .ensures) refl (after-pow2 .pow2 .ensures) (c .if1 .left)
 
 pub first-state-spec : {M : Type 1} → statement M
 first-state-spec = tie.close (tie.spec (λ c κs. search needs) first-one-requires (λ c. search needs) returns returns-2)

@@ -11,19 +11,28 @@ use Rattle.elimination.proofs.solve_words.Statement.{statement}
 use Rattle.elimination.proofs.solve_words.Tie as tie
 
 mul-all : tie.Need-mul-all
-mul-all c = omega (arith, slots-fit _ _ ((c .before .before .before .before .args) .order .now) ((c .before .before .before .before .pre) .2 .2) ((c .before .before .before .before .pre) .0) (count-small _ _ ((c .word-count) .ensures) ((c .before .before .before .before .pre) .1)))
+mul-all c =
+    let start = c .before .before .before .before in
+    omega (arith, slots-fit _ _ (start .args .order .now) (start .pre .2 .2) (start .pre .0) (count-small _ _ (c .word-count .ensures) (start .pre .1)))
 
 array-borrow-prefix-slots : tie.Need-array-borrow-prefix-slots
-array-borrow-prefix-slots c = slots-fit _ _ ((c .before .before .before .before .before .args) .order .now) ((c .before .before .before .before .before .pre) .2 .2) ((c .before .before .before .before .before .pre) .0) (count-small _ _ ((c .before .word-count) .ensures) ((c .before .before .before .before .before .pre) .1))
+array-borrow-prefix-slots c =
+    let start = c .before .before .before .before .before in
+    slots-fit _ _ (start .args .order .now) (start .pre .2 .2) (start .pre .0) (count-small _ _ (c .before .word-count .ensures) (start .pre .1))
 
 slice-aggregate-solve-with : tie.Need-slice-aggregate-solve-with
-slice-aggregate-solve-with c = sym (length-take-le _ _ (slots-fit _ _ ((c .before .before .before .before .before .before .args) .order .now) ((c .before .before .before .before .before .before .pre) .2 .2) ((c .before .before .before .before .before .before .pre) .0) (count-small _ _ ((c .before .before .word-count) .ensures) ((c .before .before .before .before .before .before .pre) .1))))
+slice-aggregate-solve-with c =
+    let start = c .before .before .before .before .before .before in
+    let after-word-count = c .before .before in
+    sym (length-take-le _ _ (slots-fit _ _ (start .args .order .now) (start .pre .2 .2) (start .pre .0) (count-small _ _ (after-word-count .word-count .ensures) (start .pre .1))))
 
 solve-with-requires : tie.Need-solve-with-requires
-solve-with-requires c κs = (
-  ((c .before .before .before .before .before .before .before .pre) .1, (c .before .before .before .before .before .before .before .pre) .2 .0, (c .before .before .before .before .before .before .before .pre) .2 .1, (c .before .before .before .before .before .before .before .pre) .3, (c .before .before .before .before .before .before .before .pre) .4),
-  length-take-le _ _ (slots-fit _ _ ((c .before .before .before .before .before .before .before .args) .order .now) ((c .before .before .before .before .before .before .before .pre) .2 .2) ((c .before .before .before .before .before .before .before .pre) .0) (count-small _ _ ((c .before .before .before .word-count) .ensures) ((c .before .before .before .before .before .before .before .pre) .1))) ∙ ap (λ (x : ℕ). length ((c .before .before .before .before .before .before .before .args) .order .now) * x) ((c .before .before .before .word-count) .ensures),
-)
+solve-with-requires c κs =
+    let start = c .before .before .before .before .before .before .before in
+    let after-word-count = c .before .before .before in (
+      (start .pre .1, start .pre .2 .0, start .pre .2 .1, start .pre .3, start .pre .4),
+      length-take-le _ _ (slots-fit _ _ (start .args .order .now) (start .pre .2 .2) (start .pre .0) (count-small _ _ (after-word-count .word-count .ensures) (start .pre .1))) ∙ ap (λ (x : ℕ). length (start .args .order .now) * x) (after-word-count .word-count .ensures),
+    )
 
 pub solve-words-spec : {M : Type 1} → statement M
 solve-words-spec =

@@ -8,7 +8,12 @@ use Rattle.solver.proofs.mix_handed_with.Statement.{statement}
 use Rattle.solver.proofs.mix_handed_with.Tie as tie
 
 returns : tie.Need-returns
-returns c = λ f b ft bt. (c .before .before .before .before .write-mixed) .ensures ∙ handed-written _ _ f b ((c .before .before .before .before .before .before .before .before .before .before .before .before .before .before .before .before .before .before .before .before .before .before .before .args) .condition .now) ((c .before .before .before .before .before .before .before .before .before .before .before .before .before .before .before .before .before .before .before .before .before .before .before .args) .handed .now) _ _ ft bt ((c .before .before .before .before .before .before .before .before .before .before .before .before .before .before .before .take-values) .ensures) ((c .before .before .before .before .before .before .before .before .before .before .before .take-all) .ensures)
+returns c =
+    let start = c .before .before .before .before .before .before .before .before .before .before .before .before .before .before .before .before .before .before .before .before .before .before .before in
+    let after-take-values = c .before .before .before .before .before .before .before .before .before .before .before .before .before .before .before in
+    let after-take-all = c .before .before .before .before .before .before .before .before .before .before .before in
+    let after-write-mixed = c .before .before .before .before in
+    λ f b ft bt. after-write-mixed .write-mixed .ensures ∙ handed-written _ _ f b (start .args .condition .now) (start .args .handed .now) _ _ ft bt (after-take-values .take-values .ensures) (after-take-all .take-all .ensures)
 
 pub mix-handed-with-spec : {M : Type 1} → statement M
 mix-handed-with-spec =

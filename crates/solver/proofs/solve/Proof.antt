@@ -11,8 +11,10 @@ use Rattle.solver.proofs.solve.Tie as tie
 returns : tie.Need-returns
 unfolding solve solveBy
 returns c =
-    let t = (c .before .before .before .before .before .before .args) .condition .now in
-    ((c .before .before .solve-default) .ensures .0 (present t) (λ m l. refl), (c .before .before .solve-default) .ensures .1 (present t) (λ m l. refl))
+    let start = c .before .before .before .before .before .before in
+    let after-solve-default = c .before .before in
+    let t = start .args .condition .now in
+    (after-solve-default .solve-default .ensures .0 (present t) (λ m l. refl), after-solve-default .solve-default .ensures .1 (present t) (λ m l. refl))
 
 pub solve-spec : {M : Type 1} → statement M
 solve-spec = tie.close (tie.spec (λ c κs. search needs) (λ c. search needs) returns)

@@ -9,13 +9,20 @@ use Rattle.solver.proofs.solve_default.Statement.{statement}
 use Rattle.solver.proofs.solve_default.Tie as tie
 
 slice-aggregate-solve-by : tie.Need-slice-aggregate-solve-by
-slice-aggregate-solve-by c = sym (length-take-le _ _ ((c .before .before .before .pre) .0))
+slice-aggregate-solve-by c =
+    let start = c .before .before .before in
+    sym (length-take-le _ _ (start .pre .0))
 
 solve-by-requires : tie.Need-solve-by-requires
-solve-by-requires c κs = ((c .before .before .before .before .pre) .0, (c .before .before .before .before .pre) .1, first-each _ ((c .before .before .before .before .pre) .0), (c .before .before .before .before .pre) .2, (c .before .before .before .before .pre) .3)
+solve-by-requires c κs =
+    let start = c .before .before .before .before in
+    (start .pre .0, start .pre .1, first-each _ (start .pre .0), start .pre .2, start .pre .3)
 
 returns : tie.Need-returns
-returns c = rw (first-unknowns _ ((c .before .before .before .before .before .before .before .pre) .0)) at ((c .before .before .solve-by) .ensures)
+returns c =
+    let start = c .before .before .before .before .before .before .before in
+    let after-solve-by = c .before .before in
+    rw (first-unknowns _ (start .pre .0)) at (after-solve-by .solve-by .ensures)
 
 pub solve-default-spec : {M : Type 1} → statement M
 solve-default-spec =

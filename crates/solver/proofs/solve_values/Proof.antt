@@ -5,10 +5,16 @@ use Rattle.solver.proofs.solve_values.Statement.{statement}
 use Rattle.solver.proofs.solve_values.Tie as tie
 
 returns : tie.Need-returns
-returns c f e = none-said _ _ ((c .before .before .before .before .before .before .before .before .before .before .before .before .args) .order .now) ((c .before .before .before .before .before .before .before .before .before .before .before .before .pre) .2 .0) f _ e _ _ ((c .before .before .before .before .before .before .solve-words) .ensures .0) ((c .before .pow2) .ensures) ((c .if1) .taken)
+returns c f e =
+    let start = c .before .before .before .before .before .before .before .before .before .before .before .before in
+    let after-solve-words = c .before .before .before .before .before .before in
+    none-said _ _ (start .args .order .now) (start .pre .2 .0) f _ e _ _ (after-solve-words .solve-words .ensures .0) (c .before .pow2 .ensures) (c .if1 .taken)
 
 returns-2 : tie.Need-returns-2
-returns-2 c f e = solved-said _ _ ((c .before .before .before .before .before .before .before .before .before .before .before .before .args) .order .now) ((c .before .before .before .before .before .before .before .before .before .before .before .before .pre) .2 .0) f _ e _ _ ((c .before .before .before .before .before .before .solve-words) .ensures .0) ((c .before .pow2) .ensures) _ ((c .if1) .left) ((c .before .before .before .before .before .before .solve-words) .ensures .1)
+returns-2 c f e =
+    let start = c .before .before .before .before .before .before .before .before .before .before .before .before in
+    let after-solve-words = c .before .before .before .before .before .before in
+    solved-said _ _ (start .args .order .now) (start .pre .2 .0) f _ e _ _ (after-solve-words .solve-words .ensures .0) (c .before .pow2 .ensures) _ (c .if1 .left) (after-solve-words .solve-words .ensures .1)
 
 pub solve-values-spec : {M : Type 1} → statement M
 solve-values-spec =

@@ -10,11 +10,21 @@ use Rattle.solver.proofs.solve_with.Tie as tie
 
 returns : tie.Need-returns
 returns c =
-    ((λ f ft. (solved-by ((c .before .before .before .before .before .before .before .before .before .before .before .before .before .before .before .before .before .before .before .before .before .before .before .before .before .before .before .before .before .before .before .before .before .before .before .args) .method) _ _ ((c .before .before .before .before .before .before .before .before .before .before .before .before .before .before .before .before .before .before .before .before .before .before .before .before .before .before .before .before .before .before .before .before .before .before .before .args) .order .now) f _ _ _ ((c .before .before .before .before .before .before .before .before .before .before .before .before .before .before .before .before .before .before .before .before .before .before .before .before .before .before .before .before .before .before .before .before .before .before .before .args) .answers .now) ((c .before .before .before .before .before .before .before .before .before .before .before .enum-told) .given .1) ((c .before .before .before .before .before .before .before .before .before .before .before .before .before .before .before .before .before .solve-values) .ensures f ((c .before .before .before .before .before .before .before .before .before .before .before .before .before .before .before .before .before .before .before .before .before .before .copy) .ensures ∙ values-of _ f ((c .before .before .before .before .before .before .before .before .before .before .before .before .before .before .before .before .before .before .before .before .before .before .before .before .before .before .before .before .before .before .before .before .before .before .before .args) .condition .now) _ ft ((c .before .before .before .before .before .before .before .before .before .before .before .before .before .before .before .before .before .before .before .before .before .before .before .before .before .before .before .take-values) .ensures))) ((c .before .before .before .before .before .before .write-by) .ensures f ((c .before .before .before .before .before .before .before .before .before .before .before .before .before .before .before .before .before .before .before .before .before .before .before .before .before .before .before .before .before .before .before .before .before .before .before .args) .order .now) (values-of _ f ((c .before .before .before .before .before .before .before .before .before .before .before .before .before .before .before .before .before .before .before .before .before .before .before .before .before .before .before .before .before .before .before .before .before .before .before .args) .condition .now) _ ft ((c .before .before .before .before .before .before .before .before .before .before .before .before .before .before .before .before .before .before .before .before .before .before .before .before .before .before .before .take-values) .ensures)))) .0), (λ f ft. (solved-by ((c .before .before .before .before .before .before .before .before .before .before .before .before .before .before .before .before .before .before .before .before .before .before .before .before .before .before .before .before .before .before .before .before .before .before .before .args) .method) _ _ ((c .before .before .before .before .before .before .before .before .before .before .before .before .before .before .before .before .before .before .before .before .before .before .before .before .before .before .before .before .before .before .before .before .before .before .before .args) .order .now) f _ _ _ ((c .before .before .before .before .before .before .before .before .before .before .before .before .before .before .before .before .before .before .before .before .before .before .before .before .before .before .before .before .before .before .before .before .before .before .before .args) .answers .now) ((c .before .before .before .before .before .before .before .before .before .before .before .enum-told) .given .1) ((c .before .before .before .before .before .before .before .before .before .before .before .before .before .before .before .before .before .solve-values) .ensures f ((c .before .before .before .before .before .before .before .before .before .before .before .before .before .before .before .before .before .before .before .before .before .before .copy) .ensures ∙ values-of _ f ((c .before .before .before .before .before .before .before .before .before .before .before .before .before .before .before .before .before .before .before .before .before .before .before .before .before .before .before .before .before .before .before .before .before .before .before .args) .condition .now) _ ft ((c .before .before .before .before .before .before .before .before .before .before .before .before .before .before .before .before .before .before .before .before .before .before .before .before .before .before .before .take-values) .ensures))) ((c .before .before .before .before .before .before .write-by) .ensures f ((c .before .before .before .before .before .before .before .before .before .before .before .before .before .before .before .before .before .before .before .before .before .before .before .before .before .before .before .before .before .before .before .before .before .before .before .args) .order .now) (values-of _ f ((c .before .before .before .before .before .before .before .before .before .before .before .before .before .before .before .before .before .before .before .before .before .before .before .before .before .before .before .before .before .before .before .before .before .before .before .args) .condition .now) _ ft ((c .before .before .before .before .before .before .before .before .before .before .before .before .before .before .before .before .before .before .before .before .before .before .before .before .before .before .before .take-values) .ensures)))) .1))
+    let start = c .before .before .before .before .before .before .before .before .before .before .before .before .before .before .before .before .before .before .before .before .before .before .before .before .before .before .before .before .before .before .before .before .before .before .before in
+    let after-take-values = c .before .before .before .before .before .before .before .before .before .before .before .before .before .before .before .before .before .before .before .before .before .before .before .before .before .before .before in
+    let after-copy = c .before .before .before .before .before .before .before .before .before .before .before .before .before .before .before .before .before .before .before .before .before .before in
+    let after-solve-values = c .before .before .before .before .before .before .before .before .before .before .before .before .before .before .before .before .before in
+    let told = c .before .before .before .before .before .before .before .before .before .before .before in
+    let after-write-by = c .before .before .before .before .before .before in
+    ((λ f ft. (solved-by (start .args .method) _ _ (start .args .order .now) f _ _ _ (start .args .answers .now) (told .enum-told .given .1) (after-solve-values .solve-values .ensures f (after-copy .copy .ensures ∙ values-of _ f (start .args .condition .now) _ ft (after-take-values .take-values .ensures))) (after-write-by .write-by .ensures f (start .args .order .now) (values-of _ f (start .args .condition .now) _ ft (after-take-values .take-values .ensures)))) .0), (λ f ft. (solved-by (start .args .method) _ _ (start .args .order .now) f _ _ _ (start .args .answers .now) (told .enum-told .given .1) (after-solve-values .solve-values .ensures f (after-copy .copy .ensures ∙ values-of _ f (start .args .condition .now) _ ft (after-take-values .take-values .ensures))) (after-write-by .write-by .ensures f (start .args .order .now) (values-of _ f (start .args .condition .now) _ ft (after-take-values .take-values .ensures)))) .1))
 
 returns-2 : tie.Need-returns-2
 returns-2 c =
-    ((λ f ft. (none-by ((c .before .before .before .before .before .before .before .before .before .before .before .before .before .before .before .before .before .before .before .before .before .before .before .before .before .args) .method) _ _ ((c .before .before .before .before .before .before .before .before .before .before .before .before .before .before .before .before .before .before .before .before .before .before .before .before .before .args) .order .now) f _ _ _ ((c .before .before .before .before .before .before .before .before .before .before .before .before .before .before .before .before .before .before .before .before .before .before .before .before .before .args) .answers .now) ((c .before .verdict) .given .1) ((c .before .before .before .before .before .before .before .solve-values) .ensures f ((c .before .before .before .before .before .before .before .before .before .before .before .before .copy) .ensures ∙ values-of _ f ((c .before .before .before .before .before .before .before .before .before .before .before .before .before .before .before .before .before .before .before .before .before .before .before .before .before .args) .condition .now) _ ft ((c .before .before .before .before .before .before .before .before .before .before .before .before .before .before .before .before .before .take-values) .ensures)))) .0), (λ f ft. (none-by ((c .before .before .before .before .before .before .before .before .before .before .before .before .before .before .before .before .before .before .before .before .before .before .before .before .before .args) .method) _ _ ((c .before .before .before .before .before .before .before .before .before .before .before .before .before .before .before .before .before .before .before .before .before .before .before .before .before .args) .order .now) f _ _ _ ((c .before .before .before .before .before .before .before .before .before .before .before .before .before .before .before .before .before .before .before .before .before .before .before .before .before .args) .answers .now) ((c .before .verdict) .given .1) ((c .before .before .before .before .before .before .before .solve-values) .ensures f ((c .before .before .before .before .before .before .before .before .before .before .before .before .copy) .ensures ∙ values-of _ f ((c .before .before .before .before .before .before .before .before .before .before .before .before .before .before .before .before .before .before .before .before .before .before .before .before .before .args) .condition .now) _ ft ((c .before .before .before .before .before .before .before .before .before .before .before .before .before .before .before .before .before .take-values) .ensures)))) .1))
+    let start = c .before .before .before .before .before .before .before .before .before .before .before .before .before .before .before .before .before .before .before .before .before .before .before .before .before in
+    let after-take-values = c .before .before .before .before .before .before .before .before .before .before .before .before .before .before .before .before .before in
+    let after-copy = c .before .before .before .before .before .before .before .before .before .before .before .before in
+    let after-solve-values = c .before .before .before .before .before .before .before in
+    ((λ f ft. (none-by (start .args .method) _ _ (start .args .order .now) f _ _ _ (start .args .answers .now) (c .before .verdict .given .1) (after-solve-values .solve-values .ensures f (after-copy .copy .ensures ∙ values-of _ f (start .args .condition .now) _ ft (after-take-values .take-values .ensures)))) .0), (λ f ft. (none-by (start .args .method) _ _ (start .args .order .now) f _ _ _ (start .args .answers .now) (c .before .verdict .given .1) (after-solve-values .solve-values .ensures f (after-copy .copy .ensures ∙ values-of _ f (start .args .condition .now) _ ft (after-take-values .take-values .ensures)))) .1))
 
 pub solve-with-spec : {M : Type 1} → statement M
 solve-with-spec =

@@ -18,39 +18,75 @@ abbrev μ-loop : tie.MeasureT-loop
 μ-loop u n t words₀ k size x₀ words x = u - x
 
 mul-start : tie.Need-mul-start Inv-loop μ-loop
-mul-start c = omega (arith, part-fits _ _ _ _ _ ((c .before .before .before .word-count) .ensures) ((c .loop-test) .taken) ((c .before .before .before .before .before .before .pre) .4))
+mul-start c =
+    let start = c .before .before .before .before .before .before in
+    let after-word-count = c .before .before .before in
+    omega (arith, part-fits _ _ _ _ _ (after-word-count .word-count .ensures) (c .loop-test .taken) (start .pre .4))
 
 add-end : tie.Need-add-end Inv-loop μ-loop
-add-end c = omega (arith, part-fits _ _ _ _ _ ((c .before .before .before .word-count) .ensures) ((c .loop-test) .taken) ((c .before .before .before .before .before .before .pre) .4))
+add-end c =
+    let start = c .before .before .before .before .before .before in
+    let after-word-count = c .before .before .before in
+    omega (arith, part-fits _ _ _ _ _ (after-word-count .word-count .ensures) (c .loop-test .taken) (start .pre .4))
 
 mul-from : tie.Need-mul-from Inv-loop μ-loop
-mul-from c = omega (arith, part-fits _ _ _ _ _ ((c .before .before .pow2) .ensures) ((c .loop-test) .taken) ((c .before .before .before .before .before .before .pre) .2))
+mul-from c =
+    let start = c .before .before .before .before .before .before in
+    let after-pow2 = c .before .before in
+    omega (arith, part-fits _ _ _ _ _ (after-pow2 .pow2 .ensures) (c .loop-test .taken) (start .pre .2))
 
 add-to : tie.Need-add-to Inv-loop μ-loop
-add-to c = omega (arith, part-fits _ _ _ _ _ ((c .before .before .pow2) .ensures) ((c .loop-test) .taken) ((c .before .before .before .before .before .before .pre) .2))
+add-to c =
+    let start = c .before .before .before .before .before .before in
+    let after-pow2 = c .before .before in
+    omega (arith, part-fits _ _ _ _ _ (after-pow2 .pow2 .ensures) (c .loop-test .taken) (start .pre .2))
 
 part-take-values-end : tie.Need-part-take-values-end Inv-loop μ-loop
-part-take-values-end c = omega (arith, part-fits _ _ _ _ _ ((c .before .before .pow2) .ensures) ((c .loop-test) .taken) ((c .before .before .before .before .before .before .pre) .2))
+part-take-values-end c =
+    let start = c .before .before .before .before .before .before in
+    let after-pow2 = c .before .before in
+    omega (arith, part-fits _ _ _ _ _ (after-pow2 .pow2 .ensures) (c .loop-test .taken) (start .pre .2))
 
 mul-take-values : tie.Need-mul-take-values Inv-loop μ-loop
-mul-take-values c = omega (arith, part-fits _ _ _ _ _ ((c .before .before .before .before .word-count) .ensures) ((c .before .loop-test) .taken) ((c .before .before .before .before .before .before .before .pre) .4), (c .before .before .loop) .inv .2)
+mul-take-values c =
+    let start = c .before .before .before .before .before .before .before in
+    let after-word-count = c .before .before .before .before in
+    let turn = c .before .before in
+    omega (arith, part-fits _ _ _ _ _ (after-word-count .word-count .ensures) (c .before .loop-test .taken) (start .pre .4), turn .loop .inv .2)
 
 part-take-values-end-2 : tie.Need-part-take-values-end-2 Inv-loop μ-loop
-part-take-values-end-2 c = omega (arith, part-fits _ _ _ _ _ ((c .before .before .before .before .word-count) .ensures) ((c .before .loop-test) .taken) ((c .before .before .before .before .before .before .before .pre) .4), (c .before .before .loop) .inv .2)
+part-take-values-end-2 c =
+    let start = c .before .before .before .before .before .before .before in
+    let after-word-count = c .before .before .before .before in
+    let turn = c .before .before in
+    omega (arith, part-fits _ _ _ _ _ (after-word-count .word-count .ensures) (c .before .loop-test .taken) (start .pre .4), turn .loop .inv .2)
 
 take-values-requires : tie.Need-take-values-requires Inv-loop μ-loop
 take-values-requires c κs =
-    ((c .before .before .before .before .before .before .before .before .pre) .1, part-is-table _ _ _ ((c .before .before .before .before .before .before .before .before .args) .t .now) ((c .before .before .before .before .pow2) .ensures) (part-fits _ _ _ _ _ ((c .before .before .before .before .pow2) .ensures) ((c .before .before .loop-test) .taken) ((c .before .before .before .before .before .before .before .before .pre) .2)) ((c .before .before .before .before .before .before .before .before .pre) .3), part-length _ _ _ (omega (arith, part-fits _ _ _ _ _ ((c .before .before .before .before .before .word-count) .ensures) ((c .before .before .loop-test) .taken) ((c .before .before .before .before .before .before .before .before .pre) .4), (c .before .before .before .loop) .inv .2)) ∙ (c .before .before .before .before .before .word-count) .ensures)
+    let start = c .before .before .before .before .before .before .before .before in
+    let after-word-count = c .before .before .before .before .before in
+    let after-pow2 = c .before .before .before .before in
+    let turn = c .before .before .before in
+    let tested = c .before .before in
+    (start .pre .1, part-is-table _ _ _ (start .args .t .now) (after-pow2 .pow2 .ensures) (part-fits _ _ _ _ _ (after-pow2 .pow2 .ensures) (tested .loop-test .taken) (start .pre .2)) (start .pre .3), part-length _ _ _ (omega (arith, part-fits _ _ _ _ _ (after-word-count .word-count .ensures) (tested .loop-test .taken) (start .pre .4), turn .loop .inv .2)) ∙ after-word-count .word-count .ensures)
 
 loop-again : tie.Need-loop-again Inv-loop μ-loop
-loop-again c = (
-  search needs,
-  values-more ((c .before .before .before .before .before .before .before .before .before .before .before .args) .n) _ _ _ ((c .before .before .before .before .before .before .before .before .before .before .before .args) .t .now) _ _ _ ((c .before .before .before .before .before .before .before .before .word-count) .ensures) ((c .before .before .before .before .before .before .before .pow2) .ensures) ((c .before .before .before .before .before .before .loop) .inv .1) ((c .before .before .take-values) .ensures),
-  search needs,
-)
+loop-again c =
+    let start = c .before .before .before .before .before .before .before .before .before .before .before in
+    let after-word-count = c .before .before .before .before .before .before .before .before in
+    let after-pow2 = c .before .before .before .before .before .before .before in
+    let turn = c .before .before .before .before .before .before in
+    let after-take-values = c .before .before in (
+      search needs,
+      values-more (start .args .n) _ _ _ (start .args .t .now) _ _ _ (after-word-count .word-count .ensures) (after-pow2 .pow2 .ensures) (turn .loop .inv .1) (after-take-values .take-values .ensures),
+      search needs,
+    )
 
 returns : tie.Need-returns Inv-loop μ-loop
-returns c = values-done ((c .before .before .before .before .before .before .args) .n) _ _ _ ((c .before .before .before .before .before .before .args) .t .now) ((c .before .before .before .before .before .before .args) .words .now) _ ((c .before .before .before .word-count) .ensures) (omega (arith, (c .before .loop) .inv .0, (c .loop-test) .left)) ((c .before .before .before .before .before .before .pre) .4) ((c .before .loop) .inv .1)
+returns c =
+    let start = c .before .before .before .before .before .before in
+    let after-word-count = c .before .before .before in
+    values-done (start .args .n) _ _ _ (start .args .t .now) (start .args .words .now) _ (after-word-count .word-count .ensures) (omega (arith, c .before .loop .inv .0, c .loop-test .left)) (start .pre .4) (c .before .loop .inv .1)
 
 pub take-all-spec : {M : Type 1} → statement M
 take-all-spec =

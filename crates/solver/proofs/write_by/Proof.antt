@@ -8,13 +8,27 @@ use Rattle.solver.proofs.write_by.Statement.{statement}
 use Rattle.solver.proofs.write_by.Tie as tie
 
 returns : tie.Need-returns
-returns c = λ f o ev ef. (c .before .before .write-tables) .ensures ∙ boole-written _ _ f o ((c .before .before .before .before .before .before .before .before .before .before .before .args) .values .now) ((c .before .before .before .before .before .before .before .before .before .before .before .args) .found .now) ((c .before .before .before .before .before .before .before .before .before .before .before .pre) .0) ev ef ∙ by-method ((c .before .before .before .before .before .before .before .before .before .before .before .args) .method) _ _ _ o f ((c .before .before .before .before .before .enum-told) .given .1)
+returns c =
+    let start = c .before .before .before .before .before .before .before .before .before .before .before in
+    let told = c .before .before .before .before .before in
+    let after-write-tables = c .before .before in
+    λ f o ev ef. after-write-tables .write-tables .ensures ∙ boole-written _ _ f o (start .args .values .now) (start .args .found .now) (start .pre .0) ev ef ∙ by-method (start .args .method) _ _ _ o f (told .enum-told .given .1)
 
 returns-2 : tie.Need-returns-2
-returns-2 c = λ f o ev ef. (c .before .before .write-tables2) .ensures ∙ particular-written _ _ f o ((c .before .before .before .before .before .before .before .before .before .before .before .before .before .before .before .args) .values .now) ((c .before .before .before .before .before .before .before .before .before .before .before .before .before .before .before .args) .found .now) ((c .before .before .before .before .before .before .before .before .before .before .before .before .before .before .before .pre) .0) ev ef _ _ ((c .before .before .before .before .before .before .before .before .before .before .before .before .before .before .before .pre) .3) ((c .before .before .before .before .before .before .before .put-zeros) .ensures) ∙ by-method ((c .before .before .before .before .before .before .before .before .before .before .before .before .before .before .before .args) .method) _ _ _ o f ((c .before .before .before .before .before .before .before .before .before .enum-told2) .given .1)
+returns-2 c =
+    let start = c .before .before .before .before .before .before .before .before .before .before .before .before .before .before .before in
+    let told = c .before .before .before .before .before .before .before .before .before in
+    let after-put-zeros = c .before .before .before .before .before .before .before in
+    let after-write-tables2 = c .before .before in
+    λ f o ev ef. after-write-tables2 .write-tables2 .ensures ∙ particular-written _ _ f o (start .args .values .now) (start .args .found .now) (start .pre .0) ev ef _ _ (start .pre .3) (after-put-zeros .put-zeros .ensures) ∙ by-method (start .args .method) _ _ _ o f (told .enum-told2 .given .1)
 
 returns-3 : tie.Need-returns-3
-returns-3 c = λ f o ev ef. (c .before .before .before .before .write-mixed) .ensures ∙ lowenheim-written _ _ f o ((c .before .before .before .before .before .before .before .before .before .before .before .before .before .before .before .before .before .before .args) .values .now) ((c .before .before .before .before .before .before .before .before .before .before .before .before .before .before .before .before .before .before .args) .found .now) ((c .before .before .before .before .before .before .before .before .before .before .before .before .before .before .before .before .before .before .pre) .0) ev ef _ _ ((c .before .before .before .before .before .before .before .before .before .before .before .before .before .before .before .before .before .before .pre) .3) ((c .before .before .before .before .before .before .before .before .before .before .put-zeros2) .ensures) ∙ by-method ((c .before .before .before .before .before .before .before .before .before .before .before .before .before .before .before .before .before .before .args) .method) _ _ _ o f ((c .before .before .before .before .before .before .before .before .before .before .before .before .enum-told3) .given .1)
+returns-3 c =
+    let start = c .before .before .before .before .before .before .before .before .before .before .before .before .before .before .before .before .before .before in
+    let told = c .before .before .before .before .before .before .before .before .before .before .before .before in
+    let after-put-zeros2 = c .before .before .before .before .before .before .before .before .before .before in
+    let after-write-mixed = c .before .before .before .before in
+    λ f o ev ef. after-write-mixed .write-mixed .ensures ∙ lowenheim-written _ _ f o (start .args .values .now) (start .args .found .now) (start .pre .0) ev ef _ _ (start .pre .3) (after-put-zeros2 .put-zeros2 .ensures) ∙ by-method (start .args .method) _ _ _ o f (told .enum-told3 .given .1)
 
 pub write-by-spec : {M : Type 1} → statement M
 write-by-spec =

@@ -24,45 +24,86 @@ abbrev μ-loop : tie.MeasureT-loop
 μ-loop u n values b own₀ answers₀ k size x₀ own answers x = u - x
 
 mul-start : tie.Need-mul-start Inv-loop μ-loop
-mul-start c = omega (arith, part-fits _ _ _ _ _ ((c .before .before .before .word-count) .ensures) ((c .loop-test) .taken) ((c .before .before .before .before .before .before .before .before .pre) .3))
+mul-start c =
+    let start = c .before .before .before .before .before .before .before .before in
+    let after-word-count = c .before .before .before in
+    omega (arith, part-fits _ _ _ _ _ (after-word-count .word-count .ensures) (c .loop-test .taken) (start .pre .3))
 
 add-end : tie.Need-add-end Inv-loop μ-loop
-add-end c = omega (arith, part-fits _ _ _ _ _ ((c .before .before .before .word-count) .ensures) ((c .loop-test) .taken) ((c .before .before .before .before .before .before .before .before .pre) .3))
+add-end c =
+    let start = c .before .before .before .before .before .before .before .before in
+    let after-word-count = c .before .before .before in
+    omega (arith, part-fits _ _ _ _ _ (after-word-count .word-count .ensures) (c .loop-test .taken) (start .pre .3))
 
 mul-from : tie.Need-mul-from Inv-loop μ-loop
-mul-from c = omega (arith, part-fits _ _ _ _ _ ((c .before .before .pow2) .ensures) ((c .loop-test) .taken) ((c .before .before .before .before .before .before .before .before .pre) .5))
+mul-from c =
+    let start = c .before .before .before .before .before .before .before .before in
+    let after-pow2 = c .before .before in
+    omega (arith, part-fits _ _ _ _ _ (after-pow2 .pow2 .ensures) (c .loop-test .taken) (start .pre .5))
 
 add-to : tie.Need-add-to Inv-loop μ-loop
-add-to c = omega (arith, part-fits _ _ _ _ _ ((c .before .before .pow2) .ensures) ((c .loop-test) .taken) ((c .before .before .before .before .before .before .before .before .pre) .5))
+add-to c =
+    let start = c .before .before .before .before .before .before .before .before in
+    let after-pow2 = c .before .before in
+    omega (arith, part-fits _ _ _ _ _ (after-pow2 .pow2 .ensures) (c .loop-test .taken) (start .pre .5))
 
 mul-mix : tie.Need-mul-mix Inv-loop μ-loop
-mul-mix c = omega (arith, part-fits _ _ _ _ _ ((c .before .before .before .word-count) .ensures) ((c .loop-test) .taken) ((c .before .before .before .before .before .before .before .before .pre) .3))
+mul-mix c =
+    let start = c .before .before .before .before .before .before .before .before in
+    let after-word-count = c .before .before .before in
+    omega (arith, part-fits _ _ _ _ _ (after-word-count .word-count .ensures) (c .loop-test .taken) (start .pre .3))
 
 part-mix-end : tie.Need-part-mix-end Inv-loop μ-loop
-part-mix-end c = omega (arith, part-fits _ _ _ _ _ ((c .before .before .before .word-count) .ensures) ((c .loop-test) .taken) ((c .before .before .before .before .before .before .before .before .pre) .3))
+part-mix-end c =
+    let start = c .before .before .before .before .before .before .before .before in
+    let after-word-count = c .before .before .before in
+    omega (arith, part-fits _ _ _ _ _ (after-word-count .word-count .ensures) (c .loop-test .taken) (start .pre .3))
 
 mix-requires : tie.Need-mix-requires Inv-loop μ-loop
 mix-requires c κs =
-    (omega (arith, (c .before .before .before .before .before .before .before .before .before .before .pre) .0, (c .before .before .loop-test) .taken), (c .before .before .before .before .before .before .before .before .before .before .pre) .2 ∙ sym ((c .before .before .before .loop) .inv .3 ∙ (c .before .before .before .before .before .before .before .before .before .before .pre) .4), part-length _ _ ((c .before .before .before .before .before .before .before .before .before .before .args) .b .now) (part-fits _ _ _ _ _ ((c .before .before .before .before .before .word-count) .ensures) ((c .before .before .loop-test) .taken) ((c .before .before .before .before .before .before .before .before .before .before .pre) .3)) ∙ (c .before .before .before .before .before .word-count) .ensures ∙ sym ((c .before .before .before .loop) .inv .3 ∙ (c .before .before .before .before .before .before .before .before .before .before .pre) .4))
+    let start = c .before .before .before .before .before .before .before .before .before .before in
+    let after-word-count = c .before .before .before .before .before in
+    let turn = c .before .before .before in
+    let tested = c .before .before in
+    (omega (arith, start .pre .0, tested .loop-test .taken), start .pre .2 ∙ sym (turn .loop .inv .3 ∙ start .pre .4), part-length _ _ (start .args .b .now) (part-fits _ _ _ _ _ (after-word-count .word-count .ensures) (tested .loop-test .taken) (start .pre .3)) ∙ after-word-count .word-count .ensures ∙ sym (turn .loop .inv .3 ∙ start .pre .4))
 
 part-put-table-end : tie.Need-part-put-table-end Inv-loop μ-loop
-part-put-table-end c = omega (arith, part-fits _ _ _ _ _ ((c .before .before .before .before .before .before .before .before .pow2) .ensures) ((c .before .before .before .before .before .before .loop-test) .taken) ((c .before .before .before .before .before .before .before .before .before .before .before .before .before .before .pre) .5), (c .before .before .before .before .before .before .before .loop) .inv .2)
+part-put-table-end c =
+    let start = c .before .before .before .before .before .before .before .before .before .before .before .before .before .before in
+    let after-pow2 = c .before .before .before .before .before .before .before .before in
+    let turn = c .before .before .before .before .before .before .before in
+    let tested = c .before .before .before .before .before .before in
+    omega (arith, part-fits _ _ _ _ _ (after-pow2 .pow2 .ensures) (tested .loop-test .taken) (start .pre .5), turn .loop .inv .2)
 
 put-table-requires : tie.Need-put-table-requires Inv-loop μ-loop
 put-table-requires c κs =
-    ((c .before .before .before .before .before .before .before .before .before .before .before .before .before .before .before .pre) .1, size-words _ _ _ ((c .before .before .before .before .mix) .ensures) ∙ (c .before .before .before .before .before .before .before .before .loop) .inv .3 ∙ (c .before .before .before .before .before .before .before .before .before .before .before .before .before .before .before .pre) .4, part-length _ _ _ (omega (arith, part-fits _ _ _ _ _ ((c .before .before .before .before .before .before .before .before .before .pow2) .ensures) ((c .before .before .before .before .before .before .before .loop-test) .taken) ((c .before .before .before .before .before .before .before .before .before .before .before .before .before .before .before .pre) .5), (c .before .before .before .before .before .before .before .before .loop) .inv .2)) ∙ (c .before .before .before .before .before .before .before .before .before .pow2) .ensures)
+    let start = c .before .before .before .before .before .before .before .before .before .before .before .before .before .before .before in
+    let after-pow2 = c .before .before .before .before .before .before .before .before .before in
+    let turn = c .before .before .before .before .before .before .before .before in
+    let tested = c .before .before .before .before .before .before .before in
+    let after-mix = c .before .before .before .before in
+    (start .pre .1, size-words _ _ _ (after-mix .mix .ensures) ∙ turn .loop .inv .3 ∙ start .pre .4, part-length _ _ _ (omega (arith, part-fits _ _ _ _ _ (after-pow2 .pow2 .ensures) (tested .loop-test .taken) (start .pre .5), turn .loop .inv .2)) ∙ after-pow2 .pow2 .ensures)
 
 loop-again : tie.Need-loop-again Inv-loop μ-loop
-loop-again c = (
-  search needs,
-  tables-more ((c .before .before .before .before .before .before .before .before .before .before .before .before .before .before .before .before .before .before .before .before .args) .n) _ _ _ _ _ _ _ ((c .before .before .before .before .before .before .before .before .before .before .before .before .before .before .pow2) .ensures) ((c .before .before .before .before .before .before .before .before .before .before .before .before .before .loop) .inv .1) ((c .before .before .before .before .put-table) .ensures)
-      (mixed-table ((c .before .before .before .before .before .before .before .before .before .before .before .before .before .before .before .before .before .before .before .before .args) .n) _ _ _ ((c .before .before .before .before .before .before .before .before .before .before .before .before .before .before .before .before .before .before .before .before .args) .values .now) ((c .before .before .before .before .before .before .before .before .before .before .before .before .before .before .before .before .before .before .before .before .args) .b .now) _ ((c .before .before .before .before .before .before .before .before .before .before .before .before .before .before .before .word-count) .ensures) ((c .before .before .before .before .before .before .before .before .before .before .before .before .before .loop) .inv .3 ∙ (c .before .before .before .before .before .before .before .before .before .before .before .before .before .before .before .before .before .before .before .before .pre) .4) ((c .before .before .before .before .before .before .before .before .before .mix) .ensures)),
-  search needs,
-  search needs,
-)
+loop-again c =
+    let start = c .before .before .before .before .before .before .before .before .before .before .before .before .before .before .before .before .before .before .before .before in
+    let after-word-count = c .before .before .before .before .before .before .before .before .before .before .before .before .before .before .before in
+    let after-pow2 = c .before .before .before .before .before .before .before .before .before .before .before .before .before .before in
+    let turn = c .before .before .before .before .before .before .before .before .before .before .before .before .before in
+    let after-mix = c .before .before .before .before .before .before .before .before .before in
+    let after-put-table = c .before .before .before .before in (
+      search needs,
+      tables-more (start .args .n) _ _ _ _ _ _ _ (after-pow2 .pow2 .ensures) (turn .loop .inv .1) (after-put-table .put-table .ensures)
+          (mixed-table (start .args .n) _ _ _ (start .args .values .now) (start .args .b .now) _ (after-word-count .word-count .ensures) (turn .loop .inv .3 ∙ start .pre .4) (after-mix .mix .ensures)),
+      search needs,
+      search needs,
+    )
 
 returns : tie.Need-returns Inv-loop μ-loop
-returns c = tables-done ((c .before .before .before .before .before .before .before .before .args) .n) _ _ _ _ ((c .before .before .before .before .before .before .before .before .args) .answers .now) _ ((c .before .before .pow2) .ensures) (omega (arith, (c .before .loop) .inv .0, (c .loop-test) .left)) ((c .before .before .before .before .before .before .before .before .pre) .5) ((c .before .loop) .inv .1)
+returns c =
+    let start = c .before .before .before .before .before .before .before .before in
+    let after-pow2 = c .before .before in
+    tables-done (start .args .n) _ _ _ _ (start .args .answers .now) _ (after-pow2 .pow2 .ensures) (omega (arith, c .before .loop .inv .0, c .loop-test .left)) (start .pre .5) (c .before .loop .inv .1)
 
 pub write-mixed-spec : {M : Type 1} → statement M
 write-mixed-spec =

@@ -21,39 +21,74 @@ abbrev μ-loop : tie.MeasureT-loop
 μ-loop u n found answers₀ k size x₀ answers x = u - x
 
 mul-start : tie.Need-mul-start Inv-loop μ-loop
-mul-start c = omega (arith, part-fits _ _ _ _ _ ((c .before .before .before .word-count) .ensures) ((c .loop-test) .taken) ((c .before .before .before .before .before .before .pre) .2))
+mul-start c =
+    let start = c .before .before .before .before .before .before in
+    let after-word-count = c .before .before .before in
+    omega (arith, part-fits _ _ _ _ _ (after-word-count .word-count .ensures) (c .loop-test .taken) (start .pre .2))
 
 add-end : tie.Need-add-end Inv-loop μ-loop
-add-end c = omega (arith, part-fits _ _ _ _ _ ((c .before .before .before .word-count) .ensures) ((c .loop-test) .taken) ((c .before .before .before .before .before .before .pre) .2))
+add-end c =
+    let start = c .before .before .before .before .before .before in
+    let after-word-count = c .before .before .before in
+    omega (arith, part-fits _ _ _ _ _ (after-word-count .word-count .ensures) (c .loop-test .taken) (start .pre .2))
 
 mul-from : tie.Need-mul-from Inv-loop μ-loop
-mul-from c = omega (arith, part-fits _ _ _ _ _ ((c .before .before .pow2) .ensures) ((c .loop-test) .taken) ((c .before .before .before .before .before .before .pre) .3))
+mul-from c =
+    let start = c .before .before .before .before .before .before in
+    let after-pow2 = c .before .before in
+    omega (arith, part-fits _ _ _ _ _ (after-pow2 .pow2 .ensures) (c .loop-test .taken) (start .pre .3))
 
 add-to : tie.Need-add-to Inv-loop μ-loop
-add-to c = omega (arith, part-fits _ _ _ _ _ ((c .before .before .pow2) .ensures) ((c .loop-test) .taken) ((c .before .before .before .before .before .before .pre) .3))
+add-to c =
+    let start = c .before .before .before .before .before .before in
+    let after-pow2 = c .before .before in
+    omega (arith, part-fits _ _ _ _ _ (after-pow2 .pow2 .ensures) (c .loop-test .taken) (start .pre .3))
 
 mul-put-copy : tie.Need-mul-put-copy Inv-loop μ-loop
-mul-put-copy c = omega (arith, part-fits _ _ _ _ _ ((c .before .before .before .word-count) .ensures) ((c .loop-test) .taken) ((c .before .before .before .before .before .before .pre) .2))
+mul-put-copy c =
+    let start = c .before .before .before .before .before .before in
+    let after-word-count = c .before .before .before in
+    omega (arith, part-fits _ _ _ _ _ (after-word-count .word-count .ensures) (c .loop-test .taken) (start .pre .2))
 
 part-put-copy-end : tie.Need-part-put-copy-end Inv-loop μ-loop
-part-put-copy-end c = omega (arith, part-fits _ _ _ _ _ ((c .before .before .before .word-count) .ensures) ((c .loop-test) .taken) ((c .before .before .before .before .before .before .pre) .2))
+part-put-copy-end c =
+    let start = c .before .before .before .before .before .before in
+    let after-word-count = c .before .before .before in
+    omega (arith, part-fits _ _ _ _ _ (after-word-count .word-count .ensures) (c .loop-test .taken) (start .pre .2))
 
 part-put-copy-end-2 : tie.Need-part-put-copy-end-2 Inv-loop μ-loop
-part-put-copy-end-2 c = omega (arith, part-fits _ _ _ _ _ ((c .before .before .before .pow2) .ensures) ((c .before .loop-test) .taken) ((c .before .before .before .before .before .before .before .pre) .3), (c .before .before .loop) .inv .2)
+part-put-copy-end-2 c =
+    let start = c .before .before .before .before .before .before .before in
+    let after-pow2 = c .before .before .before in
+    let turn = c .before .before in
+    omega (arith, part-fits _ _ _ _ _ (after-pow2 .pow2 .ensures) (c .before .loop-test .taken) (start .pre .3), turn .loop .inv .2)
 
 put-copy-requires : tie.Need-put-copy-requires Inv-loop μ-loop
 put-copy-requires c κs =
-    ((c .before .before .before .before .before .before .before .before .pre) .1, part-length _ _ ((c .before .before .before .before .before .before .before .before .args) .found .now) (part-fits _ _ _ _ _ ((c .before .before .before .before .before .word-count) .ensures) ((c .before .before .loop-test) .taken) ((c .before .before .before .before .before .before .before .before .pre) .2)) ∙ (c .before .before .before .before .before .word-count) .ensures, part-length _ _ _ (omega (arith, part-fits _ _ _ _ _ ((c .before .before .before .before .pow2) .ensures) ((c .before .before .loop-test) .taken) ((c .before .before .before .before .before .before .before .before .pre) .3), (c .before .before .before .loop) .inv .2)) ∙ (c .before .before .before .before .pow2) .ensures)
+    let start = c .before .before .before .before .before .before .before .before in
+    let after-word-count = c .before .before .before .before .before in
+    let after-pow2 = c .before .before .before .before in
+    let turn = c .before .before .before in
+    let tested = c .before .before in
+    (start .pre .1, part-length _ _ (start .args .found .now) (part-fits _ _ _ _ _ (after-word-count .word-count .ensures) (tested .loop-test .taken) (start .pre .2)) ∙ after-word-count .word-count .ensures, part-length _ _ _ (omega (arith, part-fits _ _ _ _ _ (after-pow2 .pow2 .ensures) (tested .loop-test .taken) (start .pre .3), turn .loop .inv .2)) ∙ after-pow2 .pow2 .ensures)
 
 loop-again : tie.Need-loop-again Inv-loop μ-loop
-loop-again c = (
-  search needs,
-  tables-more ((c .before .before .before .before .before .before .before .before .before .before .before .args) .n) _ _ _ _ _ _ _ ((c .before .before .before .before .before .before .before .pow2) .ensures) ((c .before .before .before .before .before .before .loop) .inv .1) ((c .before .before .put-copy) .ensures) (copied-table ((c .before .before .before .before .before .before .before .before .before .before .before .args) .n) _ _ ((c .before .before .before .before .before .before .before .before .before .before .before .args) .found .now) ((c .before .before .before .before .before .before .before .before .word-count) .ensures)),
-  search needs,
-)
+loop-again c =
+    let start = c .before .before .before .before .before .before .before .before .before .before .before in
+    let after-word-count = c .before .before .before .before .before .before .before .before in
+    let after-pow2 = c .before .before .before .before .before .before .before in
+    let turn = c .before .before .before .before .before .before in
+    let after-put-copy = c .before .before in (
+      search needs,
+      tables-more (start .args .n) _ _ _ _ _ _ _ (after-pow2 .pow2 .ensures) (turn .loop .inv .1) (after-put-copy .put-copy .ensures) (copied-table (start .args .n) _ _ (start .args .found .now) (after-word-count .word-count .ensures)),
+      search needs,
+    )
 
 returns : tie.Need-returns Inv-loop μ-loop
-returns c = tables-done ((c .before .before .before .before .before .before .args) .n) _ _ _ _ ((c .before .before .before .before .before .before .args) .answers .now) _ ((c .before .before .pow2) .ensures) (omega (arith, (c .before .loop) .inv .0, (c .loop-test) .left)) ((c .before .before .before .before .before .before .pre) .3) ((c .before .loop) .inv .1)
+returns c =
+    let start = c .before .before .before .before .before .before in
+    let after-pow2 = c .before .before in
+    tables-done (start .args .n) _ _ _ _ (start .args .answers .now) _ (after-pow2 .pow2 .ensures) (omega (arith, c .before .loop .inv .0, c .loop-test .left)) (start .pre .3) (c .before .loop .inv .1)
 
 pub write-tables-spec : {M : Type 1} → statement M
 write-tables-spec =
