@@ -5,6 +5,8 @@ use mathlib.Core.Path.{_≡_}
 use mathlib.Core.List.{List, [], _∷_, _++_}
 use Prim.Native.Nat.{ℕ}
 use lib.ListN.{length}
+use Rattle.ring.specs.Polynomial.{Polynomial}
+use Rattle.ring.specs.Table.{answerTable}
 use Rattle.tables.specs.Questions.{firstNo}
 use Rattle.tables.specs.Reply.{Reply, accepted, refused, reply}
 use Rattle.solution.specs.Elimination.{defaultOrder, solve}
@@ -46,3 +48,9 @@ pub record BeginsWithEntry (bs values : List ℕ) : Type 0 where
   pub archivable : Archivable route unknowns givens condition
   pub made : bs ≡ entry route unknowns givens condition ++ behind
   pub given : values ≡ route ∷ unknowns ∷ givens ∷ length (entry route unknowns givens condition) ∷ stateOf (solve unknowns givens (defaultOrder unknowns) condition)
+
+-- ---- inner work
+-- an answer table, with the polynomials that it holds
+pub record AreAnswers (U n : ℕ) (t : List ℕ) : Type 0 where
+  pub polynomials : ℕ → Polynomial
+  pub are : t ≡ answerTable U n polynomials

@@ -1,16 +1,19 @@
-// The audit of an archive entry: it is read, its condition is solved afresh, and the two are compared.
+// The audit of an archive entry: it is read, its condition is solved afresh, and the two are compared, by values that stand 64 to a word.
 // `audit` is the public call of the library; the other functions are its own, and what these require it meets.
 ghost use mathlib.Core.Path.{_≡_};
 ghost use mathlib.Core.List.{List};
-ghost use Prim.Native.Nat.{ℕ, _+_, _*_, _^_};
+ghost use Prim.Native.Nat.{ℕ, _+_, _-_, _*_, _^_, _≤_};
 ghost use lib.ListN.{length};
+ghost use Rattle.ring.specs.Polynomial.{Polynomial, value};
+ghost use Rattle.ring.specs.Table.{present, answerTable};
 ghost use Rattle.tables.specs.Questions.{firstNo};
-ghost use Rattle.solution.specs.Elimination.{solved, none};
+ghost use Rattle.solution.specs.Elimination.{solved, none, defaultOrder, solve};
+ghost use Rattle.words.specs.Words.{answerWords};
 ghost use Rattle.entry.specs.Held.{records, heldVerdict};
 ghost use Rattle.entry.specs.Questions.{entryQuestions, sameBytes, sameVerdict, answersHold};
 ghost use Rattle.records.specs.Headings.{headingOf, said};
-ghost use Rattle.solver.specs.Methods.{verdict};
-ghost use Rattle.audit.specs.Audit.{auditReply, audited};
+ghost use Rattle.solver.specs.Methods.{verdict, solveWords};
+ghost use Rattle.audit.specs.Audit.{AreAnswers, auditReply, audited};
 use records::Heading;
 use records::Said;
 use ring::State;
@@ -22,7 +25,7 @@ pub enum Audited {
     Refused(u8),
 }
 
-fn same_bytes(held: &[u8], fresh: &[u8]) -> bool
+fn same_words(held: &[u64], fresh: &[u64]) -> bool
     requires { ⌜ length (now held) ≡ length (now fresh) ⌝ }
     ensures { λ r. ⌜ r ≡ sameBytes (now (held .entry)) (now (fresh .entry)) ⌝ }
 {
@@ -36,13 +39,42 @@ fn same_bytes(held: &[u8], fresh: &[u8]) -> bool
     true
 }
 
-// An entry that is solved, against the fresh verdict, whose answers stand in `fresh` if there are any.
-fn same_answers(held: &[u8], afresh: Verdict, fresh: &[u8]) -> bool
-    requires { ⌜ length (now held) ≡ length (now fresh) ⌝ }
-    ensures { λ r. ⌜ r ≡ sameVerdict (solved (now (held .entry))) (verdict afresh (now (fresh .entry))) ⌝ }
+// The answers held against those solved afresh, whose values stand in words: by values, an unknown at a time.
+fn same_values(u: usize, n: usize, held: &[u8], fresh: &[u64], own: &mut [u64]) -> bool
+    requires { ⌜ (u ≤ 6) × (n ≤ 10) × AreAnswers u n (now held) × (length (now fresh) ≡ u * 2 ^ (n - 6)) × (length (now own) ≡ 2 ^ (n - 6)) ⌝ }
+    ensures { λ r. ⌜ ((b : ℕ → Polynomial) → now (fresh .entry) ≡ answerWords u (2 ^ (n - 6)) (λ j. value n (b j)) → r ≡ sameBytes (now (held .entry)) (answerTable u n b)) ⌝ }
+{
+    let k = tables::pow2(n);
+    let w = words::word_count(n);
+    let mut j = 0;
+    while j < u {
+        let from = j * k;
+        let to = from + k;
+        let start = j * w;
+        let end = start + w;
+        words::take_values(n, &held[from..to], own);
+        if !same_words(own, &fresh[start..end]) {
+            return false;
+        }
+        j += 1;
+    }
+    true
+}
+
+// An entry that is solved, against the fresh verdict, whose answers' values stand in `fresh` if there are any.
+fn same_answers(
+    u: usize,
+    g: usize,
+    held: &[u8],
+    afresh: Verdict,
+    fresh: &[u64],
+    own: &mut [u64],
+) -> bool
+    requires { ⌜ (u ≤ 6) × (u + g ≤ 10) × AreAnswers u (u + g) (now held) × (length (now fresh) ≡ u * 2 ^ (u + g - 6)) × (length (now own) ≡ 2 ^ (u + g - 6)) ⌝ }
+    ensures { λ r. ⌜ ((order t : List ℕ) → verdict afresh (now (fresh .entry)) ≡ solveWords u g order (present t) → r ≡ sameVerdict (solved (now (held .entry))) (solve u g order t)) ⌝ }
 {
     match afresh {
-        Verdict::Solved => same_bytes(held, fresh),
+        Verdict::Solved => same_values(u, u + g, held, fresh, own),
         Verdict::None(_) => false,
     }
 }
@@ -57,47 +89,61 @@ fn same_state(held: State, afresh: Verdict) -> bool
     }
 }
 
-// Question 13, in scratch tables of the lengths that are needed.
+// Question 13, in scratch tables and words of the lengths that are needed.
 fn answers_hold(
     bytes: &[u8],
     heading: Heading,
     told: Said,
+    order: &[usize],
     condition: &mut [u8],
     held: &mut [u8],
-    fresh: &mut [u8],
+    values: &mut [u64],
+    fresh: &mut [u64],
+    own: &mut [u64],
 ) -> bool
-    requires { ⌜ (firstNo (entryQuestions (records (now bytes))) ≡ 0) × (heading ≡ headingOf (records (now bytes))) × (told ≡ said (heldVerdict (records (now bytes)))) ⌝ }
-    requires { ⌜ (length (now condition) ≡ 2 ^ (heading .unknowns + heading .givens)) × (length (now held) ≡ heading .unknowns * 2 ^ (heading .unknowns + heading .givens)) × (length (now fresh) ≡ heading .unknowns * 2 ^ (heading .unknowns + heading .givens)) ⌝ }
+    requires { ⌜ (firstNo (entryQuestions (records (now bytes))) ≡ 0) × (heading ≡ headingOf (records (now bytes))) × (told ≡ said (heldVerdict (records (now bytes)))) × (now order ≡ defaultOrder (heading .unknowns)) ⌝ }
+    requires { ⌜ (length (now condition) ≡ 2 ^ (heading .unknowns + heading .givens)) × (length (now held) ≡ heading .unknowns * 2 ^ (heading .unknowns + heading .givens)) ⌝ }
+    requires { ⌜ (length (now values) ≡ 2 ^ (heading .unknowns + heading .givens - 6)) × (length (now fresh) ≡ heading .unknowns * 2 ^ (heading .unknowns + heading .givens - 6)) × (length (now own) ≡ 2 ^ (heading .unknowns + heading .givens - 6)) ⌝ }
     ensures { λ r. ⌜ r ≡ answersHold (records (now (bytes .entry))) ⌝ }
 {
     let u = heading.unknowns;
     let g = heading.givens;
     reader::fill_tables(bytes, u, g, condition, held);
-    let afresh = solver::solve(u, g, condition, fresh);
+    words::take_values(u + g, condition, values);
+    let afresh = solver::solve_values(u, g, order, values, fresh);
     match told {
-        Said::Solved => same_answers(held, afresh, fresh),
+        Said::Solved => same_answers(u, g, held, afresh, fresh, own),
         Said::None(state) => same_state(state, afresh),
     }
 }
 
-// The scratch tables live here: the condition, the answers held and those solved afresh.
+// The scratch lives here: the tables of the entry, the condition's values, those of the answers solved afresh, and those of one answer held.
 fn holds_afresh(bytes: &[u8], heading: Heading, told: Said) -> bool
     requires { ⌜ (firstNo (entryQuestions (records (now bytes))) ≡ 0) × (heading ≡ headingOf (records (now bytes))) × (told ≡ said (heldVerdict (records (now bytes)))) ⌝ }
     ensures { λ r. ⌜ r ≡ answersHold (records (now (bytes .entry))) ⌝ }
 {
     let u = heading.unknowns;
-    let k = tables::pow2(u + heading.givens);
+    let n = u + heading.givens;
+    let k = tables::pow2(n);
+    let w = words::word_count(n);
     let all = u * k;
+    let every = u * w;
+    let order = [0usize, 1, 2, 3, 4, 5];
     let mut condition = [0u8; 1024];
     let mut held = [0u8; 6144];
-    let mut fresh = [0u8; 6144];
+    let mut values = [0u64; 16];
+    let mut fresh = [0u64; 96];
+    let mut own = [0u64; 16];
     answers_hold(
         bytes,
         heading,
         told,
+        &order[..u],
         &mut condition[..k],
         &mut held[..all],
-        &mut fresh[..all],
+        &mut values[..w],
+        &mut fresh[..every],
+        &mut own[..w],
     )
 }
 

@@ -94,14 +94,14 @@ accepted-canonical bs are e =
     sym (records-bytes bs are) ∙ ap bytes (canonical (records bs) (p .kinds) (records-end bs) (letters-small (unknownsOf (records bs)) (givensOf (records bs)) (p .letters)) (p .numbers))
 
 -- ---- the audit
-bytes-same : (xs ys : List ℕ) → sameBytes xs ys ≡ true → xs ≡ ys
+pub bytes-same : (xs ys : List ℕ) → sameBytes xs ys ≡ true → xs ≡ ys
 unfolding sameBytes
 bytes-same [] [] e = refl
 bytes-same [] (y ∷ ys) e = never e refl
 bytes-same (x ∷ xs) [] e = never e refl
 bytes-same (x ∷ xs) (y ∷ ys) e = ap₂ _∷_ (eqb-true x y (and-left (eqb x y) (sameBytes xs ys) e)) (bytes-same xs ys (and-right (eqb x y) (sameBytes xs ys) e))
 
-same-bytes : (xs : List ℕ) → sameBytes xs xs ≡ true
+pub same-bytes : (xs : List ℕ) → sameBytes xs xs ≡ true
 unfolding sameBytes
 same-bytes [] = refl
 same-bytes (x ∷ xs) = both (eq-eqb x x refl) (same-bytes xs)

@@ -17,7 +17,7 @@ use Rattle.entry.specs.declared.Record.{Record}
 use Rattle.entry.specs.declared.Record.the-variants.{Start, Condition, Answer, End, None, Broken}
 use Rattle.entry.specs.Record.{bytes, kind, isEnd, isNone, routeIn, unknownsIn, givensIn, stateIn}
 use Rattle.entry.specs.Held.{next, records, first, routeOf, unknownsOf, givensOf, unlessNone, heldVerdict}
-use Rattle.entry.specs.Questions.{routeFits, hasEnd, mayFollow, kindsFollow, kindsFit, inBounds, numbersFit, entryQuestions}
+use Rattle.entry.specs.Questions.{hasEnd, mayFollow, kindsFollow, kindsFit, inBounds, numbersFit, entryQuestions}
 use Rattle.entry.specs.Places.{placeOf, standsBehind, fitsBehind}
 use Rattle.entry.proofs.Records.{first-next, some-bytes}
 use Rattle.entry.proofs.Canonical.{endsThere, records-end, isEmpty}

@@ -1,52 +1,58 @@
--- The condition that was read is a table, so that it can be solved; what the entry says is then compared with the fresh verdict.
--- Assumes nothing.
+-- The condition that was read is a table, so that its values can be taken and solved; what the entry says is then compared with the fresh
+-- verdict. Assumes nothing.
 use mathlib.Core.Path.{sym, _∙_}
+use native.Mathlib.Omega.{arith}
 use borrow.Author.Needs.{needs}
+use Rattle.words.proofs.Words.{size-words}
 use Rattle.reader.proofs.Buffers.{heading-small, heading-unknowns, heading-fits}
-use Rattle.audit.proofs.Same.{condition-table, hold-none, hold-solved}
+use Rattle.audit.proofs.Same.{are-answers, lists-each, condition-table, hold-none, hold-solved}
 use Rattle.audit.proofs.answers_hold.Statement.{statement}
 use Rattle.audit.proofs.answers_hold.Tie as tie
 
-fill-tables-requires : tie.Need-fill-tables-requires
-fill-tables-requires c κs =
-    let start = c .before .before .before .before .before .before in
-    (heading-fits _ (start .pre .0 .0) (start .pre .0 .1), start .pre .1 .0, start .pre .1 .1)
+solve-values-requires : tie.Need-solve-values-requires
+solve-values-requires c κs =
+    let start = c .before .before .before .before .before .before .before .before .before .before .before .before .before .before .before .before .before .before .before .before .before in
+    let few = heading-unknowns _ (start .pre .0 .0) (start .pre .0 .1) in
+    (few, heading-small _ (start .pre .0 .0) (start .pre .0 .1), lists-each _ _ few (start .pre .0 .3), size-words _ _ _ (c .before .before .before .before .take-values .ensures), start .pre .1 .1 .1)
 
-solve-requires : tie.Need-solve-requires
-solve-requires c κs =
-    let start = c .before .before .before .before .before .before .before .before .before .before .before .before .before in
-    let p = start .pre .0 .0 in
-    let e = start .pre .0 .1 in
-    (heading-unknowns _ p e, heading-small _ p e, condition-table _ _ e _ (c .before .before .before .before .before .before .fill-tables .ensures .0), start .pre .1 .2)
+same-answers-requires : tie.Need-same-answers-requires
+same-answers-requires c κs =
+    let start = c .before .before .before .before .before .before .before .before .before .before .before .before .before .before .before .before .before .before .before .before .before .before .before .before .before .before .before .before .before .before .before in
+    (heading-unknowns _ (start .pre .0 .0) (start .pre .0 .1), heading-small _ (start .pre .0 .0) (start .pre .0 .1), are-answers _ _ _ _ (c .before .before .before .before .before .before .before .before .before .before .before .before .before .before .before .before .before .before .before .before .before .fill-tables .ensures .1), search needs, start .pre .1 .1 .2)
 
 returns : tie.Need-returns
 returns c =
-    let start = c .before .before .before .before .before .before .before .before .before .before .before .before .before .before .before .before .before .before .before .before .before in
-    let read = c .before .before .before .before .before .before .before .before .before .before .before .before .before .before in
-    hold-solved _ _ (start .pre .0 .1) _ (read .fill-tables .ensures .0) _ (c .before .before .before .before .before .before .before .solve .ensures .0) _ _
-    (sym (start .pre .0 .2) ∙ c .before .before .before .enum-told .given .1) (read .fill-tables .ensures .1) (c .same-answers .ensures)
+    let start = c .before .before .before .before .before .before .before .before .before .before .before .before .before .before .before .before .before .before .before .before .before .before .before .before .before .before .before .before .before .before .before .before .before .before in
+    let read = c .before .before .before .before .before .before .before .before .before .before .before .before .before .before .before .before .before .before .before .before .before .before .before .before in
+    hold-solved _ _ (start .pre .0 .1) _ (read .fill-tables .ensures .0) _ (start .pre .0 .3) _ _
+    (sym (start .pre .0 .2) ∙ c .before .before .before .before .before .before .enum-told .given .1) (read .fill-tables .ensures .1)
+    (c .before .before .same-answers .ensures _ _ (c .before .before .before .before .before .before .before .before .before .before .before .before .solve-values .ensures _ (c .before .before .before .before .before .before .before .before .before .before .before .before .before .before .before .before .before .take-values .ensures)))
 
 returns-2 : tie.Need-returns-2
 returns-2 c =
-    let start = c .before .before .before .before .before .before .before .before .before .before .before .before .before .before .before .before .before .before .before .before in
-    let read = c .before .before .before .before .before .before .before .before .before .before .before .before .before in
-    hold-none _ _ (start .pre .0 .1) _ (read .fill-tables .ensures .0) _ (c .before .before .before .before .before .before .solve .ensures .0) _ _
-    (sym (start .pre .0 .2) ∙ c .before .before .told .given .1) (c .same-state .ensures _)
+    let start = c .before .before .before .before .before .before .before .before .before .before .before .before .before .before .before .before .before .before .before .before .before .before .before .before .before .before .before .before .before .before in
+    hold-none _ _ (start .pre .0 .1) _ (c .before .before .before .before .before .before .before .before .before .before .before .before .before .before .before .before .before .before .before .before .fill-tables .ensures .0) _ (start .pre .0 .3) _ _ _
+    (c .before .before .before .before .before .before .before .before .solve-values .ensures _ (c .before .before .before .before .before .before .before .before .before .before .before .before .before .take-values .ensures)) (sym (start .pre .0 .2) ∙ c .before .before .told .given .1) (c .same-state .ensures _)
 
 pub answers-hold-spec : {M : Type 1} → statement M
 answers-hold-spec =
     tie.close
     (tie.spec
-    fill-tables-requires
-    solve-requires
+    (λ c κs. (heading-fits _ (c .before .before .before .before .before .before .before .before .before .pre .0 .0) (c .before .before .before .before .before .before .before .before .before .pre .0 .1), c .before .before .before .before .before .before .before .before .before .pre .1 .0 .0, c .before .before .before .before .before .before .before .before .before .pre .1 .0 .1))
+    (λ c. omega (arith, heading-small _ (c .before .before .before .before .before .before .before .before .before .before .before .before .before .before .pre .0 .0) (c .before .before .before .before .before .before .before .before .before .before .before .before .before .before .pre .0 .1)))
+    (λ c κs. (heading-small _ (c .before .before .before .before .before .before .before .before .before .before .before .before .before .before .before .before .pre .0 .0) (c .before .before .before .before .before .before .before .before .before .before .before .before .before .before .before .before .pre .0 .1), condition-table _ _ (c .before .before .before .before .before .before .before .before .before .before .before .before .before .before .before .before .pre .0 .1) _ (c .before .before .before .before .before .before .fill-tables .ensures .0), c .before .before .before .before .before .before .before .before .before .before .before .before .before .before .before .before .pre .1 .1 .0))
+    solve-values-requires
+    (λ c. search needs)
+    same-answers-requires
     (λ c. search needs)
     (λ c κs. search needs)
     (λ c. search needs)
-    (λ c κs. search needs)
+    (λ c. search needs)
     (λ c. search needs)
     (λ c. search needs)
     (λ c. search needs)
     returns
+    (λ c. search needs)
     (λ c. search needs)
     (λ c. search needs)
     (λ c. search needs)

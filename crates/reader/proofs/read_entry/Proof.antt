@@ -1,5 +1,5 @@
 -- The call goes over the bytes, and then reads into the buffers. Assumes nothing.
-use mathlib.Core.Path.{_≡_, sym, ap, _∙_}
+use mathlib.Core.Path.{sym, ap, _∙_}
 use borrow.Author.Needs.{needs}
 use Rattle.records.specs.declared.Survey.{Survey}
 use Rattle.reader.proofs.Buffers.{read-refused}

@@ -1,5 +1,5 @@
 -- Question 4 is put to both buffers before either is written. Assumes nothing.
-use Prim.Native.Nat.{_+_, _*_, _≤_}
+use Prim.Native.Nat.{_*_, _≤_}
 use native.Mathlib.Omega.{arith}
 use borrow.Author.Needs.{needs}
 use Rattle.reader.proofs.Buffers.{heading-small, heading-fits, size-small, part-long, again-long, again-fits, again-size, room-fits, read-short, read-few, read-none, read-solved}
