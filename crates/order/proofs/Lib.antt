@@ -4,3 +4,4 @@ pub mod Relation
 pub mod Order
 pub mod Places
 pub mod Steps
+pub mod Listing

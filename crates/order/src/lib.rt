@@ -1,12 +1,17 @@
 // The written order of monomials: fewer letters first and, among equals, the smaller mask.
-// Callers take the order from `fill_order` alone; `rank_of` puts two masks in order. Nothing here is a public call of
-// the library: what these functions require, callers within it meet.
+// Callers take the order from `fill_order`, or out of a longer one by `skip_large`, and list a table's monomials by
+// `list_monomials`; `rank_of` puts two masks in order. Nothing here is a public call of the library: what these functions require,
+// callers within it meet.
 ghost use mathlib.Core.Path.{_≡_};
+ghost use mathlib.Core.Bool.{Bool};
 ghost use mathlib.Core.List.{_++_};
-ghost use Prim.Native.Nat.{_^_, _≤_, _<_};
-ghost use lib.ListN.{length, drop};
-ghost use Rattle.order.specs.Order.{letters, order};
+ghost use Prim.Native.Nat.{_+_, _-_, _^_, _≤_, _<_};
+ghost use lib.ListN.{length, take, drop};
+ghost use Rattle.ring.specs.Letters.{digit};
+ghost use Rattle.words.specs.Words.{bitAt};
+ghost use Rattle.order.specs.Order.{letters, order, monomials};
 ghost use Rattle.order.specs.Place.{AreCounts, choose, nth, rank};
+ghost use Rattle.order.specs.Listing.{tagged, Listed};
 
 // How many masks for n letters have k: row n, entry k.
 const COUNTS: [[u8; 11]; 11] = [
@@ -80,6 +85,56 @@ pub fn fill_order(n: usize, out: &mut [u16])
             r = 0;
         }
     }
+}
+
+fn wide_mask(x: u16) -> usize
+    ensures { λ r. ⌜ r ≡ x ⌝ }
+{
+    x as usize
+}
+
+fn one_if(yes: bool) -> usize
+    ensures { λ r. ⌜ r ≡ digit yes ⌝ }
+{
+    if yes { 1 } else { 0 }
+}
+
+// The masks for n letters out of those for ten: 'smaller n skips masks that are too large'. A mask is stored and then passed or not,
+// so that nothing branches on it; the buffer has room for one behind the last.
+pub fn skip_large(n: usize, masks: &[u16], out: &mut [u16])
+    requires { ⌜ (n ≤ 10) × (now masks ≡ order 10) × (length (now out) ≡ 1024) ⌝ }
+    ensures { λ _. ⌜ take (2 ^ n) (now (out .exit)) ≡ order n ⌝ }
+{
+    let k = tables::pow2(n);
+    let mut at = 0;
+    for p in 0..masks.len() {
+        let m = wide_mask(masks[p]);
+        out[at] = m as u16;
+        at += one_if(m < k);
+    }
+}
+
+// The monomials of the coefficients in `words`, in written order, each with `tag` added, from the place `from` of the buffer on.
+// The buffer is changed behind them too, as far as all masks would go: which monomials a table has cannot be foretold, so that
+// nothing branches on it.
+pub fn list_monomials(
+    n: usize,
+    tag: usize,
+    words: &[u64],
+    masks: &[u16],
+    out: &mut [u16],
+    from: usize,
+) -> usize
+    requires { ⌜ (n ≤ 10) × (tag + 1024 ≤ 65536) × (length (now words) ≡ 2 ^ (n - 6)) × (now masks ≡ order n) × (from + 2 ^ n ≤ length (now out)) ⌝ }
+    ensures { λ r. ⌜ Listed (now (out .entry)) from (tagged tag (monomials n (bitAt (now (words .entry))))) r (now (out .exit)) ⌝ }
+{
+    let mut at = from;
+    for p in 0..masks.len() {
+        let m = wide_mask(masks[p]);
+        out[at] = (tag + m) as u16;
+        at += one_if(words::value_at(words, m));
+    }
+    at
 }
 
 // How many letters a mask has.
