@@ -11,3 +11,4 @@ pub mod Bound
 pub mod Passes
 pub mod Theorems
 pub mod Examples
+pub mod Codes

@@ -3,3 +3,4 @@ pub mod Entry
 pub mod Held
 pub mod Questions
 pub mod Places
+pub mod Codes
