@@ -1,22 +1,28 @@
 -- Numbers in decimal: the fewest digits that hold a number are `decimal`.
 -- Assumes nothing.
 use mathlib.Core.Path.{_≡_, ap}
+use mathlib.Core.Bool.{cond}
 use mathlib.Core.List.{List, [], _∷_, _++_}
 use Prim.Native.Nat.{ℕ, zero, suc, _+_, _-_, _*_, _/_, _%_, _^_, _≤_, _<_}
 use native.Mathlib.Nat.{pow-suc, pow-le-pow-right}
 use native.Mathlib.Decide.{decLe}
 use native.Mathlib.Omega.{arith}
+use lib.Dec.{ltb}
 use borrow.Author.Tests.{lt-ltb, le-ltb}
 use Rattle.io.specs.Digits.{digits, Fewest}
 use Rattle.printing.specs.Print.{digitByte, decimalIn, decimal}
 
-pub digit-small : (d : ℕ) → d < 10 → 48 + d ≡ digitByte d
+-- a digit without a branch: from 10 on it stands 39 further on
+pub digit-at : (d : ℕ) → d < 16 → 48 + d + 39 * ((d + 6) / 16) ≡ digitByte d
 unfolding digitByte
-digit-small d h = rw (lt-ltb d 10 h)
-
-pub digit-large : (d : ℕ) → 10 ≤ d → 87 + d ≡ digitByte d
-unfolding digitByte
-digit-large d h = rw (le-ltb d 10 h)
+digit-at d h = go (decLe 10 d)
+  where
+    go : Dec (10 ≤ d) → 48 + d + 39 * ((d + 6) / 16) ≡ cond (ltb d 10) (48 + d) (87 + d)
+    go (yes l) = let e : (d + 6) / 16 ≡ 1 = omega arith in rw (le-ltb d 10 l, e) (omega arith)
+    go (no l) =
+        let s : d < 10 = omega arith in
+        let e : (d + 6) / 16 ≡ 0 = omega arith in
+        rw (lt-ltb d 10 s, e) (omega arith)
 
 in-digits : (k fuel n : ℕ) → n < 10 ^ suc k → (0 < k → 10 ^ k ≤ n) → n < fuel → digits 10 (suc k) n ≡ decimalIn fuel n
 unfolding decimalIn digitByte

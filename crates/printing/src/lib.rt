@@ -1,14 +1,13 @@
 // What is printed, put into an output part by part: words, decimal numbers, and records in hexadecimal, each line with its line feed.
 // Nothing here is a public call of the library: the functions are for the crates that print, which meet what they require.
 ghost use mathlib.Core.Path.{_≡_};
-ghost use mathlib.Core.List.{[], _∷_, _++_};
+ghost use mathlib.Core.List.{[], _∷_, _++_, map};
 ghost use Prim.Native.Nat.{_+_, _*_, _≤_, _<_};
 ghost use lib.ListN.{length};
 ghost use Rattle.tables.specs.Put.{Put};
 ghost use Rattle.tables.specs.Reply.{accepted};
-ghost use Rattle.entry.specs.Held.{records, AreRecords};
+ghost use Rattle.entry.specs.Codes.{recordOf};
 ghost use Rattle.printing.specs.Print.{lineFeed, decimal, digitByte, hexadecimal, recordLines, unreadableLine, refusedWord, refusedLine, replyLine};
-ghost use Rattle.printing.specs.Lengths.{kindLength};
 
 fn put(out: &mut [u8], at: usize, bytes: &[u8]) -> usize
     requires { ⌜ at + length (now bytes) ≤ length (now out) ⌝ }
@@ -33,11 +32,12 @@ fn put_decimal(out: &mut [u8], at: usize, n: u64) -> usize
     put(out, at, &text[..k])
 }
 
+// From 10 on the digits stand 39 further on. No branch: what a digit is cannot be foretold.
 fn digit_byte(d: u8) -> u8
     requires { ⌜ d < 16 ⌝ }
     ensures { λ r. ⌜ r ≡ digitByte d ⌝ }
 {
-    if d < 10 { 48 + d } else { 87 + d }
+    48 + d + 39 * ((d + 6) / 16)
 }
 
 fn put_hexadecimal(out: &mut [u8], at: usize, bytes: &[u8]) -> usize
@@ -55,7 +55,8 @@ fn put_hexadecimal(out: &mut [u8], at: usize, bytes: &[u8]) -> usize
     at + 2 * i
 }
 
-fn put_line(out: &mut [u8], at: usize, bytes: &[u8]) -> usize
+// A record on a line.
+pub fn put_line(out: &mut [u8], at: usize, bytes: &[u8]) -> usize
     requires { ⌜ at + 2 * length (now bytes) < length (now out) ⌝ }
     ensures { λ r. ⌜ Put (now (out .entry)) at (hexadecimal (now (bytes .entry)) ++ (lineFeed ∷ [])) r (now (out .exit)) ⌝ }
 {
@@ -64,31 +65,39 @@ fn put_line(out: &mut [u8], at: usize, bytes: &[u8]) -> usize
     end + 1
 }
 
-fn record_length(kind: u8) -> usize
-    ensures { λ r. ⌜ r ≡ kindLength kind ⌝ }
+fn wide(x: u16) -> usize
+    ensures { λ r. ⌜ r ≡ x ⌝ }
 {
-    if kind == 2 {
-        return 3;
-    }
-    if kind < 4 {
-        return 4;
-    }
-    2
+    x as usize
 }
 
-// Each record of an entry on a line.
-pub fn put_records(out: &mut [u8], at: usize, entry: &[u8]) -> usize
-    requires { ⌜ AreRecords (now entry) × (at + 3 * length (now entry) ≤ length (now out)) ⌝ }
-    ensures { λ r. ⌜ Put (now (out .entry)) at (recordLines (records (now (entry .entry)))) r (now (out .exit)) ⌝ }
+// The line of a monomial's record.
+fn put_monomial(out: &mut [u8], at: usize, code: usize) -> usize
+    requires { ⌜ (code < 65536) × (at + length (recordLines (recordOf code ∷ [])) ≤ length (now out)) ⌝ }
+    ensures { λ r. ⌜ Put (now (out .entry)) at (recordLines (recordOf code ∷ [])) r (now (out .exit)) ⌝ }
 {
-    let mut from = 0;
-    let mut next = at;
-    while from < entry.len() {
-        let end = from + record_length(entry[from]);
-        next = put_line(out, next, &entry[from..end]);
-        from = end;
+    let i = code / 1024;
+    let m = code % 1024;
+    let low = (m % 256) as u8;
+    let high = (m / 256) as u8;
+    if i == 0 {
+        let bytes = [2u8, low, high];
+        return put_line(out, at, &bytes);
     }
-    next
+    let bytes = [3u8, (i - 1) as u8, low, high];
+    put_line(out, at, &bytes)
+}
+
+// The lines of the monomials that numbers stand for.
+pub fn put_monomials(out: &mut [u8], from: usize, codes: &[u16]) -> usize
+    requires { ⌜ from + length (recordLines (map recordOf (now codes))) ≤ length (now out) ⌝ }
+    ensures { λ r. ⌜ Put (now (out .entry)) from (recordLines (map recordOf (now (codes .entry)))) r (now (out .exit)) ⌝ }
+{
+    let mut at = from;
+    for p in 0..codes.len() {
+        at = put_monomial(out, at, wide(codes[p]));
+    }
+    at
 }
 
 // Of a line, and of a volume that cannot be read.
