@@ -27,12 +27,12 @@ length-monomials n f = omega (arith, length-keep f (order n), length-order n)
 pub length-bytes : (rs ss : List Record) → length (bytes (rs ++ ss)) ≡ length (bytes rs) + length (bytes ss)
 length-bytes rs ss = ap length (bytes-append rs ss) ∙ length-append (bytes rs) (bytes ss)
 
-condition-bytes : (ms : List ℕ) → length (bytes (map Condition ms)) ≡ 3 * length ms
+pub condition-bytes : (ms : List ℕ) → length (bytes (map Condition ms)) ≡ 3 * length ms
 unfolding bytes
 condition-bytes [] = refl
 condition-bytes (m ∷ ms) = omega (arith, condition-bytes ms)
 
-answer-bytes : (j : ℕ) (ms : List ℕ) → length (bytes (map (Answer j) ms)) ≡ 4 * length ms
+pub answer-bytes : (j : ℕ) (ms : List ℕ) → length (bytes (map (Answer j) ms)) ≡ 4 * length ms
 unfolding bytes
 answer-bytes j [] = refl
 answer-bytes j (m ∷ ms) = omega (arith, answer-bytes j ms)

@@ -1,14 +1,16 @@
 -- The writer's questions, one after another, and the ways out: refused by 1, 2, 4 or 8, or by 14, or done.
 -- Assumes nothing.
-use mathlib.Core.Path.{_≡_, refl, sym, _∙_}
+use mathlib.Core.Path.{_≡_, refl, sym, ap, _∙_}
 use mathlib.Core.Bool.{true, false}
 use mathlib.Core.List.{List, [], _∷_, _++_}
 use Prim.Native.Nat.{ℕ, _+_, _^_, _≤_, _<_}
+use native.Mathlib.Nat.{zero-add}
 use native.Mathlib.Omega.{arith}
 use lib.Dec.{leb}
 use lib.ListN.{length, take, drop}
-use lib.Seq.{length-take-le}
+use lib.Seq.{length-take-le, sets-eq}
 use borrow.Author.Tests.{le-leb, lt-leb, leb-true}
+use Rattle.tables.specs.Put.{Put}
 use Rattle.tables.specs.Questions.{asks, firstNo, lettersFit, hasRoom, holdsBits}
 use Rattle.tables.specs.Reply.{reply, after}
 use Rattle.ring.proofs.Bool.{and-left, and-right}
@@ -119,11 +121,13 @@ module _ (made out : List ℕ) where
       let n : (_≡_ {A = ℕ} 14 0 → ⊥) = λ z. omega arith in
       record { answer = reply-refused 14 _ e _ n; output = after-refused 14 _ e _ out n }
 
-  pub output-done : {front : List ℕ} → length made ≤ length out → front ≡ made → HandsOut made out (Done (length made)) (front ++ drop (length made) out)
+  pub output-done : {r : ℕ} {new : List ℕ} → length made ≤ length out → Put out 0 made r new → HandsOut made out (Done r) new
   unfolding outputFits firstNo
-  output-done {front} l e =
+  output-done {r} {new} l p =
       let f : 0 ≡ firstNo (asks 14 (outputFits made (length out)) ∷ []) = rw (le-leb (length made) (length out) l) in
-      record { answer = reply-accepted 0 _ f _ refl; output = after-done 0 _ f made out (length made) front refl e refl }
+      let size : r ≡ length made = p .place ∙ zero-add (length made) in
+      let front : new ≡ made ++ drop (length made) out = p .bytes ∙ sets-eq made out 0 (omega arith) ∙ ap (λ (k : ℕ). made ++ drop k out) (zero-add (length made)) in
+      record { answer = rw size (reply-accepted 0 _ f _ refl); output = front ∙ after-done 0 _ f made out (length made) made refl refl refl }
 
 pub hands-out-as : {made vs out out′ : List ℕ} {r : Written} → made ≡ vs → HandsOut made out r out′ → HandsOut vs out r out′
 hands-out-as e h = rw (← e) h

@@ -1,4 +1,4 @@
-pub mod Monomials
+pub mod Entries
 pub mod Parts
 pub mod Asked
 pub mod Theorems

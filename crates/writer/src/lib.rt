@@ -1,24 +1,37 @@
 // Writing an archive entry: the condition is solved here, so that the answers are Boole's. `write_entry` is the public call of the library.
-// The other functions are its inner work.
+// `list_entry` is for the program that prints entries too: all monomials of an entry, as numbers, from a condition's coefficients and values
+// in words. The other functions are inner work.
 ghost use mathlib.Core.Path.{_≡_};
-ghost use mathlib.Core.List.{[], _∷_};
-ghost use Prim.Native.Nat.{_+_, _*_, _^_, _≤_, _<_};
+ghost use mathlib.Core.List.{[], _∷_, map};
+ghost use Prim.Native.Nat.{_+_, _-_, _*_, _^_, _≤_, _<_};
 ghost use lib.ListN.{length};
-ghost use Rattle.ring.specs.Table.{present};
+ghost use Rattle.ring.specs.Polynomial.{value};
+ghost use Rattle.ring.specs.Table.{table};
 ghost use Rattle.tables.specs.Put.{Put};
 ghost use Rattle.tables.specs.Reply.{reply, after};
-ghost use Rattle.order.specs.Order.{order};
-ghost use Rattle.solution.specs.Elimination.{defaultOrder, solve};
-ghost use Rattle.entry.specs.Record.{bytes};
-ghost use Rattle.entry.specs.Entry.{answerRecords, verdictRecords, entry};
+ghost use Rattle.words.specs.Words.{wordsOf, bitAt};
+ghost use Rattle.order.specs.Order.{order, monomials};
+ghost use Rattle.order.specs.Listing.{tagged, Listed};
+ghost use Rattle.elimination.specs.Stages.{ListsEach};
+ghost use Rattle.solution.specs.Elimination.{defaultOrder};
+ghost use Rattle.entry.specs.Record.{recordBytes, bytes};
+ghost use Rattle.entry.specs.Codes.{recordOf};
+ghost use Rattle.entry.specs.Entry.{entry};
 ghost use Rattle.writer.specs.Writing.{archived, writeRefusal, written};
-ghost use Rattle.writer.specs.Steps.{conditionRefusal, tableRecords, monomialBytes, Ready, HandsOut};
+ghost use Rattle.writer.specs.Steps.{conditionRefusal, Ready, Listable, answerCodes, countOf, toldOf, sizeOf, entryFrom, Lists, HandsOut};
 use solver::Verdict;
 
 // What writing answers: the entry's length, or the number of the first no.
 pub enum Written {
     Done(usize),
     Refused(u8),
+}
+
+// What listing an entry finds: how many monomials the condition has, and how many it has with its answers; or, where there is no solution,
+// how many the condition has, and the state.
+pub enum Listing {
+    Solved(usize, usize),
+    None(usize, u8),
 }
 
 fn put2(out: &mut [u8], at: usize, a: u8, b: u8) -> usize
@@ -51,14 +64,145 @@ fn put4(out: &mut [u8], at: usize, a: u8, b: u8, c: u8, d: u8) -> usize
     at + 4
 }
 
-// The record of monomial m, if it is present, for table i: 0 the condition, j + 1 the answer for unknown j.
-fn put_monomial(i: usize, t: &[u8], m: usize, out: &mut [u8], at: usize) -> usize
-    requires { ⌜ (i ≤ 6) × (m < length (now t)) × (m < 1024) × (at + length (monomialBytes i (now t) m) ≤ length (now out)) ⌝ }
-    ensures { λ r. ⌜ Put (now (out .entry)) at (monomialBytes i (now (t .entry)) m) r (now (out .exit)) ⌝ }
+fn wide(x: u16) -> usize
+    ensures { λ r. ⌜ r ≡ x ⌝ }
 {
-    if t[m] != 1 {
-        return at;
+    x as usize
+}
+
+// The letters beyond six.
+fn further(n: usize) -> usize
+    ensures { λ r. ⌜ r ≡ n - 6 ⌝ }
+{
+    if n < 6 {
+        return 0;
     }
+    n - 6
+}
+
+// From coefficients to values, or back, into other words.
+pub fn transform(n: usize, words: &[u64], out: &mut [u64])
+    requires { ⌜ (n ≤ 10) × (length (now words) ≡ 2 ^ (n - 6)) × (length (now out) ≡ 2 ^ (n - 6)) ⌝ }
+    ensures { λ _. ⌜ now (out .exit) ≡ wordsOf (2 ^ (n - 6)) (value (6 + (n - 6)) (bitAt (now (words .entry)))) ⌝ }
+{
+    words::copy(out, words);
+    words::to_values(out, further(n));
+}
+
+// The monomials of the polynomial whose values stand in `values`; `own` is room for its coefficients.
+fn list_values(
+    n: usize,
+    tag: usize,
+    values: &[u64],
+    masks: &[u16],
+    codes: &mut [u16],
+    from: usize,
+    own: &mut [u64],
+) -> usize
+    requires { ⌜ (n ≤ 10) × (tag + 1024 ≤ 65536) × (length (now values) ≡ 2 ^ (n - 6)) × (now masks ≡ order n) × (from + 2 ^ n ≤ length (now codes)) × (length (now own) ≡ 2 ^ (n - 6)) ⌝ }
+    ensures { λ r. ⌜ Listed (now (codes .entry)) from (tagged tag (monomials n (value n (bitAt (now (values .entry)))))) r (now (codes .exit)) ⌝ }
+{
+    transform(n, values, own);
+    order::list_monomials(n, tag, own, masks, codes, from)
+}
+
+// The monomials of the answer for unknown j.
+fn list_answer(
+    j: usize,
+    n: usize,
+    values: &[u64],
+    masks: &[u16],
+    codes: &mut [u16],
+    from: usize,
+) -> usize
+    requires { ⌜ (j < 6) × (n ≤ 10) × (length (now values) ≡ 2 ^ (n - 6)) × (now masks ≡ order n) × (from + 2 ^ n ≤ length (now codes)) ⌝ }
+    ensures { λ r. ⌜ Listed (now (codes .entry)) from (tagged (1024 * (j + 1)) (monomials n (value n (bitAt (now (values .entry)))))) r (now (codes .exit)) ⌝ }
+{
+    let k = words::word_count(n);
+    let mut own = [0u64; 16];
+    list_values(n, 1024 * (j + 1), values, masks, codes, from, &mut own[..k])
+}
+
+fn list_answers(
+    u: usize,
+    n: usize,
+    answers: &[u64],
+    masks: &[u16],
+    codes: &mut [u16],
+    from: usize,
+) -> usize
+    requires { ⌜ (u ≤ 6) × (n ≤ 10) × (length (now answers) ≡ u * 2 ^ (n - 6)) × (now masks ≡ order n) × (from + u * 2 ^ n ≤ length (now codes)) ⌝ }
+    ensures { λ r. ⌜ Listed (now (codes .entry)) from (answerCodes u n (now (answers .entry))) r (now (codes .exit)) ⌝ }
+{
+    let k = words::word_count(n);
+    let mut at = from;
+    for j in 0..u {
+        let start = j * k;
+        let end = start + k;
+        at = list_answer(j, n, &answers[start..end], masks, codes, at);
+    }
+    at
+}
+
+// Uses up the values; `answers` is room for those of the answers.
+fn list_with(
+    u: usize,
+    g: usize,
+    coefficients: &[u64],
+    values: &mut [u64],
+    masks: &[u16],
+    codes: &mut [u16],
+    order: &[usize],
+    answers: &mut [u64],
+) -> Listing
+    requires { ⌜ Listable u g (now coefficients) (now values) (now masks) × (7168 ≤ length (now codes)) × (now order ≡ defaultOrder u) × (length (now answers) ≡ u * 2 ^ (u + g - 6)) ⌝ }
+    ensures { λ r. ⌜ Lists u g (table (u + g) (bitAt (now (coefficients .entry)))) r (now (codes .exit)) ⌝ }
+{
+    let told = order::list_monomials(u + g, 0, coefficients, masks, codes, 0);
+    match solver::solve_values(u, g, order, values, answers) {
+        Verdict::Solved => {
+            let all = list_answers(u, u + g, answers, masks, codes, told);
+            Listing::Solved(told, all)
+        }
+        Verdict::None(state) => Listing::None(told, state.0 as u8),
+    }
+}
+
+// All monomials of the entry of a condition that has passed the questions, in the entry's order, at the front of `codes`. The condition is
+// lent as its coefficients and its values, which are used up; `masks` has the written order.
+pub fn list_entry(
+    u: usize,
+    g: usize,
+    coefficients: &[u64],
+    values: &mut [u64],
+    masks: &[u16],
+    codes: &mut [u16],
+) -> Listing
+    requires { ⌜ Listable u g (now coefficients) (now values) (now masks) × (7168 ≤ length (now codes)) ⌝ }
+    ensures { λ r. ⌜ Lists u g (table (u + g) (bitAt (now (coefficients .entry)))) r (now (codes .exit)) ⌝ }
+{
+    let size = u * words::word_count(u + g);
+    let order = [0usize, 1, 2, 3, 4, 5];
+    let mut answers = [0u64; 96];
+    list_with(
+        u,
+        g,
+        coefficients,
+        values,
+        masks,
+        codes,
+        &order[..u],
+        &mut answers[..size],
+    )
+}
+
+// The record of a monomial.
+fn put_monomial(code: usize, out: &mut [u8], at: usize) -> usize
+    requires { ⌜ (code < 65536) × (at + length (recordBytes (recordOf code)) ≤ length (now out)) ⌝ }
+    ensures { λ r. ⌜ Put (now (out .entry)) at (recordBytes (recordOf code)) r (now (out .exit)) ⌝ }
+{
+    let i = code / 1024;
+    let m = code % 1024;
     let low = (m % 256) as u8;
     let high = (m / 256) as u8;
     if i == 0 {
@@ -67,129 +211,121 @@ fn put_monomial(i: usize, t: &[u8], m: usize, out: &mut [u8], at: usize) -> usiz
     put4(out, at, 3, (i - 1) as u8, low, high)
 }
 
-fn wide(x: u16) -> usize
-    ensures { λ r. ⌜ r ≡ x ⌝ }
-{
-    x as usize
-}
-
-// The monomials of a table, in written order: `masks` has those for n letters.
-fn put_table(i: usize, n: usize, t: &[u8], masks: &[u16], out: &mut [u8], from: usize) -> usize
-    requires { ⌜ (i ≤ 6) × (n ≤ 10) × (length (now t) ≡ 2 ^ n) × (now masks ≡ order n) × (from + length (bytes (tableRecords i n (present (now t)))) ≤ length (now out)) ⌝ }
-    ensures { λ r. ⌜ Put (now (out .entry)) from (bytes (tableRecords i n (present (now (t .entry))))) r (now (out .exit)) ⌝ }
+fn put_monomials(codes: &[u16], out: &mut [u8], from: usize) -> usize
+    requires { ⌜ from + length (bytes (map recordOf (now codes))) ≤ length (now out) ⌝ }
+    ensures { λ r. ⌜ Put (now (out .entry)) from (bytes (map recordOf (now (codes .entry)))) r (now (out .exit)) ⌝ }
 {
     let mut at = from;
-    for p in 0..masks.len() {
-        let m = wide(masks[p]);
-        at = put_monomial(i, t, m, out, at);
+    for p in 0..codes.len() {
+        at = put_monomial(wide(codes[p]), out, at);
     }
     at
 }
 
-fn put_answers(
-    u: usize,
-    n: usize,
-    answers: &[u8],
-    masks: &[u16],
-    out: &mut [u8],
-    from: usize,
-) -> usize
-    requires { ⌜ (u ≤ 6) × (n ≤ 10) × (length (now answers) ≡ u * 2 ^ n) × (now masks ≡ order n) × (from + length (bytes (answerRecords u n (now answers))) ≤ length (now out)) ⌝ }
-    ensures { λ r. ⌜ Put (now (out .entry)) from (bytes (answerRecords u n (now (answers .entry)))) r (now (out .exit)) ⌝ }
-{
-    let k = tables::pow2(n);
-    let mut at = from;
-    for j in 0..u {
-        let start = j * k;
-        let end = start + k;
-        at = put_table(j + 1, n, &answers[start..end], masks, out, at);
-    }
-    at
-}
-
-// Solves the condition, with `answers` as room, and puts the answers or 'none' and the state.
-fn put_verdict(
-    u: usize,
-    g: usize,
-    condition: &[u8],
-    answers: &mut [u8],
-    masks: &[u16],
-    out: &mut [u8],
-    from: usize,
-) -> usize
-    requires { ⌜ Ready u g (now condition) × (length (now answers) ≡ u * 2 ^ (u + g)) × (now masks ≡ order (u + g)) × (from + length (bytes (verdictRecords u (u + g) (solve u g (defaultOrder u) (now condition)))) ≤ length (now out)) ⌝ }
-    ensures { λ r. ⌜ Put (now (out .entry)) from (bytes (verdictRecords u (u + g) (solve u g (defaultOrder u) (now (condition .entry))))) r (now (out .exit)) ⌝ }
-{
-    match solver::solve(u, g, condition, answers) {
-        Verdict::Solved => put_answers(u, u + g, answers, masks, out, from),
-        Verdict::None(state) => put2(out, from, 5, state.0 as u8),
-    }
-}
-
-fn put_solved(
-    u: usize,
-    g: usize,
-    condition: &[u8],
-    masks: &[u16],
-    out: &mut [u8],
-    from: usize,
-) -> usize
-    requires { ⌜ Ready u g (now condition) × (now masks ≡ order (u + g)) × (from + length (bytes (verdictRecords u (u + g) (solve u g (defaultOrder u) (now condition)))) ≤ length (now out)) ⌝ }
-    ensures { λ r. ⌜ Put (now (out .entry)) from (bytes (verdictRecords u (u + g) (solve u g (defaultOrder u) (now (condition .entry))))) r (now (out .exit)) ⌝ }
-{
-    let size = u * tables::pow2(u + g);
-    let mut answers = [0u8; 6144];
-    put_verdict(u, g, condition, &mut answers[..size], masks, out, from)
-}
-
-// The entry, at the start of `out`.
-fn compose(route: u8, u: usize, g: usize, condition: &[u8], masks: &[u16], out: &mut [u8]) -> usize
-    requires { ⌜ Ready u g (now condition) × (now masks ≡ order (u + g)) × (length (entry route u g (now condition)) ≤ length (now out)) ⌝ }
-    ensures { λ r. ⌜ Put (now (out .entry)) 0 (entry route u g (now (condition .entry))) r (now (out .exit)) ⌝ }
+// The entry's start and its monomials.
+fn put_front(route: u8, u: usize, g: usize, codes: &[u16], out: &mut [u8]) -> usize
+    requires { ⌜ (u ≤ 6) × (g ≤ 8) × (4 + length (bytes (map recordOf (now codes))) ≤ length (now out)) ⌝ }
+    ensures { λ r. ⌜ Put (now (out .entry)) 0 (1 ∷ route ∷ u ∷ g ∷ bytes (map recordOf (now (codes .entry)))) r (now (out .exit)) ⌝ }
 {
     let started = put4(out, 0, 1, route, u as u8, g as u8);
-    let told = put_table(0, u + g, condition, masks, out, started);
-    let solved = put_solved(u, g, condition, masks, out, told);
-    put2(out, solved, 4, route)
+    put_monomials(codes, out, started)
 }
 
-// The same, with the written order worked out.
-fn compose_ordered(route: u8, u: usize, g: usize, condition: &[u8], out: &mut [u8]) -> usize
-    requires { ⌜ Ready u g (now condition) × (length (entry route u g (now condition)) ≤ length (now out)) ⌝ }
-    ensures { λ r. ⌜ Put (now (out .entry)) 0 (entry route u g (now (condition .entry))) r (now (out .exit)) ⌝ }
+// The entry that was listed, at the start of `out`.
+fn compose(route: u8, u: usize, g: usize, found: Listing, codes: &[u16], out: &mut [u8]) -> usize
+    requires { ⌜ (u ≤ 6) × (g ≤ 8) × (countOf found ≤ length (now codes)) × (length (bytes (entryFrom route u g found (now codes))) ≤ length (now out)) ⌝ }
+    ensures { λ r. ⌜ Put (now (out .entry)) 0 (bytes (entryFrom route u g found (now (codes .entry)))) r (now (out .exit)) ⌝ }
 {
-    let k = tables::pow2(u + g);
-    let mut masks = [0u16; 1024];
-    order::fill_order(u + g, &mut masks);
-    compose(route, u, g, condition, &masks[..k], out)
+    match found {
+        Listing::Solved(_, all) => {
+            let solved = put_front(route, u, g, &codes[..all], out);
+            put2(out, solved, 4, route)
+        }
+        Listing::None(told, state) => {
+            let listed = put_front(route, u, g, &codes[..told], out);
+            let none = put2(out, listed, 5, state);
+            put2(out, none, 4, route)
+        }
+    }
 }
 
-// Question 14 of a finished entry, and its copy.
-fn hand_out(made: &[u8], out: &mut [u8]) -> Written
-    ensures { λ r. ⌜ HandsOut (now (made .entry)) (now (out .entry)) r (now (out .exit)) ⌝ }
+// How many bytes the monomials and the verdict take: three for a monomial of the condition, four for one of an answer, two for 'none'.
+fn records_size(found: Listing) -> usize
+    requires { ⌜ (toldOf found ≤ countOf found) × (sizeOf found ≤ 27648) ⌝ }
+    ensures { λ r. ⌜ r ≡ sizeOf found ⌝ }
 {
-    let n = made.len();
-    if out.len() < n {
+    match found {
+        Listing::Solved(told, all) => 3 * told + 4 * (all - told),
+        Listing::None(told, _) => 3 * told + 2,
+    }
+}
+
+// Question 14 of a listed entry, before anything is written.
+fn hand_out(route: u8, u: usize, g: usize, found: Listing, codes: &[u16], out: &mut [u8]) -> Written
+    requires { ⌜ (u ≤ 6) × (g ≤ 8) × (countOf found ≤ length (now codes)) × (toldOf found ≤ countOf found) × (sizeOf found ≤ 27648) × (6 + sizeOf found ≡ length (bytes (entryFrom route u g found (now codes)))) ⌝ }
+    ensures { λ r. ⌜ HandsOut (bytes (entryFrom route u g found (now (codes .entry)))) (now (out .entry)) r (now (out .exit)) ⌝ }
+{
+    let size = 6 + records_size(found);
+    if out.len() < size {
         return Written::Refused(tables::OUTPUT);
     }
-    tables::copy(&mut out[..n], made);
-    Written::Done(n)
+    Written::Done(compose(route, u, g, found, codes, out))
 }
 
-// `scratch` has room for any entry.
+// The condition's coefficients and values, with room for them lent.
+fn list_table(
+    u: usize,
+    g: usize,
+    condition: &[u8],
+    coefficients: &mut [u64],
+    values: &mut [u64],
+    masks: &[u16],
+    codes: &mut [u16],
+) -> Listing
+    requires { ⌜ Ready u g (now condition) × (length (now coefficients) ≡ 2 ^ (u + g - 6)) × (length (now values) ≡ 2 ^ (u + g - 6)) × (now masks ≡ order (u + g)) × (7168 ≤ length (now codes)) ⌝ }
+    ensures { λ r. ⌜ Lists u g (now (condition .entry)) r (now (codes .exit)) ⌝ }
+{
+    words::pack(u + g, condition, coefficients);
+    transform(u + g, coefficients, values);
+    list_entry(u, g, coefficients, values, masks, codes)
+}
+
+// The scratch words and the written order live here.
+fn list_condition(u: usize, g: usize, condition: &[u8], codes: &mut [u16]) -> Listing
+    requires { ⌜ Ready u g (now condition) × (7168 ≤ length (now codes)) ⌝ }
+    ensures { λ r. ⌜ Lists u g (now (condition .entry)) r (now (codes .exit)) ⌝ }
+{
+    let k = words::word_count(u + g);
+    let all = tables::pow2(u + g);
+    let mut coefficients = [0u64; 16];
+    let mut values = [0u64; 16];
+    let mut masks = [0u16; 1024];
+    order::fill_order(u + g, &mut masks);
+    list_table(
+        u,
+        g,
+        condition,
+        &mut coefficients[..k],
+        &mut values[..k],
+        &masks[..all],
+        codes,
+    )
+}
+
+// `codes` has room for all monomials of any entry.
 fn write_ready(
     route: u8,
     u: usize,
     g: usize,
     condition: &[u8],
-    scratch: &mut [u8],
+    codes: &mut [u16],
     out: &mut [u8],
 ) -> Written
-    requires { ⌜ Ready u g (now condition) × (27654 ≤ length (now scratch)) ⌝ }
+    requires { ⌜ Ready u g (now condition) × (7168 ≤ length (now codes)) ⌝ }
     ensures { λ r. ⌜ HandsOut (entry route u g (now (condition .entry))) (now (out .entry)) r (now (out .exit)) ⌝ }
 {
-    let n = compose_ordered(route, u, g, condition, scratch);
-    hand_out(&scratch[..n], out)
+    let found = list_condition(u, g, condition, codes);
+    hand_out(route, u, g, found, codes, out)
 }
 
 // The first no of 1, 2, 4 and 8, or 0.
@@ -228,13 +364,13 @@ pub fn write_entry(
         return Written::Refused(refusal);
     }
     let k = tables::pow2(unknowns + givens);
-    let mut scratch = [0u8; 27654];
+    let mut codes = [0u16; 7168];
     write_ready(
         route as u8,
         unknowns,
         givens,
         &condition[..k],
-        &mut scratch,
+        &mut codes,
         out,
     )
 }

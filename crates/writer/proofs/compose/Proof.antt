@@ -1,41 +1,66 @@
--- The four parts, each with the room that an entry's length leaves it. Assumes nothing.
-use mathlib.Core.Path.{_≡_}
-use Prim.Native.Nat.{_+_}
+-- The two cases of a listing, each part with the room that the entry's length leaves it. Assumes nothing.
+use mathlib.Core.Path.{sym}
 use native.Mathlib.Omega.{arith}
-use lib.ListN.{length}
 use borrow.Author.Needs.{needs}
-use Rattle.ring.specs.Table.{present}
-use Rattle.solution.specs.Elimination.{defaultOrder, solve}
-use Rattle.entry.specs.Record.{bytes}
-use Rattle.entry.specs.Entry.{verdictRecords, entry}
-use Rattle.writer.specs.Steps.{tableRecords}
-use Rattle.writer.proofs.Parts.{entry-length, entry-put}
+use lib.Seq.{length-take-le}
+use Rattle.tables.proofs.Put.{put-length}
+use Rattle.writer.proofs.Parts.{solved-count, none-count, solved-room, none-room, solved-put, none-put}
 use Rattle.writer.proofs.compose.Statement.{statement}
 use Rattle.writer.proofs.compose.Tie as tie
 
--- the entry's length, part by part
-lengths : (s : tie.Start) → length (entry (s .args .route) (s .args .u) (s .args .g) (s .args .condition .now))
-    ≡ 4 + (length (bytes (tableRecords 0 (s .args .u + s .args .g) (present (s .args .condition .now)))) + (length (bytes (verdictRecords (s .args .u) (s .args .u + s .args .g) (solve (s .args .u) (s .args .g) (defaultOrder (s .args .u)) (s .args .condition .now)))) + 2))
-lengths s = entry-length (s .args .route) (s .args .u) (s .args .g) (s .args .condition .now)
+enum-known-found : tie.Need-enum-known-found
+enum-known-found c = search needs
 
-put-table-requires : tie.Need-put-table-requires
-put-table-requires c κs =
-    let s = c .before .before .before .before .before .before .before .before in
-    (omega arith, s .pre .0 .letters, s .pre .0 .table .size, s .pre .1, omega (arith, lengths s))
+slice-aggregate-put-front : tie.Need-slice-aggregate-put-front
+slice-aggregate-put-front c = sym (length-take-le _ _ (solved-count ((c .before .before .found) .given .1) ((c .before .before .before .before .before .before .pre) .2)))
 
-put-solved-requires : tie.Need-put-solved-requires
-put-solved-requires c κs = let s = c .before .before .before .before .before .before .before .before .before .before .before .before in (s .pre .0, s .pre .1, omega (arith, lengths s))
+put-front-requires : tie.Need-put-front-requires
+put-front-requires c κs = ((c .before .before .before .before .before .before .before .pre) .0, (c .before .before .before .before .before .before .before .pre) .1, omega (arith, solved-room _ _ _ _ ((c .before .before .before .before .before .before .before .args) .codes .now) ((c .before .before .before .found) .given .1) _ ((c .before .before .before .before .before .before .before .pre) .3)))
+
+put2-requires : tie.Need-put2-requires
+put2-requires c κs = omega (arith, solved-room _ _ _ _ ((c .before .before .before .before .before .before .before .before .before .before .before .args) .codes .now) ((c .before .before .before .before .before .before .before .found) .given .1) _ ((c .before .before .before .before .before .before .before .before .before .before .before .pre) .3), (c .before .before .before .put-front) .ensures .place, put-length ((c .before .before .before .put-front) .ensures))
+
+enum-known-found-2 : tie.Need-enum-known-found-2
+enum-known-found-2 c = search needs
+
+slice-aggregate-put-front-2 : tie.Need-slice-aggregate-put-front-2
+slice-aggregate-put-front-2 c = sym (length-take-le _ _ (none-count ((c .before .before .found2) .given .1) ((c .before .before .before .before .before .before .pre) .2)))
+
+put-front-requires-2 : tie.Need-put-front-requires-2
+put-front-requires-2 c κs = ((c .before .before .before .before .before .before .before .pre) .0, (c .before .before .before .before .before .before .before .pre) .1, omega (arith, none-room _ _ _ _ ((c .before .before .before .before .before .before .before .args) .codes .now) ((c .before .before .before .found2) .given .1) _ ((c .before .before .before .before .before .before .before .pre) .3)))
+
+put2-requires-2 : tie.Need-put2-requires-2
+put2-requires-2 c κs = omega (arith, none-room _ _ _ _ ((c .before .before .before .before .before .before .before .before .before .before .before .args) .codes .now) ((c .before .before .before .before .before .before .before .found2) .given .1) _ ((c .before .before .before .before .before .before .before .before .before .before .before .pre) .3), (c .before .before .before .put-front2) .ensures .place, put-length ((c .before .before .before .put-front2) .ensures))
+
+put2-requires-3 : tie.Need-put2-requires-3
+put2-requires-3 c κs = omega (arith, none-room _ _ _ _ ((c .before .before .before .before .before .before .before .before .before .before .before .before .before .before .before .args) .codes .now) ((c .before .before .before .before .before .before .before .before .before .before .before .found2) .given .1) _ ((c .before .before .before .before .before .before .before .before .before .before .before .before .before .before .before .pre) .3), (c .before .before .before .before .before .before .before .put-front2) .ensures .place, put-length ((c .before .before .before .before .before .before .before .put-front2) .ensures), (c .before .before .before .put22) .ensures .place, put-length ((c .before .before .before .put22) .ensures))
+
+same-length : tie.Need-same-length
+same-length c = search needs
+
+returns : tie.Need-returns
+returns c = solved-put _ _ _ _ ((c .before .before .before .before .before .before .before .before .before .before .before .before .before .before .args) .codes .now) ((c .before .before .before .before .before .before .before .before .before .before .found) .given .1) ((c .before .before .before .before .before .before .put-front) .ensures) ((c .before .before .put2) .ensures)
+
+same-length-2 : tie.Need-same-length-2
+same-length-2 c = search needs
+
+returns-2 : tie.Need-returns-2
+returns-2 c = none-put _ _ _ _ ((c .before .before .before .before .before .before .before .before .before .before .before .before .before .before .before .before .before .before .args) .codes .now) ((c .before .before .before .before .before .before .before .before .before .before .before .before .before .before .found2) .given .1) ((c .before .before .before .before .before .before .before .before .before .before .put-front2) .ensures) ((c .before .before .before .before .before .before .put22) .ensures) ((c .before .before .put23) .ensures)
 
 pub compose-spec : {M : Type 1} → statement M
 compose-spec =
     tie.close
     (tie.spec
-    (λ c. search needs)
-    (λ c. search needs)
-    (λ c κs. omega (arith, lengths (c .before .before .before .before)))
-    (λ c. search needs)
-    put-table-requires
-    put-solved-requires
-    (λ c κs. omega (arith, lengths (c .before .before .before .before .before .before .before .before .before .before .before .before .before .before .before .before)))
-    (λ c. search needs)
-    (λ c. search entry-put))
+    enum-known-found
+    slice-aggregate-put-front
+    put-front-requires
+    put2-requires
+    enum-known-found-2
+    slice-aggregate-put-front-2
+    put-front-requires-2
+    put2-requires-2
+    put2-requires-3
+    same-length
+    returns
+    same-length-2
+    returns-2)

@@ -1,37 +1,27 @@
--- What was composed is the front of the scratch. Assumes nothing.
-use mathlib.Core.Path.{sym}
-use Prim.Native.Nat.{_≤_}
+-- What was listed is the entry. Assumes nothing.
 use native.Mathlib.Omega.{arith}
-use lib.ListN.{length}
-use lib.Seq.{length-take-le}
 use borrow.Author.Needs.{needs}
-use Rattle.tables.proofs.Put.{put-front, put-length}
-use Rattle.entry.specs.Entry.{entry}
-use Rattle.writer.proofs.Parts.{ready-bound}
 use Rattle.writer.proofs.Asked.{hands-out-as}
+use Rattle.writer.proofs.Entries.{lists-bytes, lists-size, lists-small}
 use Rattle.writer.proofs.write_ready.Statement.{statement}
 use Rattle.writer.proofs.write_ready.Tie as tie
 
--- the scratch has room for the entry
-bound : (s : tie.Start) → length (entry (s .args .route) (s .args .u) (s .args .g) (s .args .condition .now)) ≤ length (s .args .scratch .now)
-bound s = omega (arith, ready-bound (s .args .route) _ _ _ (s .pre .0), s .pre .1)
+list-condition-requires : tie.Need-list-condition-requires
+list-condition-requires c κs = search needs
 
-slice-reshare-prefix-hand-out : tie.Need-slice-reshare-prefix-hand-out
-slice-reshare-prefix-hand-out c =
-    let made = c .before .before in
-    omega (arith, made .compose-ordered .ensures .inside, put-length (made .compose-ordered .ensures))
+hand-out-requires : tie.Need-hand-out-requires
+hand-out-requires c κs = ((c .before .before .before .before .before .before .before .before .before .pre) .0 .unknowns, (c .before .before .before .before .before .before .before .before .before .pre) .0 .givens, (c .before .before .before .before .list-condition) .ensures .count, (c .before .before .before .before .list-condition) .ensures .told, lists-small ((c .before .before .before .before .before .before .before .before .before .args) .route) _ _ _ ((c .before .before .before .before .list-condition) .ensures) ((c .before .before .before .before .before .before .before .before .before .pre) .0 .unknowns) ((c .before .before .before .before .before .before .before .before .before .pre) .0 .letters), lists-size _ _ _ _ ((c .before .before .before .before .list-condition) .ensures))
+
+same-length : tie.Need-same-length
+same-length c = search needs
+
+same-length-2 : tie.Need-same-length-2
+same-length-2 c = search needs
 
 returns : tie.Need-returns
-returns c = hands-out-as (put-front (c .before .before .before .before .before .before .before .compose-ordered .ensures)) (c .before .before .hand-out .ensures)
+returns c = hands-out-as (lists-bytes _ _ _ _ ((c .before .before .before .before .before .before .before .list-condition) .ensures)) ((c .before .before .hand-out) .ensures)
 
 pub write-ready-spec : {M : Type 1} → statement M
 write-ready-spec =
     tie.close
-    (tie.spec
-    (λ c κs. (c .before .before .before .before .pre .0, bound (c .before .before .before .before)))
-    slice-reshare-prefix-hand-out
-    (λ c. sym (length-take-le _ _ (slice-reshare-prefix-hand-out (c .before))))
-    (λ c κs. search needs)
-    (λ c. search needs)
-    (λ c. search needs)
-    returns)
+    (tie.spec list-condition-requires hand-out-requires same-length same-length-2 returns)
