@@ -151,7 +151,7 @@ module _ (route U G : ℕ) (t : List ℕ) (v : Verdict (List ℕ)) where
       ap (λ (l : List Record). records (bytes l ++ bs)) entry-body ∙ records-back body route bs body-inner ∙ sym entry-body
 
   -- none of them is broken
-  written-whole : allWhole (entryRecords route U G t v) ≡ true
+  pub written-whole : allWhole (entryRecords route U G t v) ≡ true
   written-whole = ap allWhole entry-body ∙ end-whole body route body-inner
 
 module _ (route U G : ℕ) (t : List ℕ) where

@@ -2,9 +2,12 @@
 -- Assumes nothing.
 use mathlib.Core.Path.{_≡_}
 use mathlib.Core.List.{List}
-use Prim.Native.Nat.{ℕ, _+_, _≤_, _<_}
+use Prim.Native.Nat.{ℕ, _+_, _-_, _^_, _≤_, _<_}
 use lib.ListN.{length, take}
+use Rattle.ring.specs.Polynomial.{value}
+use Rattle.ring.specs.Table.{table}
 use Rattle.tables.specs.Put.{Put}
+use Rattle.words.specs.Words.{wordsOf, bitAt}
 use Rattle.grammar.specs.Text.{textTable}
 use Rattle.entry.specs.Entry.{archivedRecords}
 use Rattle.sheet_lines.specs.declared.Printed.{Printed}
@@ -15,6 +18,14 @@ use Rattle.sheet_lines.specs.Pieces.{Carried, keptLength, carryAll, prin
 -- no line prints more: three bytes for each of an entry's 27,654
 abbrev pub lineRoom : ℕ
 lineRoom = 82962
+
+-- the table of coefficients whose values in n letters the words hold
+unfoldable pub tableOf : ℕ → List ℕ → List ℕ
+tableOf n values = table n (value n (bitAt values))
+
+-- the words hold the values of that table, at every point that they have
+abbrev pub IsValues : ℕ → List ℕ → Type 0
+IsValues n values = values ≡ wordsOf (2 ^ (n - 6)) (value n (value n (bitAt values)))
 
 -- what a readable line prints
 pub record Answers (last route U G : ℕ) (text out : List ℕ) (at : ℕ) (r : Printed) (out′ : List ℕ) : Type 0 where

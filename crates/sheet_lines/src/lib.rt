@@ -1,20 +1,26 @@
 // What the program `sheet` prints, as functions on slices; the program only reads and writes.
-// Nothing here is a public call of the library: the functions are for that program, which meets what they require.
+// Nothing here is a public call of the library: the functions are for that program, which meets what they require. The inner
+// ones are lent the written order for ten letters, `masks`, made once for many lines, and room for the monomials of an entry, `codes`.
 ghost use mathlib.Core.Path.{_≡_};
-ghost use mathlib.Core.List.{[], _∷_};
-ghost use Prim.Native.Nat.{_+_, _-_, _≤_, _<_};
+ghost use mathlib.Core.Bool.{true};
+ghost use mathlib.Core.List.{[], _∷_, map};
+ghost use Prim.Native.Nat.{_+_, _-_, _^_, _≤_, _<_};
 ghost use lib.ListN.{length};
 ghost use Rattle.tables.specs.Put.{Put};
-ghost use Rattle.tables.specs.Reply.{after};
-ghost use Rattle.grammar.specs.Text.{textTable};
-ghost use Rattle.entry.specs.Entry.{archivedRecords, Archivable};
+ghost use Rattle.tables.specs.Questions.{lettersFit};
+ghost use Rattle.notation.specs.Work.{textWords};
+ghost use Rattle.order.specs.Order.{order};
+ghost use Rattle.entry.specs.declared.Record.the-variants.{Start, End, None};
+ghost use Rattle.entry.specs.Codes.{recordOf};
+ghost use Rattle.entry.specs.Entry.{archivedRecords};
+ghost use Rattle.entry.specs.Questions.{routeFits};
+ghost use Rattle.writer.specs.Steps.{countOf, entryFrom};
 ghost use Rattle.printing.specs.Print.{recordLines};
 ghost use Rattle.sheet_lines.specs.Fields.{isDigit, digitsAhead, numberBehind, hasLetters, isReadable, readLine};
 ghost use Rattle.sheet_lines.specs.Sheet.{lineRefusal};
 ghost use Rattle.sheet_lines.specs.Pieces.{keptLength, printsLast};
-ghost use Rattle.sheet_lines.specs.Feeding.{lineRoom, Answers, PrintsLine, carried, Took, Feeds};
-use tables::Outcome;
-use writer::Written;
+ghost use Rattle.sheet_lines.specs.Feeding.{lineRoom, tableOf, IsValues, Answers, PrintsLine, carried, Took, Feeds};
+use writer::Listing;
 
 const LONGEST_LINE: usize = 300; // 'lines over 300 bytes without the line feed' are unreadable
 
@@ -141,66 +147,188 @@ fn read_line(line: &[u8]) -> Line
     Line::Readable(route, unknowns, givens, k + 5)
 }
 
-// The first no of 1, 2, 3, 5, 6, 7 and 15, or 0, where the text's table then stands at the front of `condition`. Question 4 is passed:
-// a table has at most 1,024 bytes.
+// The first no of 2, 3, 5, 6, 7 and 15, or 0, where the values of the text then stand in `values`. Question 1 is answered yes.
 fn line_refusal(
     last: usize,
     route: usize,
     unknowns: usize,
     givens: usize,
     text: &[u8],
-    condition: &mut [u8],
+    values: &mut [u64],
 ) -> u8
-    requires { ⌜ length (now condition) ≡ 1024 ⌝ }
+    requires { ⌜ (lettersFit unknowns givens ≡ true) × (length (now values) ≡ 2 ^ (unknowns + givens - 6)) ⌝ }
     ensures { λ r. ⌜ r ≡ lineRefusal last route unknowns givens (now (text .entry)) ⌝ }
-    ensures { λ r. ⌜ (r ≡ 0 → now (condition .exit) ≡ after 0 (textTable unknowns givens (now (text .entry))) (now (condition .entry))) ⌝ }
+    ensures { λ r. ⌜ (r ≡ 0 → now (values .exit) ≡ textWords unknowns givens (now (text .entry))) ⌝ }
 {
-    if !tables::letters_fit(unknowns, givens) {
-        return tables::LETTERS;
-    }
     if !entry::route_fits(route) {
         return tables::ROUTE;
     }
-    match notation::read_text(unknowns, givens, text, condition) {
-        Outcome::Done => {
-            if route <= last {
-                return tables::RISING;
-            }
-            0
+    let number = notation::text_values(unknowns, givens, text, values);
+    if number != 0 {
+        return number;
+    }
+    if route <= last {
+        return tables::RISING;
+    }
+    0
+}
+
+// The first record and the monomials of an entry.
+fn put_front(
+    out: &mut [u8],
+    at: usize,
+    route: usize,
+    unknowns: usize,
+    givens: usize,
+    codes: &[u16],
+) -> usize
+    requires { ⌜ (route < 256) × (unknowns < 256) × (givens < 256) × (at + (9 + length (recordLines (map recordOf (now codes)))) ≤ length (now out)) ⌝ }
+    ensures { λ r. ⌜ Put (now (out .entry)) at (recordLines (Start route unknowns givens ∷ map recordOf (now (codes .entry)))) r (now (out .exit)) ⌝ }
+{
+    let start = [1u8, route as u8, unknowns as u8, givens as u8];
+    let started = printing::put_line(out, at, &start);
+    printing::put_monomials(out, started, codes)
+}
+
+// The last record of an entry.
+fn put_end(out: &mut [u8], at: usize, route: usize) -> usize
+    requires { ⌜ (route < 256) × (at + 5 ≤ length (now out)) ⌝ }
+    ensures { λ r. ⌜ Put (now (out .entry)) at (recordLines (End route ∷ [])) r (now (out .exit)) ⌝ }
+{
+    let end = [4u8, route as u8];
+    printing::put_line(out, at, &end)
+}
+
+// 'none', and the last record of an entry.
+fn put_none(out: &mut [u8], at: usize, state: u8, route: usize) -> usize
+    requires { ⌜ (route < 256) × (at + 10 ≤ length (now out)) ⌝ }
+    ensures { λ r. ⌜ Put (now (out .entry)) at (recordLines (None state ∷ End route ∷ [])) r (now (out .exit)) ⌝ }
+{
+    let none = [5u8, state];
+    let told = printing::put_line(out, at, &none);
+    put_end(out, told, route)
+}
+
+// The records of an entry that was listed.
+fn put_found(
+    out: &mut [u8],
+    at: usize,
+    route: usize,
+    unknowns: usize,
+    givens: usize,
+    found: Listing,
+    codes: &[u16],
+) -> usize
+    requires { ⌜ (route < 256) × (unknowns < 256) × (givens < 256) × (countOf found ≤ length (now codes)) × (at + length (recordLines (entryFrom route unknowns givens found (now codes))) ≤ length (now out)) ⌝ }
+    ensures { λ r. ⌜ Put (now (out .entry)) at (recordLines (entryFrom route unknowns givens found (now (codes .entry)))) r (now (out .exit)) ⌝ }
+{
+    match found {
+        Listing::Solved(_, all) => {
+            let solved = put_front(out, at, route, unknowns, givens, &codes[..all]);
+            put_end(out, solved, route)
         }
-        Outcome::Refused(number) => number,
+        Listing::None(told, state) => {
+            let listed = put_front(out, at, route, unknowns, givens, &codes[..told]);
+            put_none(out, listed, state, route)
+        }
     }
 }
 
-// Room for any table, and for any entry. The `ensures` gives only the length, which lending the array as a slice needs.
-fn table_room() -> [u8; 1024]
-    ensures { λ r. ⌜ 1024 ≡ length r ⌝ }
+// The records of the entry of a condition by its values, which are used up. `masks` has the written order, `coefficients` and `codes` are room.
+fn put_values(
+    out: &mut [u8],
+    at: usize,
+    route: usize,
+    unknowns: usize,
+    givens: usize,
+    values: &mut [u64],
+    coefficients: &mut [u64],
+    masks: &[u16],
+    codes: &mut [u16],
+) -> usize
+    requires { ⌜ (lettersFit unknowns givens ≡ true) × (routeFits route ≡ true) × IsValues (unknowns + givens) (now values) × (length (now coefficients) ≡ 2 ^ (unknowns + givens - 6)) × (now masks ≡ order (unknowns + givens)) × (length (now codes) ≡ 7168) × (at + lineRoom ≤ length (now out)) ⌝ }
+    ensures { λ r. ⌜ Put (now (out .entry)) at (recordLines (archivedRecords route unknowns givens (tableOf (unknowns + givens) (now (values .entry))))) r (now (out .exit)) ⌝ }
 {
-    [0; 1024]
+    writer::transform(unknowns + givens, values, coefficients);
+    let found = writer::list_entry(unknowns, givens, coefficients, values, masks, codes);
+    put_found(out, at, route, unknowns, givens, found, codes)
 }
 
-fn entry_room() -> [u8; 27654]
-    ensures { λ r. ⌜ 27654 ≡ length r ⌝ }
-{
-    [0; 27654]
-}
-
-// The records of the entry of a condition.
+// The same by the written order for ten letters: 'smaller n skips masks that are too large'.
 fn put_entry(
     out: &mut [u8],
     at: usize,
     route: usize,
     unknowns: usize,
     givens: usize,
-    condition: &[u8],
+    values: &mut [u64],
+    masks: &[u16],
+    codes: &mut [u16],
 ) -> usize
-    requires { ⌜ Archivable route unknowns givens (now condition) × (at + lineRoom ≤ length (now out)) ⌝ }
-    ensures { λ r. ⌜ Put (now (out .entry)) at (recordLines (archivedRecords route unknowns givens (now (condition .entry)))) r (now (out .exit)) ⌝ }
+    requires { ⌜ (lettersFit unknowns givens ≡ true) × (routeFits route ≡ true) × IsValues (unknowns + givens) (now values) × (now masks ≡ order 10) × (length (now codes) ≡ 7168) × (at + lineRoom ≤ length (now out)) ⌝ }
+    ensures { λ r. ⌜ Put (now (out .entry)) at (recordLines (archivedRecords route unknowns givens (tableOf (unknowns + givens) (now (values .entry))))) r (now (out .exit)) ⌝ }
 {
-    let mut written = entry_room();
-    match writer::write_entry(route, unknowns, givens, condition, &mut written) {
-        Written::Done(length) => printing::put_records(out, at, &written[..length]),
-        Written::Refused(_) => at,
+    let k = words::word_count(unknowns + givens);
+    let mut coefficients = [0u64; 16];
+    if unknowns + givens == 10 {
+        return put_values(
+            out,
+            at,
+            route,
+            unknowns,
+            givens,
+            values,
+            &mut coefficients[..k],
+            masks,
+            codes,
+        );
+    }
+    let all = tables::pow2(unknowns + givens);
+    let mut few = [0u16; 1024];
+    order::skip_large(unknowns + givens, masks, &mut few);
+    put_values(
+        out,
+        at,
+        route,
+        unknowns,
+        givens,
+        values,
+        &mut coefficients[..k],
+        &few[..all],
+        codes,
+    )
+}
+
+// A readable line whose letters fit; `values` is room for the text's.
+fn answer_fitting(
+    out: &mut [u8],
+    at: usize,
+    last: usize,
+    route: usize,
+    unknowns: usize,
+    givens: usize,
+    text: &[u8],
+    values: &mut [u64],
+    masks: &[u16],
+    codes: &mut [u16],
+) -> Printed
+    requires { ⌜ (lettersFit unknowns givens ≡ true) × (length (now values) ≡ 2 ^ (unknowns + givens - 6)) × (now masks ≡ order 10) × (length (now codes) ≡ 7168) × (at + lineRoom ≤ length (now out)) ⌝ }
+    ensures { λ r. ⌜ Answers last route unknowns givens (now (text .entry)) (now (out .entry)) at r (now (out .exit)) ⌝ }
+{
+    let number = line_refusal(last, route, unknowns, givens, text, values);
+    if number != 0 {
+        let next = printing::put_refused(out, at, number);
+        return Printed {
+            count: 0,
+            last,
+            next,
+        };
+    }
+    let next = put_entry(out, at, route, unknowns, givens, values, masks, codes);
+    Printed {
+        count: 0,
+        last: route,
+        next,
     }
 }
 
@@ -213,32 +341,46 @@ fn answer_line(
     unknowns: usize,
     givens: usize,
     text: &[u8],
+    masks: &[u16],
+    codes: &mut [u16],
 ) -> Printed
-    requires { ⌜ at + lineRoom ≤ length (now out) ⌝ }
+    requires { ⌜ (now masks ≡ order 10) × (length (now codes) ≡ 7168) × (at + lineRoom ≤ length (now out)) ⌝ }
     ensures { λ r. ⌜ Answers last route unknowns givens (now (text .entry)) (now (out .entry)) at r (now (out .exit)) ⌝ }
 {
-    let mut condition = table_room();
-    let number = line_refusal(last, route, unknowns, givens, text, &mut condition);
-    if number != 0 {
-        let next = printing::put_refused(out, at, number);
+    if !tables::letters_fit(unknowns, givens) {
+        let next = printing::put_refused(out, at, tables::LETTERS);
         return Printed {
             count: 0,
             last,
             next,
         };
     }
-    let k = tables::pow2(unknowns + givens);
-    let next = put_entry(out, at, route, unknowns, givens, &condition[..k]);
-    Printed {
-        count: 0,
-        last: route,
-        next,
-    }
+    let k = words::word_count(unknowns + givens);
+    let mut values = [0u64; 16];
+    answer_fitting(
+        out,
+        at,
+        last,
+        route,
+        unknowns,
+        givens,
+        text,
+        &mut values[..k],
+        masks,
+        codes,
+    )
 }
 
 // What `sheet` prints for a line, behind an entry with the route `last`, 0 for none.
-pub fn sheet_line(out: &mut [u8], at: usize, last: usize, line: &[u8]) -> Printed
-    requires { ⌜ at + lineRoom ≤ length (now out) ⌝ }
+pub fn sheet_line(
+    out: &mut [u8],
+    at: usize,
+    last: usize,
+    line: &[u8],
+    masks: &[u16],
+    codes: &mut [u16],
+) -> Printed
+    requires { ⌜ (now masks ≡ order 10) × (length (now codes) ≡ 7168) × (at + lineRoom ≤ length (now out)) ⌝ }
     ensures { λ r. ⌜ PrintsLine last (now (line .entry)) (now (out .entry)) at r (now (out .exit)) ⌝ }
 {
     match read_line(line) {
@@ -250,6 +392,8 @@ pub fn sheet_line(out: &mut [u8], at: usize, last: usize, line: &[u8]) -> Printe
             unknowns,
             givens,
             &line[from..],
+            masks,
+            codes,
         ),
         Line::Unreadable => {
             let next = printing::put_unreadable(out, at);
@@ -268,14 +412,16 @@ fn take_byte(
     kept: &mut [u8],
     count: usize,
     last: usize,
+    masks: &[u16],
+    codes: &mut [u16],
     out: &mut [u8],
     at: usize,
 ) -> Printed
-    requires { ⌜ (length (now kept) ≡ keptLength) × (count ≤ keptLength) × (at + lineRoom ≤ length (now out)) ⌝ }
+    requires { ⌜ (length (now kept) ≡ keptLength) × (count ≤ keptLength) × (now masks ≡ order 10) × (length (now codes) ≡ 7168) × (at + lineRoom ≤ length (now out)) ⌝ }
     ensures { λ r. ⌜ Took (now (kept .entry)) count last (byte ∷ []) (now (out .entry)) at 1 (r .count) (r .last) (r .next) (now (kept .exit)) (now (out .exit)) ⌝ }
 {
     if byte == b'\n' {
-        return sheet_line(out, at, last, &kept[..count]);
+        return sheet_line(out, at, last, &kept[..count], masks, codes);
     }
     if count < KEPT_LENGTH {
         kept[count] = byte;
@@ -293,15 +439,17 @@ fn take_byte(
 }
 
 // A piece of the input, as far as there is room for what it prints. `kept` holds the first `count` bytes of the line that has begun.
-pub fn feed(
+fn feed_with(
     piece: &[u8],
     kept: &mut [u8],
     kept_count: usize,
     last_route: usize,
+    masks: &[u16],
+    codes: &mut [u16],
     out: &mut [u8],
     at: usize,
 ) -> Fed
-    requires { ⌜ (length (now kept) ≡ keptLength) × («kept_count» ≤ keptLength) × (at ≤ length (now out)) ⌝ }
+    requires { ⌜ (length (now kept) ≡ keptLength) × («kept_count» ≤ keptLength) × (now masks ≡ order 10) × (length (now codes) ≡ 7168) × (at ≤ length (now out)) ⌝ }
     ensures { λ r. ⌜ Feeds (now (kept .entry)) «kept_count» «last_route» (now (piece .entry)) (now (out .entry)) at r (now (kept .exit)) (now (out .exit)) ⌝ }
 {
     let mut used = 0;
@@ -317,7 +465,7 @@ pub fn feed(
                 next,
             };
         }
-        let p = take_byte(piece[used], kept, count, last, out, next);
+        let p = take_byte(piece[used], kept, count, last, masks, codes, out, next);
         count = p.count;
         last = p.last;
         next = p.next;
@@ -331,14 +479,59 @@ pub fn feed(
     }
 }
 
-// The end of the input: the last line may lack its line feed.
-pub fn finish(kept: &[u8], count: usize, last: usize, out: &mut [u8], at: usize) -> usize
-    requires { ⌜ (count ≤ length (now kept)) × (at + lineRoom ≤ length (now out)) ⌝ }
+// The same. The written order is worked out here, once for many lines, and the room for an entry's monomials lives here.
+pub fn feed(
+    piece: &[u8],
+    kept: &mut [u8],
+    kept_count: usize,
+    last_route: usize,
+    out: &mut [u8],
+    at: usize,
+) -> Fed
+    requires { ⌜ (length (now kept) ≡ keptLength) × («kept_count» ≤ keptLength) × (at ≤ length (now out)) ⌝ }
+    ensures { λ r. ⌜ Feeds (now (kept .entry)) «kept_count» «last_route» (now (piece .entry)) (now (out .entry)) at r (now (kept .exit)) (now (out .exit)) ⌝ }
+{
+    let mut masks = [0u16; 1024];
+    order::fill_order(10, &mut masks);
+    let mut codes = [0u16; 7168];
+    feed_with(
+        piece,
+        kept,
+        kept_count,
+        last_route,
+        &masks,
+        &mut codes,
+        out,
+        at,
+    )
+}
+
+fn finish_with(
+    kept: &[u8],
+    count: usize,
+    last: usize,
+    masks: &[u16],
+    codes: &mut [u16],
+    out: &mut [u8],
+    at: usize,
+) -> usize
+    requires { ⌜ (count ≤ length (now kept)) × (now masks ≡ order 10) × (length (now codes) ≡ 7168) × (at + lineRoom ≤ length (now out)) ⌝ }
     ensures { λ r. ⌜ Put (now (out .entry)) at (printsLast (carried last count (now (kept .entry)))) r (now (out .exit)) ⌝ }
 {
     if count == 0 {
         return at;
     }
-    let p = sheet_line(out, at, last, &kept[..count]);
+    let p = sheet_line(out, at, last, &kept[..count], masks, codes);
     p.next
+}
+
+// The end of the input: the last line may lack its line feed.
+pub fn finish(kept: &[u8], count: usize, last: usize, out: &mut [u8], at: usize) -> usize
+    requires { ⌜ (count ≤ length (now kept)) × (at + lineRoom ≤ length (now out)) ⌝ }
+    ensures { λ r. ⌜ Put (now (out .entry)) at (printsLast (carried last count (now (kept .entry)))) r (now (out .exit)) ⌝ }
+{
+    let mut masks = [0u16; 1024];
+    order::fill_order(10, &mut masks);
+    let mut codes = [0u16; 7168];
+    finish_with(kept, count, last, &masks, &mut codes, out, at)
 }

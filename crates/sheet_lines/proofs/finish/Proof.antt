@@ -1,18 +1,39 @@
--- Assumes nothing.
-use mathlib.Core.Path.{sym}
+-- The written order, and room for the monomials. Assumes nothing.
 use native.Mathlib.Omega.{arith}
 use borrow.Author.Needs.{needs}
-use lib.Seq.{length-take-le}
-use Rattle.sheet_lines.proofs.Feeding.{last-none, last-line}
+use Rattle.sheet_lines.proofs.Entries.{filled-order}
 use Rattle.sheet_lines.proofs.finish.Statement.{statement}
 use Rattle.sheet_lines.proofs.finish.Tie as tie
+
+slice-aggregate-fill-order : tie.Need-slice-aggregate-fill-order
+slice-aggregate-fill-order c = search needs
+
+fill-order-requires : tie.Need-fill-order-requires
+fill-order-requires c κs = search needs
+
+slice-aggregate-finish-with : tie.Need-slice-aggregate-finish-with
+slice-aggregate-finish-with c = search needs
+
+slice-aggregate-finish-with-2 : tie.Need-slice-aggregate-finish-with-2
+slice-aggregate-finish-with-2 c = search needs
+
+finish-with-requires : tie.Need-finish-with-requires
+finish-with-requires c κs = ((c .before .before .before .before .before .before .before .before .pre) .0, filled-order 10 _ ((c .before .before .before .before .fill-order) .kept .1 .0) ((c .before .before .before .before .fill-order) .ensures), search needs, (c .before .before .before .before .before .before .before .before .pre) .1)
+
+same-length : tie.Need-same-length
+same-length c = search needs
+
+returns : tie.Need-returns
+returns c = search needs
 
 pub finish-spec : {M : Type 1} → statement M
 finish-spec =
     tie.close
     (tie.spec
-    (λ c. last-none _ _ _ _ _ (c .if1 .taken) (omega arith))
-    (λ c. sym (length-take-le _ _ (omega arith)))
-    (λ c κs. search needs)
-    (λ c. search needs)
-    (λ c. last-line _ _ _ _ _ (c .before .before .before .before .before .if1 .left) (omega arith) (c .before .before .sheet-line .ensures)))
+    slice-aggregate-fill-order
+    fill-order-requires
+    slice-aggregate-finish-with
+    slice-aggregate-finish-with-2
+    finish-with-requires
+    same-length
+    returns)

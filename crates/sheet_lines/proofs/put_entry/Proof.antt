@@ -1,55 +1,114 @@
--- The writer refuses nothing here, and its entry is the bytes of whole records. Assumes nothing.
-use mathlib.Core.Path.{sym}
+-- The ten-letter order itself, or the masks of it that are small enough. Assumes nothing.
+use mathlib.Core.Path.{sym, ap, _∙_}
+use Prim.Native.Nat.{_+_}
 use native.Mathlib.Omega.{arith}
 use borrow.Author.Needs.{needs}
 use lib.Seq.{length-take-le}
-use Rattle.sheet_lines.proofs.Entries.{never-refused, entry-written, written-room, written-records, written-short, printed-records}
+use Rattle.tables.proofs.Questions.{letters-small}
+use Rattle.words.proofs.Letters.{count-small}
+use Rattle.order.specs.Order.{order}
+use Rattle.writer.proofs.Parts.{masks-room}
+use Rattle.sheet_lines.proofs.Entries.{few-are}
 use Rattle.sheet_lines.proofs.put_entry.Statement.{statement}
 use Rattle.sheet_lines.proofs.put_entry.Tie as tie
 
-room : tie.Need-array-share-prefix-written
-room c =
-    let wrote = c .before .before .before .before .before in
-    let p = wrote .before .before .before .before .before .pre in
-    written-room _ _ _ _ (p .0) _ (omega arith) _ (wrote .write-entry .ensures .0) (c .before .before .length .given .1) _ _ (wrote .write-entry .ensures .1)
+add-word-count : tie.Need-add-word-count
+add-word-count c = omega (arith, letters-small _ _ ((c .before .before .before .before .pre) .0))
 
-put-records-requires : tie.Need-put-records-requires
-put-records-requires c κs =
-    let done = c .before .before .before in
-    let wrote = done .before .before .before in
-    let p = wrote .before .before .before .before .before .pre in
-    let is = entry-written _ _ _ _ (p .0) _ (omega arith) _ (wrote .write-entry .ensures .0) (done .length .given .1) _ _ (wrote .write-entry .ensures .1) in (
-      written-records _ _ _ _ (p .0) _ (omega arith) _ (wrote .write-entry .ensures .0) (done .length .given .1) is,
-      omega (arith, written-short _ _ _ _ (p .0) _ (omega arith) _ (wrote .write-entry .ensures .0) (done .length .given .1) is, p .1),
-    )
+word-count-requires : tie.Need-word-count-requires
+word-count-requires c κs = letters-small _ _ ((c .before .before .before .before .pre) .0)
+
+add-if1 : tie.Need-add-if1
+add-if1 c = omega (arith, letters-small _ _ ((c .before .before .before .before .before .pre) .0))
+
+array-borrow-prefix-coefficients : tie.Need-array-borrow-prefix-coefficients
+array-borrow-prefix-coefficients c = count-small _ _ ((c .before .before .before .word-count) .ensures) (letters-small _ _ ((c .before .before .before .before .before .before .before .before .pre) .0))
+
+slice-aggregate-put-values : tie.Need-slice-aggregate-put-values
+slice-aggregate-put-values c = sym (length-take-le _ _ (count-small _ _ ((c .before .before .before .before .word-count) .ensures) (letters-small _ _ ((c .before .before .before .before .before .before .before .before .before .pre) .0))))
+
+put-values-requires : tie.Need-put-values-requires
+put-values-requires c κs = ((c .before .before .before .before .before .before .before .before .before .before .pre) .0, (c .before .before .before .before .before .before .before .before .before .before .pre) .1, (c .before .before .before .before .before .before .before .before .before .before .pre) .2, length-take-le _ _ (count-small _ _ ((c .before .before .before .before .before .word-count) .ensures) (letters-small _ _ ((c .before .before .before .before .before .before .before .before .before .before .pre) .0))) ∙ (c .before .before .before .before .before .word-count) .ensures, (c .before .before .before .before .before .before .before .before .before .before .pre) .3 ∙ ap order (sym ((c .before .before .before .before .if1) .taken)), (c .before .before .before .before .before .before .before .before .before .before .pre) .4, (c .before .before .before .before .before .before .before .before .before .before .pre) .5)
+
+same-length : tie.Need-same-length
+same-length c = search needs
+
+same-length-2 : tie.Need-same-length-2
+same-length-2 c = search needs
+
+same-length-3 : tie.Need-same-length-3
+same-length-3 c = search needs
 
 returns : tie.Need-returns
-returns c =
-    let done = c .before .before .before .before .before .before in
-    let wrote = done .before .before .before in
-    let p = wrote .before .before .before .before .before .pre in
-    printed-records _ _ _ _ (p .0) _ (omega arith) _ (wrote .write-entry .ensures .0) (done .length .given .1)
-    (entry-written _ _ _ _ (p .0) _ (omega arith) _ (wrote .write-entry .ensures .0) (done .length .given .1) _ _ (wrote .write-entry .ensures .1))
-    (c .before .before .put-records .ensures)
+returns c = search needs
+
+add-pow2 : tie.Need-add-pow2
+add-pow2 c = omega (arith, letters-small _ _ ((c .before .before .before .before .before .before .pre) .0))
+
+pow2-requires : tie.Need-pow2-requires
+pow2-requires c κs = letters-small _ _ ((c .before .before .before .before .before .before .pre) .0)
+
+add-skip-large : tie.Need-add-skip-large
+add-skip-large c = omega (arith, letters-small _ _ ((c .before .before .before .before .before .before .before .pre) .0))
+
+slice-aggregate-skip-large : tie.Need-slice-aggregate-skip-large
+slice-aggregate-skip-large c = search needs
+
+skip-large-requires : tie.Need-skip-large-requires
+skip-large-requires c κs = (letters-small _ _ ((c .before .before .before .before .before .before .before .before .pre) .0), (c .before .before .before .before .before .before .before .before .pre) .3, search needs)
+
+array-borrow-prefix-coefficients-2 : tie.Need-array-borrow-prefix-coefficients-2
+array-borrow-prefix-coefficients-2 c = count-small _ _ ((c .before .before .before .before .before .before .before .word-count) .ensures) (letters-small _ _ ((c .before .before .before .before .before .before .before .before .before .before .before .before .pre) .0))
+
+slice-aggregate-put-values-2 : tie.Need-slice-aggregate-put-values-2
+slice-aggregate-put-values-2 c = sym (length-take-le _ _ (count-small _ _ ((c .before .before .before .before .before .before .before .before .word-count) .ensures) (letters-small _ _ ((c .before .before .before .before .before .before .before .before .before .before .before .before .before .pre) .0))))
+
+array-share-prefix-few : tie.Need-array-share-prefix-few
+array-share-prefix-few c = masks-room ((c .before .before .before .before .before .before .before .before .before .before .before .before .before .args) .unknowns + (c .before .before .before .before .before .before .before .before .before .before .before .before .before .args) .givens) ((c .before .before .before .before .skip-large) .last .1 .1 .0) ((c .before .before .before .before .before .before .pow2) .ensures) (letters-small _ _ ((c .before .before .before .before .before .before .before .before .before .before .before .before .before .pre) .0)) ((c .before .before .before .before .skip-large) .kept .1 .1 .0)
+
+slice-aggregate-put-values-3 : tie.Need-slice-aggregate-put-values-3
+slice-aggregate-put-values-3 c = sym (length-take-le _ _ (masks-room ((c .before .before .before .before .before .before .before .before .before .before .before .before .before .before .args) .unknowns + (c .before .before .before .before .before .before .before .before .before .before .before .before .before .before .args) .givens) ((c .before .before .before .before .before .skip-large) .last .1 .1 .0) ((c .before .before .before .before .before .before .before .pow2) .ensures) (letters-small _ _ ((c .before .before .before .before .before .before .before .before .before .before .before .before .before .before .pre) .0)) ((c .before .before .before .before .before .skip-large) .kept .1 .1 .0)))
+
+put-values-requires-2 : tie.Need-put-values-requires-2
+put-values-requires-2 c κs = ((c .before .before .before .before .before .before .before .before .before .before .before .before .before .before .before .pre) .0, (c .before .before .before .before .before .before .before .before .before .before .before .before .before .before .before .pre) .1, (c .before .before .before .before .before .before .before .before .before .before .before .before .before .before .before .pre) .2, length-take-le _ _ (count-small _ _ ((c .before .before .before .before .before .before .before .before .before .before .word-count) .ensures) (letters-small _ _ ((c .before .before .before .before .before .before .before .before .before .before .before .before .before .before .before .pre) .0))) ∙ (c .before .before .before .before .before .before .before .before .before .before .word-count) .ensures, few-are ((c .before .before .before .before .before .before .before .before .before .before .before .before .before .before .before .args) .unknowns + (c .before .before .before .before .before .before .before .before .before .before .before .before .before .before .before .args) .givens) ((c .before .before .before .before .before .before .skip-large) .last .1 .1 .0) ((c .before .before .before .before .before .before .before .before .pow2) .ensures) ((c .before .before .before .before .before .before .skip-large) .ensures), (c .before .before .before .before .before .before .before .before .before .before .before .before .before .before .before .pre) .4, (c .before .before .before .before .before .before .before .before .before .before .before .before .before .before .before .pre) .5)
+
+same-length-4 : tie.Need-same-length-4
+same-length-4 c = search needs
+
+same-length-5 : tie.Need-same-length-5
+same-length-5 c = search needs
+
+same-length-6 : tie.Need-same-length-6
+same-length-6 c = search needs
 
 returns-2 : tie.Need-returns-2
-returns-2 c =
-    let wrote = c .before .before .before in
-    let p = wrote .before .before .before .before .before .pre in
-    absurd (never-refused _ _ _ _ (p .0) _ (omega arith) _ (wrote .write-entry .ensures .0) (c .enum-told .given .1))
+returns-2 c = search needs
 
 pub put-entry-spec : {M : Type 1} → statement M
 put-entry-spec =
     tie.close
     (tie.spec
-    (λ c κs. search needs)
-    (λ c. search needs)
-    (λ c κs. search needs)
-    (λ c. search needs)
-    room
-    (λ c. sym (length-take-le _ _ (room (c .before))))
-    put-records-requires
-    (λ c. search needs)
-    (λ c. search needs)
+    add-word-count
+    word-count-requires
+    add-if1
+    array-borrow-prefix-coefficients
+    slice-aggregate-put-values
+    put-values-requires
+    same-length
+    same-length-2
+    same-length-3
     returns
+    add-pow2
+    pow2-requires
+    add-skip-large
+    slice-aggregate-skip-large
+    skip-large-requires
+    array-borrow-prefix-coefficients-2
+    slice-aggregate-put-values-2
+    array-share-prefix-few
+    slice-aggregate-put-values-3
+    put-values-requires-2
+    same-length-4
+    same-length-5
+    same-length-6
     returns-2)
