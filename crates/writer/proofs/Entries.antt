@@ -11,11 +11,8 @@ use lib.Pow.{pow-mono}
 use lib.ListN.{length, take, drop, length-append, length-map}
 use lib.Seq.{take-at}
 use Rattle.ring.specs.declared.State.{State}
-use Rattle.ring.specs.Polynomial.{Polynomial, value, everyBelow}
-use Rattle.ring.proofs.Every.{every-all}
+use Rattle.ring.specs.Polynomial.{Polynomial, value}
 use Rattle.ring.specs.Table.{IsTable, present, table, tabulate, held, answerTable}
-use Rattle.ring.specs.Lists.{listed, has}
-use Rattle.ring.proofs.Lists.{has-numbers, length-listed}
 use Rattle.ring.proofs.Table.{present-table, held-answerTable, same-table, is-table, present-tabulate}
 use Rattle.ring.proofs.Value.{value-cong, involution}
 use Rattle.tables.specs.Put.{Put}
@@ -28,13 +25,14 @@ use Rattle.order.specs.Listing.{tagged, Listed}
 use Rattle.order.proofs.Lists.{length-keep}
 use Rattle.order.proofs.Order.{length-order, monomials-same}
 use Rattle.order.proofs.Listing.{length-tagged}
-use Rattle.elimination.specs.Stages.{ListsEach, noRepeats, answerWords}
+use Rattle.elimination.specs.Stages.{ListsEach}
+use Rattle.words.specs.Words.{answerWords}
 use Rattle.elimination.proofs.Slots.{answer-part}
 use Rattle.solution.specs.Elimination.{Verdict, solved, none, booleAnswers, defaultOrder, solve}
 use Rattle.solver.specs.declared.Verdict.{Verdict as Answer}
 use Rattle.solver.specs.declared.Verdict.the-variants as answers
 use Rattle.solver.specs.Methods.{verdict, solveWords}
-use Rattle.solver.proofs.OnWords.{solved-by-values, none-by-values}
+use Rattle.solver.proofs.OnWords.{solved-by-values, none-by-values, default-each}
 use Rattle.entry.specs.declared.Record.{Record}
 use Rattle.entry.specs.declared.Record.the-variants as records
 use Rattle.entry.specs.Record.{recordBytes, bytes}
@@ -230,24 +228,9 @@ module _ (U G : ℕ) (coefficients : List ℕ) where
         let b : 2 ^ G ≤ 2 ^ 8 = pow-mono h in
         omega arith
 
--- ---- document 01's order of the unknowns
-abbrev pub six : List ℕ
-six = 0 ∷ 1 ∷ 2 ∷ 3 ∷ 4 ∷ 5 ∷ []
-
-pub first-unknowns : (u : ℕ) → u ≤ 6 → take u six ≡ defaultOrder u
-unfolding defaultOrder listed
-first-unknowns zero h = refl
-first-unknowns (suc zero) h = refl
-first-unknowns (suc (suc zero)) h = refl
-first-unknowns (suc (suc (suc zero))) h = refl
-first-unknowns (suc (suc (suc (suc zero)))) h = refl
-first-unknowns (suc (suc (suc (suc (suc zero))))) h = refl
-first-unknowns (suc (suc (suc (suc (suc (suc zero)))))) h = refl
-first-unknowns (suc (suc (suc (suc (suc (suc (suc u))))))) h = absurd (omega arith)
-
+-- document 01's order of the unknowns lists each
 pub lists-each : (u : ℕ) {order : List ℕ} → u ≤ 6 → order ≡ defaultOrder u → ListsEach u order
-unfolding defaultOrder noRepeats listed has everyBelow
-lists-each u h e = rw e ((λ x. has-numbers x u), every-all 7 (λ k. noRepeats (defaultOrder k)) refl u (omega arith), length-listed u (λ j. j))
+lists-each u h e = rw e (default-each u h)
 
 -- ---- rooms
 pub first-room : (n size : ℕ) → n ≤ 10 → 7168 ≤ size → 0 + 2 ^ n ≤ size

@@ -34,12 +34,12 @@ pub enum Listing {
     None(usize, u8),
 }
 
-fn put2(out: &mut [u8], at: usize, a: u8, b: u8) -> usize
+fn put2(out: &mut [u8], at: usize, kind: u8, body: u8) -> usize
     requires { ⌜ at + 2 ≤ length (now out) ⌝ }
-    ensures { λ r. ⌜ Put (now (out .entry)) at (a ∷ b ∷ []) r (now (out .exit)) ⌝ }
+    ensures { λ r. ⌜ Put (now (out .entry)) at (kind ∷ body ∷ []) r (now (out .exit)) ⌝ }
 {
-    out[at] = a;
-    out[at + 1] = b;
+    out[at] = kind;
+    out[at + 1] = body;
     at + 2
 }
 

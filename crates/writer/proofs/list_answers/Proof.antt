@@ -2,7 +2,7 @@
 use Prim.Native.Nat.{_-_, _+_, _≤_}
 use native.Mathlib.Omega.{arith}
 use borrow.Author.Needs.{needs}
-use Rattle.elimination.proofs.Slots.{part-fits, part-length}
+use Rattle.words.proofs.Parts.{part-fits, part-length}
 use Rattle.words.proofs.Letters.{count-small}
 use mathlib.Core.Path.{_∙_}
 use Rattle.writer.proofs.Entries.{Answering, answering-start, answer-room, answering-more, answering-end}

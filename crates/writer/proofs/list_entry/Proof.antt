@@ -4,7 +4,8 @@ use Prim.Native.Nat.{_*_}
 use native.Mathlib.Omega.{arith}
 use borrow.Author.Needs.{needs}
 use lib.Seq.{length-take-le}
-use Rattle.writer.proofs.Entries.{words-fit, first-unknowns}
+use Rattle.writer.proofs.Entries.{words-fit}
+use Rattle.solver.proofs.OnWords.{first-unknowns}
 use Rattle.writer.proofs.list_entry.Statement.{statement}
 use Rattle.writer.proofs.list_entry.Tie as tie
 
