@@ -2,7 +2,7 @@
 -- Assumes nothing.
 use mathlib.Core.Path.{_≡_, refl, sym, ap, ap₂, _∙_}
 use mathlib.Core.Logic.{_≢_}
-use mathlib.Core.Bool.{Bool, true, false, not, _&&_, true≢false}
+use mathlib.Core.Bool.{Bool, true, false, not, _&&_}
 use mathlib.Core.List.{List, [], _∷_}
 use Prim.Native.Nat.{ℕ, zero, suc, _/_, _%_, _^_, _<_}
 use native.Mathlib.Omega.{arith}
@@ -151,6 +151,3 @@ unfolding answeredThrough chosenPoint
 answered-more f x order once p =
     later-free (bothCases f x) order x (both-free f x) (no-first x order once) p (answerAt f x order p)
     ∙ ap (assign (answeredThrough (bothCases f x) order p) x) (sym (answer-value f x order once p))
-
-pub first-other : (x y : ℕ) (order : List ℕ) → noRepeats (x ∷ order) ≡ true → has y order ≡ true → y ≢ x
-first-other x y order once h e = absurd (true≢false (sym h ∙ ap (λ (z : ℕ). has z order) e ∙ no-first x order once))

@@ -12,7 +12,6 @@ ghost use Rattle.tables.proofs.Filled.{filled};
 ghost use Rattle.grammar.specs.Symbols.{symbol, symbols, every};
 ghost use Rattle.grammar.specs.Reader as reader;
 ghost use Rattle.grammar.specs.Reader.{reads, joinsSum, isWhole};
-ghost use Rattle.words.specs.Words.{lowLetters};
 ghost use Rattle.parser.specs.Questions.{unspaced, isKnown, isLetterDeclared};
 ghost use Rattle.parser.specs.Blocks.{wordAt, letterOf, joinOf, paired, Agrees, wholeWords};
 
@@ -139,21 +138,6 @@ fn joins_sum(c: u8) -> bool
     c == b'+' || c == b'|'
 }
 
-// One of the six lowest letters at the 64 points of any word.
-fn low_letter(j: usize) -> u64
-    ensures { λ r. ⌜ r ≡ getD lowLetters j 0 ⌝ }
-{
-    match j {
-        0 => 0xaaaa_aaaa_aaaa_aaaa,
-        1 => 0xcccc_cccc_cccc_cccc,
-        2 => 0xf0f0_f0f0_f0f0_f0f0,
-        3 => 0xff00_ff00_ff00_ff00,
-        4 => 0xffff_0000_ffff_0000,
-        5 => 0xffff_ffff_0000_0000,
-        _ => 0,
-    }
-}
-
 // A letter from 6 on at the points of word w, which are 64 * w and those after it.
 fn high_letter(j: usize, w: usize) -> u64
     requires { ⌜ (6 ≤ j) × (j < 64) ⌝ }
@@ -255,7 +239,7 @@ fn put_letter(stack: &mut [u64], k: usize, j: usize)
     ensures { λ _. ⌜ now (stack .exit) ≡ filled k (wordAt (λ p. bit p j)) (now (stack .entry)) ⌝ }
 {
     if j < 6 {
-        join_word(PUT, stack, k, low_letter(j));
+        join_word(PUT, stack, k, words::low_letter(j));
     } else {
         put_high(stack, k, j);
     }

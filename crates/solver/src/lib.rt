@@ -1,5 +1,5 @@
 // Solving a condition: Boole's answers, the particular solution, Löwenheim's formula on the own particular solution or on handed polynomials.
-// Public calls, none with a `requires`: `boole`, `particular`, `lowenheim`, `lowenheim_handed`. `solve_values` and `solve` are Boole's method for the
+// Public calls, none with a `requires`: `boole`, `particular`, `lowenheim`, `lowenheim_handed`. `solve_values` is Boole's method for the
 // crates above, which ask the questions first; the other functions are theirs alone.
 // The work is done on truth values, 64 points to a word (`elimination`), in any order of the unknowns; the calls fix 0, 1, 2, ..
 // It comes back to polynomials, and the contracts cite the polynomials' own definitions.
@@ -13,7 +13,7 @@ ghost use Rattle.ring.specs.Polynomial.{Polynomial, value};
 ghost use Rattle.ring.specs.Table.{IsTable, AreBits, held, answerTable};
 ghost use Rattle.tables.specs.Reply.{reply, after, outcome};
 ghost use Rattle.words.specs.Words.{wordsOf, bitAt, answerWords};
-ghost use Rattle.solution.specs.Elimination.{booleAnswers, defaultOrder, lowenheim, solve};
+ghost use Rattle.solution.specs.Elimination.{booleAnswers, defaultOrder, lowenheim};
 ghost use Rattle.solution.specs.ByPoints.{zeroChoice};
 ghost use Rattle.elimination.specs.Stages.{ListsEach};
 ghost use Rattle.solver.specs.Calls.{solvingRefusal, solvingReply, solving, booleTable, particularTable, lowenheimTable, handedRefusal, handedTable};
@@ -108,15 +108,6 @@ fn ask_and_solve(
         Verdict::Solved => Solving::Solved,
         Verdict::None(state) => Solving::None(state),
     }
-}
-
-// The verdict of an archive entry, for a condition that has passed the questions: Boole's answers into a buffer of just their length.
-pub fn solve(u: usize, g: usize, condition: &[u8], answers: &mut [u8]) -> Verdict
-    requires { ⌜ (u ≤ 6) × (u + g ≤ 10) × IsTable (u + g) (now condition) × (length (now answers) ≡ u * 2 ^ (u + g)) ⌝ }
-    ensures { λ r. ⌜ verdict r (now (answers .exit)) ≡ solve u g (defaultOrder u) (now (condition .entry)) ⌝ }
-    ensures { λ _. ⌜ now (answers .exit) ≡ answersAfter (solve u g (defaultOrder u) (now (condition .entry))) (now (answers .entry)) ⌝ }
-{
-    solve_default(Method::Boole, u, g, condition, answers)
 }
 
 // Unknown 0 goes first, then 1, and so on.

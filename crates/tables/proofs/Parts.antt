@@ -1,13 +1,12 @@
 -- Tables that stand one after another: the one at a place, and that the code's sums and products of their sizes fit.
 -- Assumes nothing.
-use mathlib.Core.Path.{_≡_, sym, ap, _∙_}
+use mathlib.Core.Path.{_≡_, ap, _∙_}
 use mathlib.Core.List.{List}
-use Prim.Native.Nat.{ℕ, _+_, _*_, _^_, _≤_, _<_}
-use native.Mathlib.Nat.{add-mul, one-mul, mul-le-mul, mul-le-mul-right}
-use native.Mathlib.Omega.{arith}
+use Prim.Native.Nat.{ℕ, _*_, _^_, _≤_, _<_}
+use native.Mathlib.Nat.{mul-le-mul}
 use lib.Dec.{eqb}
 use lib.Pow.{pow-mono}
-use lib.ListN.{length, take, drop}
+use lib.ListN.{take, drop}
 use lib.Seq.{getD-take, getD-drop}
 use Rattle.ring.specs.Table.{present, held}
 
@@ -22,9 +21,3 @@ answers-fit {count} {n} {k} hc ek hn =
     let b : 2 ^ n ≤ 1024 = pow-mono hn in
     let c : k ≤ 1024 = rw ek b in
     mul-le-mul hc c
-
--- table j lies within
-pub part-room : (n count j k : ℕ) (t : List ℕ) → k ≡ 2 ^ n → j < count → length t ≡ count * 2 ^ n → j * k + k ≤ length t
-part-room n count j k t ek h size =
-    let m : (j + 1) * k ≤ count * k = mul-le-mul-right k (omega arith) in
-    omega (arith, add-mul j 1 k, one-mul k, size ∙ ap (λ (x : ℕ). count * x) (sym ek))

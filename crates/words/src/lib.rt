@@ -147,7 +147,7 @@ pub fn value_at(words: &[u64], p: usize) -> bool
 }
 
 // A letter below six at the 64 points of a word. By a match, since a constant array would be built anew at each call.
-fn low_letter(x: usize) -> u64
+pub fn low_letter(x: usize) -> u64
     ensures { λ r. ⌜ r ≡ getD lowLetters x 0 ⌝ }
 {
     match x {
