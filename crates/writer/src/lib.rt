@@ -38,8 +38,9 @@ fn put2(out: &mut [u8], at: usize, kind: u8, body: u8) -> usize
     requires { ⌜ at + 2 ≤ length (now out) ⌝ }
     ensures { λ r. ⌜ Put (now (out .entry)) at (kind ∷ body ∷ []) r (now (out .exit)) ⌝ }
 {
+    let last = at + 1;
     out[at] = kind;
-    out[at + 1] = body;
+    out[last] = body;
     at + 2
 }
 
