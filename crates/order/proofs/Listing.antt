@@ -3,21 +3,20 @@
 -- Assumes nothing.
 use mathlib.Core.Path.{_≡_, refl, sym, ap, _∙_}
 use mathlib.Core.Bool.{Bool, true, false, cond}
-use mathlib.Core.List.{List, [], _∷_, _++_, append-assoc, append-nil, map}
-use Prim.Native.Nat.{ℕ, suc, _+_, _-_, _*_, _^_, _≤_, _<_}
+use mathlib.Core.List.{List, [], _∷_, _++_, append-assoc, append-nil}
+use Prim.Native.Nat.{ℕ, _+_, _-_, _*_, _^_, _≤_, _<_}
 use native.Mathlib.Nat.{add-zero, zero-add}
 use native.Mathlib.Numerals.{add-one}
 use native.Mathlib.Omega.{arith}
 use lib.Dec.{ltb}
-use lib.Pow.{pow-mono}
-use lib.ListN.{length, getD, set, take, length-append, length-set, length-map, length-take}
+use lib.ListN.{length, getD, set, take, length-append, length-set, length-map}
 use lib.Seq.{take-suc, take-all, take-suc-set, take-set-le}
 use Rattle.ring.specs.Letters.{digit}
 use Rattle.ring.specs.Polynomial.{Polynomial}
 use Rattle.words.proofs.Letters.{room}
 use Rattle.order.specs.Order.{keep, order, monomials}
 use Rattle.order.specs.Listing.{tagged, Listed}
-use Rattle.order.proofs.Lists.{keep-append, length-keep}
+use Rattle.order.proofs.Lists.{keep-append}
 use Rattle.order.proofs.Order.{length-order, order-below, order-fewer}
 
 tagged-append : (tag : ℕ) (ms ks : List ℕ) → tagged tag (ms ++ ks) ≡ tagged tag ms ++ tagged tag ks

@@ -2,13 +2,11 @@
 -- have room.
 -- Assumes nothing.
 use mathlib.Core.Path.{_≡_, refl, sym, ap, _∙_}
-use mathlib.Core.Bool.{true, _&&_}
-use mathlib.Core.List.{List, [], _∷_, _++_, append-assoc, map}
+use mathlib.Core.Bool.{true}
+use mathlib.Core.List.{List, [], _∷_, _++_, map}
 use Prim.Native.Nat.{ℕ, _+_, _-_, _*_, _^_, _≤_, _<_}
-use native.Mathlib.Nat.{add-zero}
 use native.Mathlib.Omega.{arith}
 use lib.Dec.{leb}
-use lib.Pow.{pow-mono}
 use lib.ListN.{length, take, length-append}
 use lib.Seq.{take-all}
 use borrow.Author.Tests.{leb-true}
@@ -22,7 +20,7 @@ use Rattle.tables.specs.Questions.{lettersFit}
 use Rattle.tables.proofs.Put.{put-length, put-both, put-same}
 use Rattle.tables.proofs.Questions.{letters-small, unknowns-small}
 use Rattle.words.specs.Words.{wordsOf, bitAt}
-use Rattle.words.proofs.Words.{at-known, words-cong, length-words, size-words}
+use Rattle.words.proofs.Words.{at-known, words-cong, size-words}
 use Rattle.words.proofs.Letters.{room}
 use Rattle.grammar.specs.Text.{textTable}
 use Rattle.notation.specs.Work.{textWords}
@@ -30,10 +28,9 @@ use Rattle.notation.proofs.Values.{table-text}
 use Rattle.order.specs.Order.{order}
 use Rattle.entry.specs.declared.Record.{Record}
 use Rattle.entry.specs.declared.Record.the-variants as records
-use Rattle.entry.specs.Record.{recordBytes, bytes, size}
+use Rattle.entry.specs.Record.{recordBytes, size}
 use Rattle.entry.specs.Codes.{recordOf}
 use Rattle.entry.specs.Entry.{archivedRecords, entry}
-use Rattle.entry.specs.Held.{allWhole}
 use Rattle.entry.specs.Questions.{routeFits}
 use Rattle.entry.proofs.Back.{written-whole}
 use Rattle.entry.proofs.Theorems.{entry-bound}

@@ -4,20 +4,17 @@
 use mathlib.Core.Path.{_≡_, refl, sym, ap, ap₂, _∙_}
 use mathlib.Core.List.{List, [], _∷_, _++_, append-assoc, append-nil, map, map-append}
 use Prim.Native.Nat.{ℕ, zero, suc, _+_, _-_, _*_, _^_, _≤_, _<_}
-use native.Mathlib.Nat.{add-zero, zero-add, suc-mul, zero-mul, add-mul, one-mul, mul-le-mul, mul-le-mul-right}
+use native.Mathlib.Nat.{add-zero, zero-add, suc-mul, add-mul, one-mul, mul-le-mul, mul-le-mul-right}
 use native.Mathlib.Numerals.{add-one}
 use native.Mathlib.Omega.{arith}
 use lib.Pow.{pow-mono}
 use lib.ListN.{length, take, drop, length-append, length-map}
-use lib.Seq.{take-at}
 use Rattle.ring.specs.declared.State.{State}
 use Rattle.ring.specs.Polynomial.{Polynomial, value}
 use Rattle.ring.specs.Table.{IsTable, present, table, tabulate, held, answerTable}
 use Rattle.ring.proofs.Table.{present-table, held-answerTable, same-table, is-table, present-tabulate}
 use Rattle.ring.proofs.Value.{value-cong, involution}
-use Rattle.tables.specs.Put.{Put}
-use Rattle.tables.proofs.Put.{put-both, put-same}
-use Rattle.words.specs.Words.{wordsOf, bitAt, IsWords}
+use Rattle.words.specs.Words.{wordsOf, bitAt}
 use Rattle.words.proofs.Words.{at-known, words-cong}
 use Rattle.words.proofs.Letters.{room, value-low, values-taken, count-small}
 use Rattle.order.specs.Order.{order, monomials}
@@ -35,15 +32,15 @@ use Rattle.solver.specs.Methods.{verdict, solveWords}
 use Rattle.solver.proofs.OnWords.{solved-by-values, none-by-values, default-each}
 use Rattle.entry.specs.declared.Record.{Record}
 use Rattle.entry.specs.declared.Record.the-variants as records
-use Rattle.entry.specs.Record.{recordBytes, bytes}
+use Rattle.entry.specs.Record.{bytes}
 use Rattle.entry.specs.Codes.{recordOf}
-use Rattle.entry.specs.Entry.{conditionRecords, answerRecords, verdictRecords, entryRecords, archivedRecords, entry}
+use Rattle.entry.specs.Entry.{conditionRecords, answerRecords, verdictRecords, entryRecords, entry}
 use Rattle.entry.proofs.Codes.{condition-codes, answer-codes}
 use Rattle.entry.proofs.Bound.{length-bytes, condition-bytes, answer-bytes, entry-most}
 use Rattle.entry.proofs.Verdicts.{VerdictFits, solve-fits}
 use Rattle.writer.specs.declared.Listing.{Listing}
 use Rattle.writer.specs.declared.Listing.the-variants.{Solved, None}
-use Rattle.writer.specs.Steps.{answerPart, answerCodes, countOf, noneOf, sizeOf, entryFrom, Lists, Listable}
+use Rattle.writer.specs.Steps.{answerPart, answerCodes, sizeOf, entryFrom, Lists}
 
 -- ---- words that are turned over
 -- the coefficients of values, or the values of coefficients, at the points of n letters

@@ -2,17 +2,16 @@
 -- bytes take.
 -- Assumes nothing.
 use mathlib.Core.Path.{_≡_, refl, sym, ap, _∙_}
-use mathlib.Core.List.{List, [], _∷_, _++_, append-assoc, map}
-use Prim.Native.Nat.{ℕ, zero, suc, _+_, _-_, _*_, _/_, _%_, _^_, _≤_, _<_}
+use mathlib.Core.List.{List, [], _∷_, _++_, map}
+use Prim.Native.Nat.{ℕ, zero, suc, _+_, _-_, _*_, _/_, _%_, _^_, _≤_}
 use native.Mathlib.Omega.{arith}
 use lib.Pow.{pow-mono}
-use lib.ListN.{length, take, drop, length-append}
-use lib.Seq.{take-at, sets-eq}
+use lib.ListN.{length, take, length-append}
+use lib.Seq.{take-at}
 use Rattle.tables.specs.Put.{Put}
 use Rattle.tables.proofs.Put.{put-both, put-same}
 use Rattle.order.specs.Order.{order}
 use Rattle.order.proofs.Order.{length-order}
-use Rattle.entry.specs.declared.Record.{Record}
 use Rattle.entry.specs.declared.Record.the-variants as records
 use Rattle.entry.specs.Record.{recordBytes, bytes}
 use Rattle.entry.specs.Codes.{monomialRecord, recordOf}

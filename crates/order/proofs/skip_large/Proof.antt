@@ -1,8 +1,8 @@
 -- The invariant: those of the first p masks that are small enough are listed. The measure is the number of masks that are left.
 -- Assumes nothing.
-use mathlib.Core.Path.{_≡_, ap, sym}
+use mathlib.Core.Path.{ap, sym}
 use native.Mathlib.Nat.{zero-add}
-use Prim.Native.Nat.{_+_, _-_, _^_, _≤_}
+use Prim.Native.Nat.{_-_}
 use native.Mathlib.Omega.{arith}
 use borrow.Author.Needs.{needs}
 use lib.Dec.{ltb}

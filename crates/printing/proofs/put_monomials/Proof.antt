@@ -1,6 +1,6 @@
 -- The invariant: the lines of the first p numbers are put. The measure is how many are left. Assumes nothing.
-use mathlib.Core.Path.{sym, ap}
-use Prim.Native.Nat.{_+_, _-_, _≤_}
+use mathlib.Core.Path.{ap}
+use Prim.Native.Nat.{_-_}
 use lib.ListN.{length}
 use native.Mathlib.Omega.{arith}
 use borrow.Author.Needs.{needs}

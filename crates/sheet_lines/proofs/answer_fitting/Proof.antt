@@ -1,6 +1,5 @@
 -- Once no question is answered no, the entry of the text's values is printed. Assumes nothing.
 use mathlib.Core.Path.{sym, _∙_}
-use native.Mathlib.Omega.{arith}
 use borrow.Author.Needs.{needs}
 use Rattle.sheet_lines.proofs.Refusals.{route-passes, answers-refused, answers-done}
 use Rattle.sheet_lines.proofs.Entries.{text-values, text-table}

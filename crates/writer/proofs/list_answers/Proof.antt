@@ -1,9 +1,8 @@
 -- The invariant: the first j answers are listed. The measure is the number of unknowns that are left. Assumes nothing.
-use Prim.Native.Nat.{_-_, _+_, _≤_}
+use Prim.Native.Nat.{_-_}
 use native.Mathlib.Omega.{arith}
 use borrow.Author.Needs.{needs}
 use Rattle.words.proofs.Parts.{part-fits, part-length}
-use Rattle.words.proofs.Letters.{count-small}
 use mathlib.Core.Path.{_∙_}
 use Rattle.writer.proofs.Entries.{Answering, answering-start, answer-room, answering-more, answering-end}
 use Rattle.writer.proofs.list_answers.Statement.{statement}

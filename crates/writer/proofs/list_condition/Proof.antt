@@ -1,7 +1,6 @@
 -- The first masks of the buffer are those of the written order. Assumes nothing.
 use mathlib.Core.Path.{sym, _∙_}
 use Prim.Native.Nat.{_+_}
-use native.Mathlib.Omega.{arith}
 use borrow.Author.Needs.{needs}
 use lib.Pow.{pow-mono}
 use lib.Seq.{length-take-le}

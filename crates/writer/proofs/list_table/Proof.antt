@@ -1,5 +1,4 @@
 -- The condition's words. Assumes nothing.
-use native.Mathlib.Omega.{arith}
 use borrow.Author.Needs.{needs}
 use Rattle.words.proofs.Words.{size-words}
 use Rattle.writer.proofs.Entries.{packed-values, packed-table, lists-as}

@@ -1,10 +1,6 @@
 -- A copy, and the passage on it. Assumes nothing.
-use mathlib.Core.Path.{_≡_, ap, _∙_}
-use Prim.Native.Nat.{ℕ, _^_, _+_}
 use native.Mathlib.Omega.{arith}
 use borrow.Author.Needs.{needs}
-use Rattle.ring.specs.Polynomial.{value}
-use Rattle.words.specs.Words.{wordsOf, bitAt}
 use Rattle.writer.proofs.Entries.{turned-over, same-size}
 use Rattle.writer.proofs.transform.Statement.{statement}
 use Rattle.writer.proofs.transform.Tie as tie

@@ -1,5 +1,4 @@
 -- What was listed is the entry. Assumes nothing.
-use native.Mathlib.Omega.{arith}
 use borrow.Author.Needs.{needs}
 use Rattle.writer.proofs.Asked.{hands-out-as}
 use Rattle.writer.proofs.Entries.{lists-bytes, lists-size, lists-small}
