@@ -3,7 +3,7 @@
 -- Assumes nothing.
 use mathlib.Core.Path.{_≡_, refl, sym, ap, _∙_}
 use mathlib.Core.Bool.{Bool, true, false, _&&_}
-use mathlib.Core.List.{List, [], _∷_, _++_, append-assoc, append-nil, map}
+use mathlib.Core.List.{List, [], _∷_, _++_, append-assoc, map}
 use Prim.Native.Nat.{ℕ, zero, suc, _+_, _*_, _/_, _%_}
 use native.Mathlib.Omega.{arith}
 use lib.Dec.{ltb}
@@ -18,7 +18,7 @@ use Rattle.entry.specs.declared.Record.{Record}
 use Rattle.entry.specs.declared.Record.the-variants.{Start, Condition, Answer, End, None, Broken}
 use Rattle.entry.specs.Record.{recordBytes, bytes, size, isEnd}
 use Rattle.entry.specs.Entry.{conditionRecords, answerRecords, verdictRecords, entryRecords, archivedRecords, entry}
-use Rattle.entry.specs.Held.{next, untilEnd, records, allWhole, AreRecords}
+use Rattle.entry.specs.Held.{next, untilEnd, records, allWhole}
 use Rattle.entry.proofs.Records.{records-next}
 
 pub bytes-append : (rs ss : List Record) → bytes (rs ++ ss) ≡ bytes rs ++ bytes ss
@@ -158,11 +158,3 @@ module _ (route U G : ℕ) (t : List ℕ) where
   pub entry-records : (bs : List ℕ) → records (entry route U G t ++ bs) ≡ archivedRecords route U G t
   unfolding entry
   entry-records bs = written-records route U G t _ bs
-
-  -- with nothing behind it
-  pub held-records : records (entry route U G t) ≡ archivedRecords route U G t
-  held-records = ap records (sym (append-nil (entry route U G t))) ∙ entry-records []
-
-  pub are-records : AreRecords (entry route U G t)
-  unfolding entry
-  are-records = record { same = ap bytes held-records; whole = ap allWhole held-records ∙ written-whole route U G t _ }

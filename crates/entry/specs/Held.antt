@@ -1,7 +1,6 @@
 -- What some bytes hold (document 01, 'The archive entry'): their records, and what these say of a condition and its answers.
 -- Every definition is total, on any bytes.
 -- Assumes nothing.
-use mathlib.Core.Path.{_≡_}
 use mathlib.Core.Bool.{Bool, true, false, _&&_, _||_, cond}
 use mathlib.Core.List.{List, [], _∷_}
 use Prim.Native.Nat.{ℕ, zero, suc, _+_, _*_}
@@ -13,7 +12,7 @@ use Rattle.solution.specs.Substitution.{Substitution}
 use Rattle.solution.specs.Elimination.{Verdict, solved, none}
 use Rattle.entry.specs.declared.Record.{Record}
 use Rattle.entry.specs.declared.Record.the-variants.{Start, Condition, Answer, End, None, Broken}
-use Rattle.entry.specs.Record.{bytes, size, isNone, isMonomial, maskIn, tableIn, routeIn, unknownsIn, givensIn, stateIn}
+use Rattle.entry.specs.Record.{size, isNone, isMonomial, maskIn, tableIn, routeIn, unknownsIn, givensIn, stateIn}
 
 -- the record r, if the bytes have 'a whole body' for it
 abbrev pub whole : List ℕ → Record → Record
@@ -51,11 +50,6 @@ records bs = firstRecords (length bs) bs
 unfoldable pub allWhole : List Record → Bool
 allWhole [] = true
 allWhole (r ∷ rs) = ltb 0 (size r) && allWhole rs
-
--- the bytes are whole records one after another, and nothing else: what 'each record of the entry on a line' is printed of
-pub record AreRecords (bs : List ℕ) : Type 0 where
-  pub same : bytes (records bs) ≡ bs
-  pub whole : allWhole (records bs) ≡ true
 
 -- the first record
 abbrev pub first : List Record → Record
