@@ -10,15 +10,41 @@ pub const POINTS: usize = 1 << LOW_LETTERS;
 /// The blocks of ten letters.
 pub const MOST_BLOCKS: usize = 16;
 
-/// Room for the masks of a table, before and after they are sorted.
+/// The masks of a table, before and after they are sorted.
 pub struct Room {
-    pub found: [u16; 1024],
-    pub sorted: [u16; 1024],
+    found: [u16; 1024],
+    count: usize,
+    sorted: [u16; 1024],
 }
 
 impl Room {
     pub fn new() -> Room {
-        Room { found: [0; 1024], sorted: [0; 1024] }
+        Room { found: [0; 1024], count: 0, sorted: [0; 1024] }
+    }
+
+    pub fn clear(&mut self) {
+        self.count = 0;
+    }
+
+    #[inline(always)]
+    pub fn push(&mut self, mask: usize) {
+        self.found[self.count] = mask as u16;
+        self.count += 1;
+    }
+
+    /// From rising masks to the written order: sorted by their numbers of letters, by counting.
+    /// Most tables are sparse, and no branch hangs on a number of letters.
+    pub fn written(&mut self) -> &[u16] {
+        let found = &self.found[..self.count];
+        let mut starts = [0u16; 16];
+        found.iter().for_each(|mask| starts[mask.count_ones() as usize + 1 & 15] += 1);
+        (1..12).for_each(|class| starts[class] += starts[class - 1]);
+        for &mask in found {
+            let place = &mut starts[mask.count_ones() as usize & 15];
+            self.sorted[*place as usize & 1023] = mask;
+            *place += 1;
+        }
+        &self.sorted[..self.count]
     }
 }
 
@@ -43,8 +69,8 @@ pub trait Block:
     fn unpack(self, bytes: &mut [u8]);
     fn set(&mut self, point: usize);
     fn first_one(self) -> Option<usize>;
-    /// The masks present in a table, in the written order.
-    fn written<'a>(blocks: &[Self], room: &'a mut Room) -> &'a [u16];
+    /// The points of a block at which the value is 1, or the masks present, from the smallest on.
+    fn each_one(self, see: impl FnMut(usize));
     /// The values of `whole` at each point, its lowest letters having the values of `parts` there.
     fn look_up<const K: usize>(whole: &[Self; K], parts: &[[Self; K]]) -> [Self; K];
 }

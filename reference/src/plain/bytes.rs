@@ -1,6 +1,6 @@
 //! One byte a value, eight bytes to a number.
 
-use super::block::{Block, Room, LOW_LETTERS, MOST_BLOCKS, POINTS};
+use super::block::{Block, LOW_LETTERS, MOST_BLOCKS, POINTS};
 use super::table::Table;
 use std::ops::{BitAnd, BitOr, BitXor};
 
@@ -144,27 +144,15 @@ impl Block for Bytes {
         Some(8 * e + self.0[e].trailing_zeros() as usize / 8)
     }
 
-    /// The masks present are sorted by their number of letters: most tables are sparse.
-    fn written<'a>(blocks: &[Bytes], room: &'a mut Room) -> &'a [u16] {
-        let mut count = 0;
-        let mut starts = [0u16; 12];
-        for (e, &eight) in blocks.iter().flat_map(|block| &block.0).enumerate() {
+    #[inline(always)]
+    fn each_one(self, mut see: impl FnMut(usize)) {
+        for (e, &eight) in self.0.iter().enumerate() {
             let mut rest = eight;
             while rest != 0 {
-                let mask = 8 * e + rest.trailing_zeros() as usize / 8;
-                room.found[count] = mask as u16;
-                count += 1;
-                starts[mask.count_ones() as usize + 1] += 1;
+                see(8 * e + rest.trailing_zeros() as usize / 8);
                 rest &= rest - 1;
             }
         }
-        (1..12).for_each(|class| starts[class] += starts[class - 1]);
-        for &mask in &room.found[..count] {
-            let place = &mut starts[mask.count_ones() as usize];
-            room.sorted[*place as usize] = mask;
-            *place += 1;
-        }
-        &room.sorted[..count]
     }
 
     /// Point by point.

@@ -28,12 +28,12 @@ pub fn put_records<B: Block, const K: usize>(
     output: &mut impl Output,
 ) {
     output.put([1, route, letters.unknowns as u8, letters.givens as u8]);
-    output.put_monomials([2], B::written(&condition.0, room));
+    output.put_monomials([2], condition.written(room));
     match boole(letters, *values) {
         Err(state) => output.put([5, state.0 as u8]),
         Ok(answers) => {
             for (j, answer) in answers[..letters.unknowns].iter().enumerate() {
-                output.put_monomials([3, j as u8], B::written(&answer.transformed().0, room));
+                output.put_monomials([3, j as u8], answer.transformed().written(room));
             }
         }
     }

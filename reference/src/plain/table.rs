@@ -1,6 +1,6 @@
 //! Tables of a number of blocks that the compiler knows, in either form.
 
-use super::block::{Block, LOW_LETTERS, POINTS};
+use super::block::{Block, Room, LOW_LETTERS, POINTS};
 
 /// Values at all points, or coefficients of all masks.
 #[derive(Clone, Copy, PartialEq)]
@@ -29,6 +29,15 @@ impl<B: Block, const K: usize> Table<B, K> {
     pub fn first_one(&self) -> Option<usize> {
         let mut blocks = self.0.iter().enumerate();
         blocks.find_map(|(k, block)| block.first_one().map(|point| k * POINTS + point))
+    }
+
+    /// The masks present, in the written order.
+    pub fn written<'a>(&self, room: &'a mut Room) -> &'a [u16] {
+        room.clear();
+        for (k, block) in self.0.iter().enumerate() {
+            block.each_one(|point| room.push(k * POINTS + point));
+        }
+        room.written()
     }
 
     /// Letter j, at the points of the table's blocks.

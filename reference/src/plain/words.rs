@@ -1,19 +1,6 @@
 //! Sixty-four values to a word.
 
-use super::block::{Block, Room, LOW_LETTERS, MOST_BLOCKS, POINTS};
-
-/// The masks with each number of letters, of ten.
-static CLASSES: [[u64; 16]; 11] = classes();
-
-const fn classes() -> [[u64; 16]; 11] {
-    let mut classes = [[0; 16]; 11];
-    let mut mask = 0usize;
-    while mask < 1024 {
-        classes[mask.count_ones() as usize][mask / POINTS] |= 1 << (mask % POINTS);
-        mask += 1;
-    }
-    classes
-}
+use super::block::{Block, LOW_LETTERS, MOST_BLOCKS};
 
 static LETTERS: [[u64; MOST_BLOCKS]; 10] = letters();
 
@@ -97,26 +84,13 @@ impl Block for u64 {
         (self != 0).then(|| self.trailing_zeros() as usize)
     }
 
-    /// Class by class, over the words that are not 0: most tables are sparse.
-    fn written<'a>(words: &[u64], room: &'a mut Room) -> &'a [u16] {
-        let mut places = [0; MOST_BLOCKS];
-        let mut count = 0;
-        for (place, &word) in words.iter().enumerate() {
-            places[count] = place;
-            count += (word != 0) as usize;
+    #[inline(always)]
+    fn each_one(self, mut see: impl FnMut(usize)) {
+        let mut rest = self;
+        while rest != 0 {
+            see(rest.trailing_zeros() as usize);
+            rest &= rest - 1;
         }
-        let mut end = 0;
-        for class in &CLASSES {
-            for &place in &places[..count] {
-                let mut rest = words[place] & class[place];
-                while rest != 0 {
-                    room.sorted[end] = (place * POINTS + rest.trailing_zeros() as usize) as u16;
-                    end += 1;
-                    rest &= rest - 1;
-                }
-            }
-        }
-        &room.sorted[..end]
     }
 
     /// By choices: the value where letter j is 1, or where it is 0, as part j says.
