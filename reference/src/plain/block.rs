@@ -10,6 +10,19 @@ pub const POINTS: usize = 1 << LOW_LETTERS;
 /// The blocks of ten letters.
 pub const MOST_BLOCKS: usize = 16;
 
+/// The number of letters of each mask: plain x86-64 has no instruction that counts bits.
+static COUNTS: [u8; 1024] = counts();
+
+const fn counts() -> [u8; 1024] {
+    let mut counts = [0; 1024];
+    let mut mask = 0usize;
+    while mask < 1024 {
+        counts[mask] = mask.count_ones() as u8;
+        mask += 1;
+    }
+    counts
+}
+
 /// The masks of a table, before and after they are sorted.
 pub struct Room {
     found: [u16; 1024],
@@ -37,10 +50,11 @@ impl Room {
     pub fn written(&mut self) -> &[u16] {
         let found = &self.found[..self.count];
         let mut starts = [0u16; 16];
-        found.iter().for_each(|mask| starts[mask.count_ones() as usize + 1 & 15] += 1);
+        let count = |mask: u16| COUNTS[mask as usize & 1023] as usize;
+        found.iter().for_each(|&mask| starts[count(mask) + 1 & 15] += 1);
         (1..12).for_each(|class| starts[class] += starts[class - 1]);
         for &mask in found {
-            let place = &mut starts[mask.count_ones() as usize & 15];
+            let place = &mut starts[count(mask) & 15];
             self.sorted[*place as usize & 1023] = mask;
             *place += 1;
         }
