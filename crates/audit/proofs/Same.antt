@@ -3,9 +3,9 @@
 -- Assumes nothing.
 use mathlib.Core.Path.{_≡_, refl, sym, ap, ap₂, _∙_}
 use mathlib.Core.Bool.{Bool, true, false}
-use mathlib.Core.List.{List, [], _∷_}
+use mathlib.Core.List.{List}
 use mathlib.Core.Logic.{_⊎_, inl, inr}
-use Prim.Native.Nat.{ℕ, zero, suc, _+_, _-_, _*_, _^_, _≤_, _<_}
+use Prim.Native.Nat.{ℕ, _+_, _-_, _*_, _^_, _≤_, _<_}
 use native.Mathlib.Numerals.{add-one}
 use native.Mathlib.Nat.{mul-le-mul}
 use native.Mathlib.Omega.{arith}
@@ -16,11 +16,11 @@ use lib.Seq.{drop-cons}
 use borrow.Author.Tests.{eq-eqb, ne-eqb, eqb-true, eqb-false}
 use Rattle.ring.specs.declared.State.{State}
 use Rattle.ring.specs.Letters.{digit}
-use Rattle.ring.specs.Lists.{has, listed}
+use Rattle.ring.specs.Lists.{listed}
 use Rattle.ring.specs.Polynomial.{Polynomial, value}
 use Rattle.ring.specs.Table.{IsTable, present, table, held, answerTable}
 use Rattle.ring.proofs.Bool.{bool-cases, never}
-use Rattle.ring.proofs.Lists.{length-listed, listed-tabulate}
+use Rattle.ring.proofs.Lists.{listed-tabulate}
 use Rattle.ring.proofs.Table.{is-table, same-is-table, getD-tabulate, present-tabulate, present-table, held-answerTable, answerTable-cong, answers-length}
 use Rattle.ring.proofs.Value.{value-cong, involution}
 use Rattle.tables.proofs.Parts.{answers-fit}
@@ -29,8 +29,6 @@ use Rattle.words.proofs.Letters.{room, count-small}
 use Rattle.words.proofs.Parts.{part-fits}
 use Rattle.words.proofs.Words.{words-cong, at-words}
 use Rattle.solution.specs.Elimination.{Verdict, solved, none, defaultOrder, booleAnswers, solve}
-use Rattle.solution.proofs.Orders.{default-order}
-use Rattle.elimination.specs.Stages.{ListsEach, noRepeats}
 use Rattle.elimination.proofs.Slots.{part-listed, answer-part}
 use Rattle.entry.specs.declared.Record.{Record}
 use Rattle.entry.specs.Held.{conditionIn, answersIn, heldCondition, heldVerdict}
@@ -189,33 +187,3 @@ module _ (rs : List Record) (h : Heading) (eh : h ≡ headingOf rs) (t : List �
     unfolding answersHold heldVerdict
     hold-solved a b es ea eb =
         eb ∙ ap₂ sameVerdict (ap solved (ea ∙ rw (heading-u rs eh, heading-g rs eh)) ∙ sym (said-solved _ rs es)) afresh
-
--- ---- the order of the unknowns
-pub few-in-order : (u : ℕ) → u ≤ 6 → take u (0 ∷ 1 ∷ 2 ∷ 3 ∷ 4 ∷ 5 ∷ []) ≡ defaultOrder u
-unfolding defaultOrder listed
-few-in-order zero l = refl
-few-in-order (suc zero) l = refl
-few-in-order (suc (suc zero)) l = refl
-few-in-order (suc (suc (suc zero))) l = refl
-few-in-order (suc (suc (suc (suc zero)))) l = refl
-few-in-order (suc (suc (suc (suc (suc zero))))) l = refl
-few-in-order (suc (suc (suc (suc (suc (suc zero)))))) l = refl
-few-in-order (suc (suc (suc (suc (suc (suc (suc u))))))) l = absurd (omega arith)
-
-no-repeats : (u : ℕ) → u ≤ 6 → noRepeats (defaultOrder u) ≡ true
-unfolding defaultOrder listed noRepeats has
-no-repeats zero l = refl
-no-repeats (suc zero) l = refl
-no-repeats (suc (suc zero)) l = refl
-no-repeats (suc (suc (suc zero))) l = refl
-no-repeats (suc (suc (suc (suc zero)))) l = refl
-no-repeats (suc (suc (suc (suc (suc zero))))) l = refl
-no-repeats (suc (suc (suc (suc (suc (suc zero)))))) l = refl
-no-repeats (suc (suc (suc (suc (suc (suc (suc u))))))) l = absurd (omega arith)
-
-default-length : (u : ℕ) → length (defaultOrder u) ≡ u
-unfolding defaultOrder
-default-length u = length-listed u (λ j. j)
-
-pub lists-each : (u : ℕ) (o : List ℕ) → u ≤ 6 → o ≡ defaultOrder u → ListsEach u o
-lists-each u o l e = rw e (default-order u, no-repeats u l, default-length u)

@@ -158,9 +158,10 @@ once (suc (suc (suc (suc (suc zero))))) h = refl
 once (suc (suc (suc (suc (suc (suc zero)))))) h = refl
 once (suc (suc (suc (suc (suc (suc (suc u))))))) h = absurd (omega arith)
 
-pub default-each : (u : ℕ) → u ≤ 6 → ListsEach u (defaultOrder u)
+default-each : (u : ℕ) → u ≤ 6 → ListsEach u (defaultOrder u)
 unfolding defaultOrder
 default-each u h = (default-order u, once u h, length-listed u (λ j. j))
 
-pub first-each : (u : ℕ) → u ≤ 6 → ListsEach u (take u (0 ∷ 1 ∷ 2 ∷ 3 ∷ 4 ∷ 5 ∷ []))
-first-each u h = rw (first-unknowns u h) (default-each u h)
+-- .. lists each unknown
+pub lists-each : (u : ℕ) {order : List ℕ} → u ≤ 6 → order ≡ defaultOrder u → ListsEach u order
+lists-each u h e = rw e (default-each u h)

@@ -22,14 +22,13 @@ use Rattle.order.specs.Listing.{tagged, Listed}
 use Rattle.order.proofs.Lists.{length-keep}
 use Rattle.order.proofs.Order.{length-order, monomials-same}
 use Rattle.order.proofs.Listing.{length-tagged}
-use Rattle.elimination.specs.Stages.{ListsEach}
 use Rattle.words.specs.Words.{answerWords}
 use Rattle.elimination.proofs.Slots.{answer-part}
 use Rattle.solution.specs.Elimination.{Verdict, solved, none, booleAnswers, defaultOrder, solve}
 use Rattle.solver.specs.declared.Verdict.{Verdict as Answer}
 use Rattle.solver.specs.declared.Verdict.the-variants as answers
 use Rattle.solver.specs.Methods.{verdict, solveWords}
-use Rattle.solver.proofs.OnWords.{solved-by-values, none-by-values, default-each}
+use Rattle.solver.proofs.OnWords.{solved-by-values, none-by-values}
 use Rattle.entry.specs.declared.Record.{Record}
 use Rattle.entry.specs.declared.Record.the-variants as records
 use Rattle.entry.specs.Record.{bytes}
@@ -224,10 +223,6 @@ module _ (U G : ℕ) (coefficients : List ℕ) where
         let f : VerdictFits U G (none state) = rw (said-none e) at (solve-fits U G t) in
         let b : 2 ^ G ≤ 2 ^ 8 = pow-mono h in
         omega arith
-
--- document 01's order of the unknowns lists each
-pub lists-each : (u : ℕ) {order : List ℕ} → u ≤ 6 → order ≡ defaultOrder u → ListsEach u order
-lists-each u h e = rw e (default-each u h)
 
 -- ---- rooms
 pub first-room : (n size : ℕ) → n ≤ 10 → 7168 ≤ size → 0 + 2 ^ n ≤ size

@@ -71,23 +71,13 @@ fn wide(x: u16) -> usize
     x as usize
 }
 
-// The letters beyond six.
-fn further(n: usize) -> usize
-    ensures { λ r. ⌜ r ≡ n - 6 ⌝ }
-{
-    if n < 6 {
-        return 0;
-    }
-    n - 6
-}
-
 // From coefficients to values, or back, into other words.
 pub fn transform(n: usize, words: &[u64], out: &mut [u64])
     requires { ⌜ (n ≤ 10) × (length (now words) ≡ 2 ^ (n - 6)) × (length (now out) ≡ 2 ^ (n - 6)) ⌝ }
     ensures { λ _. ⌜ now (out .exit) ≡ wordsOf (2 ^ (n - 6)) (value (6 + (n - 6)) (bitAt (now (words .entry)))) ⌝ }
 {
     words::copy(out, words);
-    words::to_values(out, further(n));
+    words::to_values(out, words::further(n));
 }
 
 // The monomials of the polynomial whose values stand in `values`; `own` is room for its coefficients.

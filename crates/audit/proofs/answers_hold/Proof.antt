@@ -5,7 +5,8 @@ use native.Mathlib.Omega.{arith}
 use borrow.Author.Needs.{needs}
 use Rattle.words.proofs.Words.{size-words}
 use Rattle.reader.proofs.Buffers.{heading-small, heading-unknowns, heading-fits}
-use Rattle.audit.proofs.Same.{are-answers, lists-each, condition-table, hold-none, hold-solved}
+use Rattle.solver.proofs.OnWords.{lists-each}
+use Rattle.audit.proofs.Same.{are-answers, condition-table, hold-none, hold-solved}
 use Rattle.audit.proofs.answers_hold.Statement.{statement}
 use Rattle.audit.proofs.answers_hold.Tie as tie
 
@@ -13,7 +14,7 @@ solve-values-requires : tie.Need-solve-values-requires
 solve-values-requires c κs =
     let start = c .before .before .before .before .before .before .before .before .before .before .before .before .before .before .before .before .before .before .before .before .before in
     let few = heading-unknowns _ (start .pre .0 .0) (start .pre .0 .1) in
-    (few, heading-small _ (start .pre .0 .0) (start .pre .0 .1), lists-each _ _ few (start .pre .0 .3), size-words _ _ _ (c .before .before .before .before .take-values .ensures), start .pre .1 .1 .1)
+    (few, heading-small _ (start .pre .0 .0) (start .pre .0 .1), lists-each _ few (start .pre .0 .3), size-words _ _ _ (c .before .before .before .before .take-values .ensures), start .pre .1 .1 .1)
 
 same-answers-requires : tie.Need-same-answers-requires
 same-answers-requires c κs =

@@ -7,7 +7,8 @@ use lib.Seq.{length-take-le}
 use Rattle.tables.proofs.Steps.{pow-small}
 use Rattle.words.proofs.Letters.{count-small}
 use Rattle.reader.proofs.Buffers.{heading-small, heading-unknowns, size-small}
-use Rattle.audit.proofs.Same.{every-small, few-in-order}
+use Rattle.solver.proofs.OnWords.{first-unknowns}
+use Rattle.audit.proofs.Same.{every-small}
 use Rattle.audit.proofs.holds_afresh.Statement.{statement}
 use Rattle.audit.proofs.holds_afresh.Tie as tie
 
@@ -35,7 +36,7 @@ answers-hold-requires c κs =
     let start = c .before .before .before .before .before .before .before .before .before .before in
     let e = c .before .before .before .before .before .before .before .pow2 .ensures in
     let f = known .word-count .ensures in (
-      (start .pre .0, start .pre .1, start .pre .2, few-in-order _ (few known)),
+      (start .pre .0, start .pre .1, start .pre .2, first-unknowns _ (few known)),
       (
         (length-take-le _ _ (fits known) ∙ e, length-take-le _ _ (all-fit known) ∙ ap (λ k. start .args .heading .unknowns * k) e),
         (length-take-le _ _ (words-fit known) ∙ f, length-take-le _ _ (every-fit known) ∙ ap (λ k. start .args .heading .unknowns * k) f, length-take-le _ _ (words-fit known) ∙ f),

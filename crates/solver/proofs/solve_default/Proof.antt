@@ -4,7 +4,7 @@ use mathlib.Core.Path.{sym}
 use Prim.Native.Nat.{_-_}
 use borrow.Author.Needs.{needs}
 use lib.Seq.{length-take-le}
-use Rattle.solver.proofs.OnWords.{first-unknowns, first-each}
+use Rattle.solver.proofs.OnWords.{first-unknowns, lists-each}
 use Rattle.solver.proofs.solve_default.Statement.{statement}
 use Rattle.solver.proofs.solve_default.Tie as tie
 
@@ -16,7 +16,7 @@ slice-aggregate-solve-by c =
 solve-by-requires : tie.Need-solve-by-requires
 solve-by-requires c κs =
     let start = c .before .before .before .before in
-    (start .pre .0, start .pre .1, first-each _ (start .pre .0), start .pre .2, start .pre .3)
+    (start .pre .0, start .pre .1, lists-each _ (start .pre .0) (first-unknowns _ (start .pre .0)), start .pre .2, start .pre .3)
 
 returns : tie.Need-returns
 returns c =

@@ -3,7 +3,8 @@ use mathlib.Core.Path.{refl}
 use native.Mathlib.Omega.{arith}
 use borrow.Author.Needs.{needs}
 use Rattle.words.proofs.Words.{size-words}
-use Rattle.writer.proofs.Entries.{first-room, answers-room, lists-each, said-none, said-solved, state-byte, none-lists, solved-lists}
+use Rattle.solver.proofs.OnWords.{lists-each}
+use Rattle.writer.proofs.Entries.{first-room, answers-room, said-none, said-solved, state-byte, none-lists, solved-lists}
 use Rattle.writer.proofs.list_with.Statement.{statement}
 use Rattle.writer.proofs.list_with.Tie as tie
 
