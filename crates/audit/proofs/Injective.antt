@@ -2,12 +2,12 @@
 -- Assumes nothing.
 use mathlib.Core.Path.{_≡_, ap, ap₂}
 use Prim.Native.Nat.{ℕ}
-use Rattle.records.specs.declared.Heading.{Heading}
-use Rattle.records.specs.declared.Said.the-variants.{Solved, None}
+use Rattle.calls.specs.declared.Heading.{Heading}
+use Rattle.calls.specs.declared.Verdict.the-variants.{Solved, None}
 use Rattle.reader.proofs.Injective.{same-heading}
-use Rattle.audit.specs.declared.Audited.{Audited}
-use Rattle.audit.specs.declared.Audited.the-variants.{Passed, Refused}
-use Rattle.audit.specs.Audit.{audited}
+use Rattle.calls.specs.declared.Read.{Audited}
+use Rattle.calls.specs.declared.Read.the-variants.{Passed, Refused}
+use Rattle.calls.specs.GONE.{audited}
 
 pub audited-injective : (a b : Audited) → audited a ≡ audited b → a ≡ b
 audited-injective (Passed h Solved) (Passed k Solved) e = ap (λ (x : Heading). Passed x Solved) (same-heading h k (cc) (cc) (cc) (cc))

@@ -6,19 +6,20 @@ use mathlib.Core.List.{List}
 use Prim.Native.Nat.{ℕ}
 use native.Mathlib.Omega.{arith}
 use Rattle.tables.specs.Questions.{firstNo}
-use Rattle.tables.specs.Reply.{accepted}
+use Rattle.tables.specs.Answered.{accepted}
 use Rattle.tables.proofs.FirstNo.{first-counts}
 use Rattle.tables.proofs.Reply.{reply-refused, reply-accepted}
 use Rattle.solution.specs.Elimination.{Verdict, solved, none}
 use Rattle.entry.specs.Held.{records, heldVerdict}
 use Rattle.entry.specs.Questions.{entryQuestions, answersHold, auditQuestions}
 use Rattle.entry.proofs.Passes.{passes, then-asked}
-use Rattle.records.specs.declared.Heading.{Heading}
-use Rattle.records.specs.declared.Said.{Said}
-use Rattle.reader.specs.Reading.{readValues, stateOf}
-use Rattle.records.specs.Headings.{lengthUsed, headingOf, said}
-use Rattle.audit.specs.declared.Audited.the-variants.{Passed, Refused}
-use Rattle.audit.specs.Audit.{auditRefusal, auditReply, stateSaid, audited}
+use Rattle.calls.specs.declared.Heading.{Heading}
+use Rattle.calls.specs.declared.Verdict.{Said}
+use Rattle.calls.specs.Entries.{readValues, stateOf}
+use Rattle.records.specs.Inner.Headings.{lengthUsed, headingOf, said}
+use Rattle.calls.specs.declared.Read.the-variants.{Passed, Refused}
+use Rattle.calls.specs.GONE.{auditRefusal, auditReply, audited}
+use Rattle.calls.specs.Entries.{stateSaid}
 
 pub refused-before : (bs : List ℕ) {q : ℕ} → q ≡ firstNo (entryQuestions (records bs)) → (q ≡ 0 → ⊥) → audited (Refused q) ≡ auditReply bs
 unfolding auditReply auditRefusal auditQuestions

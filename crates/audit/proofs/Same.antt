@@ -28,21 +28,22 @@ use Rattle.words.specs.Words.{wordsOf, bitAt, answerWords}
 use Rattle.words.proofs.Letters.{room, count-small}
 use Rattle.words.proofs.Parts.{part-fits}
 use Rattle.words.proofs.Words.{words-cong, at-words}
-use Rattle.solution.specs.Elimination.{Verdict, solved, none, defaultOrder, booleAnswers, solve}
+use Rattle.solution.specs.Condition.{defaultOrder}
+use Rattle.solution.specs.Elimination.{Verdict, solved, none, booleAnswers, solve}
 use Rattle.elimination.proofs.Slots.{part-listed, answer-part}
 use Rattle.entry.specs.declared.Record.{Record}
 use Rattle.entry.specs.Held.{conditionIn, answersIn, heldCondition, heldVerdict}
 use Rattle.entry.specs.Questions.{sameBytes, sameVerdict, solvedAfresh, answersHold}
 use Rattle.entry.proofs.Theorems.{bytes-same, same-bytes}
-use Rattle.records.specs.declared.Heading.{Heading}
-use Rattle.records.specs.declared.Said.the-variants.{Solved, None}
-use Rattle.records.specs.Headings.{headingOf, said}
+use Rattle.calls.specs.declared.Heading.{Heading}
+use Rattle.calls.specs.declared.Verdict.the-variants.{Solved, None}
+use Rattle.records.specs.Inner.Headings.{headingOf, said}
 use Rattle.records.proofs.Headings.{heading-u, heading-g, said-none, said-solved}
-use Rattle.solver.specs.declared.Verdict.{Verdict as Afresh}
-use Rattle.solver.specs.declared.Verdict.the-variants as fresh-variants
-use Rattle.solver.specs.Methods.{verdict, solveWords}
+use Rattle.calls.specs.declared.Verdict.{Verdict as Afresh}
+use Rattle.calls.specs.declared.Verdict.the-variants as fresh-variants
+use Rattle.solver.specs.Inner.Methods.{verdict, solveWords}
 use Rattle.solver.proofs.OnWords.{solved-by-values, none-by-values}
-use Rattle.audit.specs.Audit.{AreAnswers}
+use Rattle.calls.specs.GONE.{AreAnswers}
 
 -- ---- two lists of words, from place i on
 module _ (xs ys : List ℕ) (i : ℕ) (b : Bool) (inv : b ≡ sameBytes (drop i xs) (drop i ys)) (e : length xs ≡ length ys) where

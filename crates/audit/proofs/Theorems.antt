@@ -7,18 +7,20 @@ use Prim.Native.Nat.{ℕ, _+_}
 use lib.ListN.{length, take, drop, take-append-drop}
 use Rattle.ring.specs.Table.{table}
 use Rattle.ring.proofs.Table.{is-table}
-use Rattle.tables.specs.Reply.{accepted, reply}
+use Rattle.tables.specs.Answered.{accepted, reply}
 use Rattle.tables.proofs.FirstNo.{asked-before}
 use Rattle.tables.proofs.Reply.{accepted-is}
-use Rattle.solution.specs.Elimination.{defaultOrder, solve}
+use Rattle.solution.specs.Condition.{defaultOrder}
+use Rattle.solution.specs.Elimination.{solve}
 use Rattle.entry.specs.Record.{AreBytes, bytes}
 use Rattle.entry.specs.Entry.{entry, Archivable}
 use Rattle.entry.specs.Held.{records, routeOf, unknownsOf, givensOf, conditionIn, heldCondition}
 use Rattle.entry.specs.Questions.{entryQuestions, auditQuestions}
 use Rattle.entry.proofs.Passes.{Passes, passes}
 use Rattle.entry.proofs.Theorems.{ReadsBack, reads-back, audited-entry, entry-audited}
-use Rattle.reader.specs.Reading.{readValues, stateOf}
-use Rattle.audit.specs.Audit.{auditRefusal, auditReply, BeginsWithEntry}
+use Rattle.calls.specs.Entries.{readValues, stateOf}
+use Rattle.calls.specs.GONE.{auditRefusal, auditReply}
+use Rattle.calls.specs.Entries.{BeginsWithEntry}
 
 passed : (bs values : List ℕ) → auditReply bs ≡ accepted values → auditRefusal bs ≡ 0
 unfolding auditReply

@@ -7,17 +7,18 @@ ghost use lib.ListN.{length};
 ghost use Rattle.ring.specs.Polynomial.{Polynomial, value};
 ghost use Rattle.ring.specs.Table.{present, answerTable};
 ghost use Rattle.tables.specs.Questions.{firstNo};
-ghost use Rattle.solution.specs.Elimination.{solved, none, defaultOrder, solve};
+ghost use Rattle.solution.specs.Condition.{defaultOrder};
+ghost use Rattle.solution.specs.Elimination.{solved, none, solve};
 ghost use Rattle.words.specs.Words.{answerWords};
 ghost use Rattle.entry.specs.Held.{records, heldVerdict};
 ghost use Rattle.entry.specs.Questions.{entryQuestions, sameBytes, sameVerdict, answersHold};
-ghost use Rattle.records.specs.Headings.{headingOf, said};
-ghost use Rattle.solver.specs.Methods.{verdict, solveWords};
-ghost use Rattle.audit.specs.Audit.{AreAnswers, auditReply, audited};
-use records::Heading;
-use records::Said;
+ghost use Rattle.records.specs.Inner.Headings.{headingOf, said};
+ghost use Rattle.solver.specs.Inner.Methods.{verdict, solveWords};
+ghost use Rattle.calls.specs.GONE.{AreAnswers, auditReply, audited};
+use calls::Heading;
+use calls::Verdict;
 use ring::State;
-use solver::Verdict;
+use calls::Verdict;
 
 // What the audit answers: what reading gives of an entry that passes, or the number of the first no.
 pub enum Audited {

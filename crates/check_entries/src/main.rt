@@ -2,9 +2,9 @@
 // The stored input and output were made by the independent implementation in `reference/`.
 use libc::STDIN_FILENO;
 use libc::STDOUT_FILENO;
-use reader::Read;
-use records::Heading;
-use writer::Written;
+use calls::Read;
+use calls::Heading;
+use calls::Written;
 
 fn show_written(r: Written, out: &[u8]) {
     match r {

@@ -2,7 +2,7 @@
 // The stored input and output were made by the independent implementation in `reference/`.
 use libc::STDIN_FILENO;
 use libc::STDOUT_FILENO;
-use operations::Valued;
+use calls::Valued;
 
 fn show_value(r: Valued) {
     match r {

@@ -2,7 +2,7 @@
 // The stored input and output were made by the independent implementation in `reference/`.
 use libc::STDIN_FILENO;
 use libc::STDOUT_FILENO;
-use solver::Solving;
+use calls::Solving;
 
 fn show_solving(r: Solving, answers: &[u8]) {
     match r {

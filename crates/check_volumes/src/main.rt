@@ -1,11 +1,11 @@
 // Audits the entries and walks the volumes of standard input, and prints what comes back.
 // The stored input and output were made by the independent implementation in `reference/`.
-use audit::Audited;
+use calls::Read;
 use libc::STDIN_FILENO;
 use libc::STDOUT_FILENO;
-use records::Heading;
-use records::Said;
-use volume::Walked;
+use calls::Heading;
+use calls::Verdict;
+use calls::Walked;
 
 fn show_heading(h: Heading) {
     cases::show_number(b"", h.route as usize);

@@ -16,11 +16,12 @@ use Rattle.ring.specs.Table.{present}
 use Rattle.ring.proofs.Points.{pointWhere-cong}
 use Rattle.solution.specs.Letters.{Letter, HoldsGivens, Valuation, valueOver}
 use Rattle.solution.specs.Substitution.{Substitution, letterAt, ownLetters, MakesZero}
-use Rattle.solution.specs.Elimination.{solved, none, defaultOrder, solve}
+use Rattle.solution.specs.Condition.{defaultOrder}
+use Rattle.solution.specs.Elimination.{solved, none, solve}
 use Rattle.solution.specs.General.{RightVerdict}
 use Rattle.solution.proofs.Letters.{replacedValue, value-putIn, own-holds}
 use Rattle.grammar.specs.Text.{textTable}
-use Rattle.notation.specs.Text.{Accepted}
+use Rattle.calls.specs.Text.{Accepted}
 use Rattle.notation.proofs.Refusal.{text-is-table}
 use Rattle.entry.specs.declared.Record.{Record}
 use Rattle.entry.specs.Record.{isNone, stateIn}

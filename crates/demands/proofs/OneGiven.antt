@@ -22,7 +22,8 @@ use Rattle.ring.proofs.Substitute.{value-letter}
 use Rattle.ring.proofs.Table.{present-table}
 use Rattle.order.specs.Order.{monomials}
 use Rattle.order.proofs.Order.{monomials-same, order-once}
-use Rattle.solution.specs.Elimination.{none, defaultOrder, solvable, blocked, smallestBlocked, solve}
+use Rattle.solution.specs.Condition.{defaultOrder}
+use Rattle.solution.specs.Elimination.{none, solvable, blocked, smallestBlocked, solve}
 use Rattle.solution.specs.General.{Blocked}
 use Rattle.solution.specs.Substitution.{ownLetters}
 use Rattle.solution.proofs.Letters.{own-holds}

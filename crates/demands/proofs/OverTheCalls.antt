@@ -11,19 +11,20 @@ use lib.ListN.{length, take, length-append}
 use lib.Seq.{take-at}
 use borrow.Author.Tests.{le-leb}
 use Rattle.tables.specs.Questions.{firstNo, lettersFit, hasRoom, holdsBits}
-use Rattle.tables.specs.Reply.{reply, after}
+use Rattle.tables.specs.Answered.{reply, after}
 use Rattle.tables.proofs.Bits.{bits-are}
 use Rattle.grammar.specs.Text.{textTable}
-use Rattle.notation.specs.Text.{textRefusal}
+use Rattle.calls.specs.GONE.{textRefusal}
 use Rattle.notation.proofs.Refusal.{text-is-table}
 use Rattle.notation.proofs.Theorems.{done-exactly}
 use Rattle.entry.specs.Entry.{entry}
 use Rattle.entry.specs.Questions.{routeFits}
 use Rattle.entry.specs.Held.{records}
 use Rattle.entry.proofs.Theorems as entries
-use Rattle.writer.specs.Writing.{archived, outputFits, writeQuestions, writeRefusal}
+use Rattle.calls.specs.GONE.{archived, writeRefusal}
+use Rattle.calls.specs.Questions.{outputFits, writeQuestions}
 use Rattle.writer.proofs.Theorems.{written-reads-back, written-right}
-use Rattle.reader.specs.Reading.{readRefusal}
+use Rattle.calls.specs.GONE.{readRefusal}
 use Rattle.reader.proofs.Theorems.{only-room, values-back, answers-back}
 use Rattle.demands.specs.OverTheCalls.{textRead, entryWritten, GivesBack, OverTheCalls}
 use Rattle.demands.proofs.Demand3.{right-demand}

@@ -14,7 +14,8 @@ use Rattle.ring.specs.Table.{present, tabulate, table, answerTable}
 use Rattle.ring.specs.Lists.{listed}
 use Rattle.solution.specs.Letters.{Letter, HoldsGivens, place, Valuation, pointOf, valueOver}
 use Rattle.solution.specs.Substitution.{Substitution, letterAt, ownLetters, putIn, MakesZero, InstanceOf}
-use Rattle.solution.specs.Elimination.{solved, nextCondition, remains, answerFrom, booleAnswers, particular, lowenheim, ownLowenheim, defaultOrder, isZero, solvable, solve}
+use Rattle.solution.specs.Condition.{defaultOrder}
+use Rattle.solution.specs.Elimination.{solved, nextCondition, remains, answerFrom, booleAnswers, particular, lowenheim, ownLowenheim, isZero, solvable, solve}
 use Rattle.solution.specs.General.{SmallestBlocked}
 use Rattle.solution.proofs.Letters.{value-putIn, own-holds}
 use Rattle.entry.specs.Held.{next, firstRecords, records, hasMonomial, conditionIn, answersIn, unlessNone, says, heldCondition, heldVerdict}

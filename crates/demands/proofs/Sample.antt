@@ -13,7 +13,8 @@ use Rattle.grammar.specs.Reader.{reads, readWith, andThen, treeOf}
 use Rattle.grammar.specs.Text.{textTable}
 use Rattle.grammar.proofs.Theorems.{table-derived}
 use Rattle.order.specs.Order.{letters, keep, below, groups, order, monomials}
-use Rattle.solution.specs.Elimination.{nextCondition, remains, answerFrom, booleAnswers, defaultOrder, smallestBelow, blocked, smallestBlocked, isZero, solvable, solve}
+use Rattle.solution.specs.Condition.{defaultOrder}
+use Rattle.solution.specs.Elimination.{nextCondition, remains, answerFrom, booleAnswers, smallestBelow, blocked, smallestBlocked, isZero, solvable, solve}
 use Rattle.entry.specs.Record.{bytes}
 use Rattle.entry.specs.Entry.{conditionRecords, answerRecords, verdictRecords, entryRecords, entry}
 use Rattle.demands.specs.Sample.{firstText, firstEntry, secondText, secondEntry, wideText, wideEntry}

@@ -5,7 +5,8 @@ use Rattle.tables.specs.Questions.{firstNo, lettersFit, hasRoom}
 use Rattle.grammar.specs.Symbols.{symbol, symbols, isUnknown, isGiven, isSingle, isSign, isDeclared, every, allSigns, allDeclared}
 use Rattle.grammar.specs.Reader.{reads, readWith, andThen, grammarReads}
 use Rattle.grammar.specs.SignRows.{signRows, EachRow, end, _also_}
-use Rattle.notation.specs.Text.{hasTextLength, textQuestions, textRefusal}
+use Rattle.calls.specs.Questions.{hasTextLength, textQuestions}
+use Rattle.calls.specs.GONE.{textRefusal}
 use Rattle.demands.specs.SignRows.{TextRead}
 
 pub sign-rows-read : EachRow TextRead signRows

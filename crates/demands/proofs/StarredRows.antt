@@ -10,13 +10,15 @@ use Rattle.ring.specs.Polynomial.{count, odd, constant, letter, sum, product}
 use Rattle.ring.specs.Table.{tabulate, table}
 use Rattle.tables.specs.Questions.{firstNo, lettersFit, hasRoom}
 use Rattle.solution.specs.BenchTable.{Row, starredRows, RowHolds, AllHold as RowsHold, _also_ as _and_}
-use Rattle.solution.specs.Elimination.{solve, defaultOrder}
+use Rattle.solution.specs.Condition.{defaultOrder}
+use Rattle.solution.specs.Elimination.{solve}
 use Rattle.solution.proofs.Rows.{starred-rows-hold}
 use Rattle.grammar.specs.Symbols.{symbol, symbols, isUnknown, isGiven, isSingle, isSign, isDeclared, every, allSigns, allDeclared}
 use Rattle.grammar.specs.Meaning.{normalForm}
 use Rattle.grammar.specs.Reader.{reads, readWith, andThen, grammarReads, treeOf}
 use Rattle.grammar.specs.Text.{textTable}
-use Rattle.notation.specs.Text.{hasTextLength, textQuestions, textRefusal}
+use Rattle.calls.specs.Questions.{hasTextLength, textQuestions}
+use Rattle.calls.specs.GONE.{textRefusal}
 use Rattle.notation.proofs.Refusal.{text-is-table}
 use Rattle.notation.proofs.Theorems.{done-exactly}
 use Rattle.entry.specs.Questions.{routeFits}

@@ -5,9 +5,11 @@ use mathlib.Core.Path.{_≡_}
 use mathlib.Core.List.{List, [], _∷_}
 use Prim.Native.Nat.{ℕ}
 use lib.ListN.{length}
+use Rattle.tables.specs.Questions.{firstNo}
+use Rattle.solution.specs.Condition.{conditionOf}
 use Rattle.solution.specs.BenchTable.{Row, LowenheimIs}
+use Rattle.calls.specs.Questions.{textQuestions}
 use Rattle.grammar.specs.Text.{textTable}
-use Rattle.notation.specs.Text.{textRefusal}
 use Rattle.entry.specs.Entry.{entry}
 use Rattle.entry.specs.Held.{records, heldVerdict}
 
@@ -40,10 +42,10 @@ starredTexts =
 
 -- a row and its text: the text is read into the row's table, its entry holds the row's verdict, and the own Löwenheim answer is the row's
 pub record TextHolds (text : List ℕ) (r : Row) : Type 0 where
-  pub read : textRefusal (r .U) (r .G) text (length (r .condition)) ≡ 0
-  pub table : textTable (r .U) (r .G) text ≡ r .condition
-  pub archived : heldVerdict (records (entry 1 (r .U) (r .G) (textTable (r .U) (r .G) text))) ≡ r .verdict
-  pub own : LowenheimIs (r .U) (r .G) (textTable (r .U) (r .G) text) (r .lowenheim)
+  pub read : firstNo (textQuestions (r .condition .U) (r .condition .G) text (length (r .condition .table))) ≡ 0
+  pub table : conditionOf (r .condition .U) (r .condition .G) (textTable (r .condition .U) (r .condition .G) text) ≡ r .condition
+  pub archived : heldVerdict (records (entry 1 (r .condition))) ≡ r .verdict
+  pub own : LowenheimIs (r .condition) (r .lowenheim)
 
 infixr 20 _also_
 -- every row with its text

@@ -13,9 +13,9 @@ use Rattle.ring.specs.Polynomial.{_⊕_}
 use Rattle.ring.proofs.Bool.{and-left, and-right, digit-lt, xor-false}
 use Rattle.ring.proofs.Lists.{has-first, has-rest}
 use Rattle.ring.proofs.Points.{assign-lt, assign-bit, bit-assign, bit-assign-other, half-digit, mod-digit}
-use Rattle.solution.specs.ByPoints.{chosenValue, bothCases, remainsThrough, chosenPoint, answeredThrough}
+use Rattle.solution.specs.Inner.ByPoints.{chosenValue, bothCases, remainsThrough, chosenPoint, answeredThrough}
 use Rattle.solution.proofs.Elimination.{answered-kept, answered-lt, out-head, out-tail}
-use Rattle.elimination.specs.Stages.{InLetters, noRepeats, answerAt}
+use Rattle.elimination.specs.Inner.Stages.{InLetters, noRepeats, answerAt}
 
 -- ---- assigning twice
 pub assign-twice : (p j : ℕ) (a b : Bool) → assign (assign p j a) j b ≡ assign p j b

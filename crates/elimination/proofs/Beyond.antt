@@ -17,9 +17,9 @@ use Rattle.ring.proofs.Bitwise.{and-bit}
 use Rattle.ring.proofs.Parity.{odd-cong}
 use Rattle.ring.proofs.Points.{same-letters, bit-low, bit-assign, bit-assign-other}
 use Rattle.solution.specs.Elimination.{booleAnswers}
-use Rattle.solution.specs.ByPoints.{chosenValue, bothCases, chosenPoint, answeredThrough}
+use Rattle.solution.specs.Inner.ByPoints.{chosenValue, bothCases, chosenPoint, answeredThrough}
 use Rattle.solution.proofs.Values.{value-answers}
-use Rattle.elimination.specs.Stages.{InLetters}
+use Rattle.elimination.specs.Inner.Stages.{InLetters}
 use Rattle.elimination.proofs.AnyOrder.{first-in, rest-in}
 
 -- two points have the same letters below n

@@ -17,9 +17,9 @@ use Rattle.ring.proofs.Lists.{listed-getD, listed-cong}
 use Rattle.words.specs.Words.{wordOf, wordsOf, answerWords}
 use Rattle.words.proofs.Parts.{part-fits, part-below, points-in, part-point, words-parts}
 use Rattle.words.proofs.Words.{length-words, getD-words, word-cong, words-cong, words-listed}
-use Rattle.solution.specs.Elimination.{IsOrder}
-use Rattle.solution.specs.ByPoints.{bothCases, answeredThrough}
-use Rattle.elimination.specs.Stages.{noRepeats, answerAt, slotWords, placeOf, slotWord}
+use Rattle.solution.specs.Condition.{IsOrder}
+use Rattle.solution.specs.Inner.ByPoints.{bothCases, answeredThrough}
+use Rattle.elimination.specs.Inner.Stages.{noRepeats, answerAt, slotWords, placeOf, slotWord}
 use Rattle.elimination.proofs.AnyOrder.{answer-first, answer-other, no-rest}
 
 -- a part element by element

@@ -20,9 +20,9 @@ use Rattle.ring.proofs.Points.{assign-lt}
 use Rattle.tables.proofs.Slices.{rest-of}
 use Rattle.words.specs.Words.{wordsOf, bitAt, IsWords}
 use Rattle.words.proofs.Words.{words-cong, at-known, at-words, size-words, length-words}
-use Rattle.solution.specs.ByPoints.{bothCases, remainsThrough, answeredThrough}
+use Rattle.solution.specs.Inner.ByPoints.{bothCases, remainsThrough, answeredThrough}
 use Rattle.solution.proofs.Elimination.{answered-kept, answered-lt}
-use Rattle.elimination.specs.Stages.{InLetters, noRepeats, stageWords, answerAt, slotWords, putWords, placeOf}
+use Rattle.elimination.specs.Inner.Stages.{InLetters, noRepeats, stageWords, answerAt, slotWords, putWords, placeOf}
 use Rattle.elimination.proofs.AnyOrder.{Agree, first-in, rest-in, both-agree, remains-agree, answerAt-agree, no-first, no-rest, answered-more}
 
 -- the points of 6 + c letters

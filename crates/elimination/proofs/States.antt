@@ -15,11 +15,12 @@ use Rattle.ring.proofs.Points.{bit-above}
 use Rattle.words.specs.Words.{wordsOf, bitAt, answerWords, First}
 use Rattle.words.proofs.Letters.{room}
 use Rattle.words.proofs.Words.{at-known}
-use Rattle.solution.specs.Elimination.{IsOrder, smallestBelow}
-use Rattle.solution.specs.ByPoints.{remainsThrough, answeredThrough, zeroChoice}
+use Rattle.solution.specs.Condition.{IsOrder}
+use Rattle.solution.specs.Elimination.{smallestBelow}
+use Rattle.solution.specs.Inner.ByPoints.{remainsThrough, answeredThrough, zeroChoice}
 use Rattle.solution.proofs.Elimination.{remains-outside}
 use Rattle.solution.proofs.Smallest.{smallest-cong, first-found, first-none}
-use Rattle.elimination.specs.Stages.{InLetters, IgnoresUnknowns, noRepeats, stageWords, slotWords, slotWord}
+use Rattle.elimination.specs.Inner.Stages.{InLetters, IgnoresUnknowns, noRepeats, stageWords, slotWords, slotWord}
 use Rattle.elimination.proofs.Slots.{arranged}
 use Rattle.elimination.proofs.Stages.{points, stage-self, answers-self}
 

@@ -25,7 +25,7 @@ use Rattle.entry.specs.Record.{size, isEnd, isNone, stateIn}
 use Rattle.entry.specs.Entry.{conditionRecords, verdictRecords, entryRecords}
 use Rattle.entry.specs.Held.{next, untilEnd, firstRecords, records, routeOf, unknownsOf, givensOf, hasMonomial, conditionIn, answersIn, unlessNone, heldCondition, heldVerdict}
 use Rattle.entry.specs.Questions.{mayFollow, kindsFollow, kindsFit, numbersFit}
-use Rattle.entry.specs.Places.{placeOf, standsBehind, fitsBehind}
+use Rattle.entry.specs.Inner.Places.{placeOf, standsBehind, fitsBehind}
 use Rattle.entry.proofs.Places.{numbers-by-places}
 use Rattle.entry.proofs.Back.{isInner, allInner, inner-not-end, body, entry-body, body-inner}
 use Rattle.entry.proofs.Verdicts.{VerdictFits, answers-fit}

@@ -17,16 +17,16 @@ use Rattle.ring.specs.Table.{present}
 use Rattle.ring.specs.Lists.{has}
 use Rattle.ring.proofs.Bool.{and-right}
 use Rattle.ring.proofs.Lists.{has-first, has-rest}
-use Rattle.tables.specs.Put.{Put}
+use Rattle.tables.specs.Inner.Put.{Put}
 use Rattle.tables.proofs.Put.{put-length, put-both, put-same, put-none}
 use Rattle.order.specs.Order.{monomials}
-use Rattle.order.specs.Listing.{tagged}
+use Rattle.order.specs.Inner.Listing.{tagged}
 use Rattle.order.proofs.Order.{has-monomials, monomials-same}
 use Rattle.entry.specs.declared.Record.{Record}
 use Rattle.entry.specs.declared.Record.the-variants.{Condition, Answer}
 use Rattle.entry.specs.Record.{recordBytes, bytes}
 use Rattle.entry.specs.Entry.{conditionRecords}
-use Rattle.entry.specs.Codes.{monomialRecord, recordOf}
+use Rattle.entry.specs.Inner.Codes.{monomialRecord, recordOf}
 
 -- ---- a number is its table and its mask
 record-of : (i m : ℕ) → m < 1024 → recordOf (1024 * i + m) ≡ monomialRecord i m

@@ -21,7 +21,7 @@ use Rattle.entry.specs.declared.Record.the-variants.{Condition, Answer, 
 use Rattle.entry.specs.Record.{isEnd}
 use Rattle.entry.specs.Entry.{conditionRecords, answerRecords, verdictRecords, entryRecords}
 use Rattle.entry.specs.Questions.{hasEnd, mayFollow, kindsFollow, kindsFit, inBounds, numbersFit}
-use Rattle.entry.specs.Places.{place, placeOf, standsBehind, fitsBehind}
+use Rattle.entry.specs.Inner.Places.{place, placeOf, standsBehind, fitsBehind}
 use Rattle.entry.proofs.Back.{body, entry-body}
 use Rattle.entry.proofs.Verdicts.{VerdictFits}
 use Rattle.entry.proofs.Places.{place-least, place-most, place-rises, place-monomial, mask-small, numbers-by-places}

@@ -12,13 +12,13 @@ use lib.Pow.{pow-mono}
 use borrow.Author.Tests.{lt-ltb, ltb-true, ltb-false, eqb-true, eqb-false, ne-eqb}
 use Rattle.ring.proofs.Bool.{bool-iff, and-left-comm, and-left, and-right, both, or-cases, or-right, bool-cases, never}
 use Rattle.order.specs.Order.{before}
-use Rattle.order.specs.Place.{rank}
+use Rattle.order.specs.Inner.Place.{rank}
 use Rattle.order.proofs.Relation.{before-rank, rank-most}
 use Rattle.entry.specs.declared.Record.{Record}
 use Rattle.entry.specs.declared.Record.the-variants.{Start, Condition, Answer, End, None, Broken}
 use Rattle.entry.specs.Record.{isMonomial, maskIn, tableIn}
 use Rattle.entry.specs.Questions.{inBounds, allInBounds, standsBefore, inOrder, allInOrder}
-use Rattle.entry.specs.Places.{place, placeOf, standsBehind, fitsBehind}
+use Rattle.entry.specs.Inner.Places.{place, placeOf, standsBehind, fitsBehind}
 
 -- ---- places
 pub rank-small : (m : ℕ) → m < 2 ^ 10 → rank 10 m < 16384

@@ -14,7 +14,8 @@ use Rattle.ring.proofs.Bool.{and-left, and-right, both, never}
 use Rattle.tables.specs.Questions.{firstNo, lettersFit}
 use Rattle.tables.proofs.FirstNo.{yes-to, asked-before}
 use Rattle.tables.proofs.Questions.{letters-small, unknowns-small}
-use Rattle.solution.specs.Elimination.{Verdict, solved, none, defaultOrder, solve, solvable, booleAnswers, smallestBlocked}
+use Rattle.solution.specs.Condition.{defaultOrder}
+use Rattle.solution.specs.Elimination.{Verdict, solved, none, solve, solvable, booleAnswers, smallestBlocked}
 use Rattle.solution.specs.General.{RightVerdict}
 use Rattle.solution.proofs.Orders.{default-order}
 use Rattle.solution.proofs.Verdict.{AreBooles, right-solved, right-none}

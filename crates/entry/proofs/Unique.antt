@@ -15,7 +15,7 @@ use Rattle.entry.specs.declared.Record.the-variants.{Start, Condition, A
 use Rattle.entry.specs.Record.{isMonomial, maskIn, tableIn}
 use Rattle.entry.specs.Held.{hasMonomial}
 use Rattle.entry.specs.Questions.{inBounds}
-use Rattle.entry.specs.Places.{place, placeOf, standsBehind, fitsBehind}
+use Rattle.entry.specs.Inner.Places.{place, placeOf, standsBehind, fitsBehind}
 use Rattle.entry.proofs.Places.{place-least, place-monomial, mask-in-bounds, table-in-bounds}
 
 -- the records that hold a monomial

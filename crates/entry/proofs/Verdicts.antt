@@ -8,7 +8,8 @@ use Prim.Native.Nat.{ℕ, _+_, _^_, _<_}
 use Rattle.ring.specs.Table.{present, held, answerTable}
 use Rattle.ring.proofs.Table.{held-answerTable, answerTable-cong}
 use Rattle.solution.specs.Substitution.{Substitution}
-use Rattle.solution.specs.Elimination.{Verdict, solved, none, defaultOrder, solve, solvable, booleAnswers, smallestBlocked}
+use Rattle.solution.specs.Condition.{defaultOrder}
+use Rattle.solution.specs.Elimination.{Verdict, solved, none, solve, solvable, booleAnswers, smallestBlocked}
 use Rattle.solution.proofs.Orders.{default-order}
 use Rattle.solution.proofs.Theorems.{none-names-smallest}
 

@@ -2,5 +2,4 @@ pub mod Record
 pub mod Entry
 pub mod Held
 pub mod Questions
-pub mod Places
-pub mod Codes
+pub mod Inner

@@ -1,16 +1,16 @@
--- The questions that are put to an entry: 2, 10, 11, 12 and 13 (document 01, 'The questions, and the number if the answer is no').
+-- The questions that are put to an entry: 2, 10, 11, 12 and 13 (document 01, 'The questions, and the number if the answer is no'). Their order
+-- is in `calls`.
 -- Each is a Bool function, total on any records, and so on any bytes.
 -- Assumes nothing.
 use mathlib.Core.Bool.{Bool, true, false, _&&_, _||_, not, cond}
-use mathlib.Core.List.{List, [], _∷_, _++_}
-use Prim.Native.Nat.{ℕ, _+_, _^_}
+use mathlib.Core.List.{List, [], _∷_}
+use Prim.Native.Nat.{ℕ, zero, suc}
 use lib.Dec.{eqb, leb, ltb}
-use Rattle.tables.specs.Questions.{Asked, asks, lettersFit, writes, haveRoom}
+use lib.ListN.{getD}
+use Rattle.ring.specs.Lists.{has}
 use Rattle.order.specs.Order.{before}
-use Rattle.solution.specs.Elimination.{Verdict, solved, none, defaultOrder, solve}
-use Rattle.entry.specs.declared.Record.{Record}
-use Rattle.entry.specs.declared.Record.the-variants.{Start, Condition, Answer, End, None, Broken}
-use Rattle.entry.specs.Record.{kind, isEnd, isMonomial, maskIn, tableIn, routeIn}
+use Rattle.solution.specs.Elimination.{Verdict, solved, none, solve}
+use Rattle.entry.specs.Record.{Record, routeField, maskField, kind, valueOf, isEnd, isMonomial, tableIn, inBounds}
 use Rattle.entry.specs.Held.{routeOf, unknownsOf, givensOf, heldCondition, heldVerdict}
 
 -- 2: 'Is the route 1 to 250?'
@@ -23,39 +23,38 @@ unfoldable pub hasEnd : List Record → Bool
 hasEnd [] = false
 hasEnd (r ∷ rs) = isEnd r || hasEnd rs
 
--- 'An entry is one kind 1; kind 2 ..; kind 3 .., or one kind 5; one kind 4': may kind k stand right behind kind p, or first, where p is 0?
+-- 'An entry is one kind 1; kind 2 ..; kind 3 .., or one kind 5; one kind 4': the kinds that may stand right behind each kind, kind 1 first
+abbrev pub followers : List (List ℕ)
+followers =
+    (2 ∷ 3 ∷ 4 ∷ 5 ∷ [])
+    ∷ (2 ∷ 3 ∷ 4 ∷ 5 ∷ [])
+    ∷ (3 ∷ 4 ∷ [])
+    ∷ []
+    ∷ (4 ∷ [])
+    ∷ []
+
+-- may kind k stand right behind kind p, or first, where p is 0?
 unfoldable pub mayFollow : ℕ → ℕ → Bool
-mayFollow p k =
-    cond (eqb p 0) (eqb k 1)
-    (cond (eqb p 3) (eqb k 3 || eqb k 4)
-    (cond (eqb p 5) (eqb k 4)
-    (leb 2 k)))
+mayFollow zero k = eqb k 1
+mayFollow (suc p) k = has k (getD followers p [])
 
 -- 11, behind a record of kind p, or first, where p is 0: each kind may follow the one before, and kind 4 has the route
 unfoldable pub kindsFollow : ℕ → ℕ → List Record → Bool
-kindsFollow p route [] = false
-kindsFollow p route (r ∷ rs) = mayFollow p (kind r) && cond (isEnd r) (eqb (routeIn r) route) (kindsFollow (kind r) route rs)
+kindsFollow p again [] = false
+kindsFollow p again (r ∷ rs) = mayFollow p (kind r) && cond (isEnd r) (eqb (valueOf routeField r) again) (kindsFollow (kind r) again rs)
 
 -- 11: 'Are the kinds in the entry's order, both routes equal?'
 unfoldable pub kindsFit : List Record → Bool
 kindsFit rs = kindsFollow 0 (routeOf rs) rs
 
--- 12, of one record: 'Are masks below 2^n, unknowns below U, the state below 2^G'
-abbrev pub inBounds : ℕ → ℕ → Record → Bool
-inBounds U G (Start route unknowns givens) = true
-inBounds U G (Condition m) = ltb m (2 ^ (U + G))
-inBounds U G (Answer j m) = ltb j U && ltb m (2 ^ (U + G))
-inBounds U G (End route) = true
-inBounds U G (None state) = ltb state (2 ^ G)
-inBounds U G Broken = true
-
+-- 12, of every record: 'Are masks below 2^n, unknowns below U, the state below 2^G'
 unfoldable pub allInBounds : ℕ → ℕ → List Record → Bool
 allInBounds U G [] = true
 allInBounds U G (r ∷ rs) = inBounds U G r && allInBounds U G rs
 
 -- does r stand before s by table, the condition and then the unknowns, and within a table in written order?
 unfoldable pub standsBefore : Record → Record → Bool
-standsBefore r s = ltb (tableIn r) (tableIn s) || (eqb (tableIn r) (tableIn s) && before (maskIn r) (maskIn s))
+standsBefore r s = ltb (tableIn r) (tableIn s) || (eqb (tableIn r) (tableIn s) && before (valueOf maskField r) (valueOf maskField s))
 
 -- 12, of two records, one right behind the other: 'all in order, none twice' of two monomials
 unfoldable pub inOrder : Record → Record → Bool
@@ -69,21 +68,6 @@ allInOrder (r ∷ (s ∷ rs)) = inOrder r s && allInOrder (s ∷ rs)
 -- 12: 'Are masks below 2^n, unknowns below U, the state below 2^G, all in order, none twice?'
 unfoldable pub numbersFit : List Record → Bool
 numbersFit rs = allInBounds (unknownsOf rs) (givensOf rs) rs && allInOrder rs
-
--- 10, 11, 1, 2, 12: the questions that reading and audit share
-unfoldable pub entryQuestions : List Record → List Asked
-entryQuestions rs =
-    asks 10 (hasEnd rs)
-    ∷ asks 11 (kindsFit rs)
-    ∷ asks 1 (lettersFit (unknownsOf rs) (givensOf rs))
-    ∷ asks 2 (routeFits (routeOf rs))
-    ∷ asks 12 (numbersFit rs)
-    ∷ []
-
--- 'Reading: 10, 11, 1, 2, 12, 4': the condition and the answer buffer have so many bytes
-unfoldable pub readQuestions : List Record → ℕ → ℕ → List Asked
-readQuestions rs room answerRoom =
-    entryQuestions rs ++ (asks 4 (haveRoom (unknownsOf rs + givensOf rs) (writes 1 room ∷ writes (unknownsOf rs) answerRoom ∷ [])) ∷ [])
 
 -- the bytes are the same
 unfoldable pub sameBytes : List ℕ → List ℕ → Bool
@@ -99,14 +83,6 @@ sameVerdict (solved a) (none state) = false
 sameVerdict (none state) (solved b) = false
 sameVerdict (none state) (none other) = eqb (state .0) (other .0)
 
--- what solving afresh says of the condition that the records hold
-unfoldable pub solvedAfresh : List Record → Verdict (List ℕ)
-solvedAfresh rs = solve (unknownsOf rs) (givensOf rs) (defaultOrder (unknownsOf rs)) (heldCondition rs)
-
 -- 13: 'Do the answers, or the state, equal those solved afresh?'
 unfoldable pub answersHold : List Record → Bool
-answersHold rs = sameVerdict (heldVerdict rs) (solvedAfresh rs)
-
--- 'Audit: 10, 11, 1, 2, 12, 13'
-unfoldable pub auditQuestions : List Record → List Asked
-auditQuestions rs = entryQuestions rs ++ (asks 13 (answersHold rs) ∷ [])
+answersHold rs = sameVerdict (heldVerdict rs) (solve (heldCondition rs))

@@ -1,44 +1,139 @@
--- The records of an entry and their bytes (document 01, 'The archive entry').
--- The type is the code's own enum, a case for each of the kinds 1 to 5; `Broken` stands where bytes hold no whole record.
+-- The records of an entry (document 01, 'The archive entry'): 'Each record is one byte of kind, then a body whose length the kind fixes.'
+-- A record is its bytes. What stands in the body of each kind is said once, in `layout`; lengths, bytes and what a record says follow from it.
 -- Assumes nothing.
-use mathlib.Core.Bool.{Bool, _||_}
+use mathlib.Core.Bool.{Bool, true, false, _&&_, _||_, cond}
 use mathlib.Core.List.{List, [], _∷_, _++_}
-use Prim.Native.Nat.{ℕ, suc, _/_, _%_, _<_}
-use lib.Dec.{eqb}
-use lib.ListN.{length, getD}
-use Rattle.entry.specs.declared.Record.{Record}
-use Rattle.entry.specs.declared.Record.the-variants.{Start, Condition, Answer, End, None, Broken}
+use Prim.Native.Nat.{ℕ, zero, suc, _+_, _*_, _/_, _%_, _^_, _<_}
+use lib.Dec.{eqb, ltb}
+use lib.ListN.{getD, take, drop}
 
--- 'Each record is one byte of kind, then a body whose length the kind fixes. Masks are two bytes, low byte first.'
-abbrev pub recordBytes : Record → List ℕ
--- 'kind 1, three bytes: route, U, G'
-recordBytes (Start route U G) = 1 ∷ route ∷ U ∷ G ∷ []
--- 'kind 2, two bytes: a monomial of the condition'
-recordBytes (Condition m) = 2 ∷ m % 256 ∷ m / 256 ∷ []
--- 'kind 3, three bytes: unknown number, then a monomial of its answer'
-recordBytes (Answer j m) = 3 ∷ j ∷ m % 256 ∷ m / 256 ∷ []
--- 'kind 4, one byte: the route again, end of entry'
-recordBytes (End route) = 4 ∷ route ∷ []
--- 'kind 5, one byte: 'none', the state'
-recordBytes (None state) = 5 ∷ state ∷ []
-recordBytes Broken = []
+-- 'one byte of kind, then a body'
+abbrev pub Record : Type 0
+Record = List ℕ
 
--- each is a byte
-abbrev pub AreBytes : List ℕ → Type 0
-AreBytes bs = (i : ℕ) → getD bs i 0 < 256
+-- what stands in bodies: the route, U, G, an unknown's number, a monomial's mask, a state
+pub data Field : Type 0 where
+  routeField : Field
+  unknownsField : Field
+  givensField : Field
+  unknownField : Field
+  maskField : Field
+  stateField : Field
+
+-- the body of each kind, kind 1 first
+abbrev pub layout : List (List Field)
+layout =
+    -- 'kind 1, three bytes: route, U, G'
+    (routeField ∷ unknownsField ∷ givensField ∷ [])
+    -- 'kind 2, two bytes: a monomial of the condition'
+    ∷ (maskField ∷ [])
+    -- 'kind 3, three bytes: unknown number, then a monomial of its answer'
+    ∷ (unknownField ∷ maskField ∷ [])
+    -- 'kind 4, one byte: the route again, end of entry'
+    ∷ (routeField ∷ [])
+    -- 'kind 5, one byte: 'none', the state'
+    ∷ (stateField ∷ [])
+    ∷ []
+
+-- the fields of kind k: none where there is no such kind
+unfoldable pub fields : ℕ → List Field
+fields zero = []
+fields (suc k) = getD layout k []
+
+-- 'Masks are two bytes'; every other field is one
+abbrev pub width : Field → ℕ
+width routeField = 1
+width unknownsField = 1
+width givensField = 1
+width unknownField = 1
+width maskField = 2
+width stateField = 1
+
+-- the number of bytes of fields
+unfoldable pub widths : List Field → ℕ
+widths [] = 0
+widths (f ∷ fs) = width f + widths fs
+
+-- the number of bytes of a record with these fields: 'one byte of kind, then a body'; 0 where there is no such kind
+abbrev pub sizeWith : List Field → ℕ
+sizeWith [] = 0
+sizeWith (f ∷ fs) = suc (widths (f ∷ fs))
+
+unfoldable pub size : ℕ → ℕ
+size k = sizeWith (fields k)
+
+-- 'one byte of kind': that of the record which the bytes begin with, 0 where there are none
+unfoldable pub kind : List ℕ → ℕ
+kind bs = getD bs 0 0
+
+-- a number in so many bytes, 'low byte first'
+unfoldable pub lowFirst : ℕ → ℕ → List ℕ
+lowFirst zero v = []
+lowFirst (suc zero) v = v ∷ []
+lowFirst (suc (suc w)) v = v % 256 ∷ lowFirst (suc w) (v / 256)
+
+-- and back
+unfoldable pub fromLowFirst : List ℕ → ℕ
+fromLowFirst [] = 0
+fromLowFirst (b ∷ bs) = b + 256 * fromLowFirst bs
+
+-- ---- making records
+-- the body with these values, field by field
+unfoldable pub bodyOf : List Field → List ℕ → List ℕ
+bodyOf [] vs = []
+bodyOf (f ∷ fs) [] = []
+bodyOf (f ∷ fs) (v ∷ vs) = lowFirst (width f) v ++ bodyOf fs vs
+
+-- the record of kind k with these values
+abbrev pub recordOf : ℕ → List ℕ → Record
+recordOf k vs = k ∷ bodyOf (fields k) vs
+
+abbrev pub startRecord : ℕ → ℕ → ℕ → Record
+startRecord route U G = recordOf 1 (route ∷ U ∷ G ∷ [])
+
+abbrev pub conditionRecord : ℕ → Record
+conditionRecord m = recordOf 2 (m ∷ [])
+
+abbrev pub answerRecord : ℕ → ℕ → Record
+answerRecord j m = recordOf 3 (j ∷ m ∷ [])
+
+abbrev pub endRecord : ℕ → Record
+endRecord route = recordOf 4 (route ∷ [])
+
+abbrev pub noneRecord : ℕ → Record
+noneRecord state = recordOf 5 (state ∷ [])
 
 -- the bytes of records one after another
 unfoldable pub bytes : List Record → List ℕ
 bytes [] = []
-bytes (r ∷ rs) = recordBytes r ++ bytes rs
+bytes (r ∷ rs) = r ++ bytes rs
 
--- the number of bytes of a record
-abbrev pub size : Record → ℕ
-size r = length (recordBytes r)
+-- ---- what a record says
+-- are the two fields one?
+abbrev pub place : Field → ℕ
+place routeField = 0
+place unknownsField = 1
+place givensField = 2
+place unknownField = 3
+place maskField = 4
+place stateField = 5
 
--- 'one byte of kind': 1 to 5, and 0 where there is no record
-abbrev pub kind : Record → ℕ
-kind r = getD (recordBytes r) 0 0
+abbrev pub sameField : Field → Field → Bool
+sameField f g = eqb (place f) (place g)
+
+-- is the field among these?
+unfoldable pub among : Field → List Field → Bool
+among f [] = false
+among f (g ∷ fs) = sameField f g || among f fs
+
+-- the value of the field in a body with these fields, 0 where it is not among them
+unfoldable pub valueIn : Field → List Field → List ℕ → ℕ
+valueIn f [] bs = 0
+valueIn f (g ∷ fs) bs = cond (sameField f g) (fromLowFirst (take (width g) bs)) (valueIn f fs (drop (width g) bs))
+
+-- the value of the field in a record
+unfoldable pub valueOf : Field → Record → ℕ
+valueOf f r = valueIn f (fields (kind r)) (drop 1 r)
 
 abbrev pub isEnd : Record → Bool
 isEnd r = eqb (kind r) 4
@@ -46,59 +141,32 @@ isEnd r = eqb (kind r) 4
 abbrev pub isNone : Record → Bool
 isNone r = eqb (kind r) 5
 
--- kinds 2 and 3 hold a monomial
+-- it holds a monomial
 abbrev pub isMonomial : Record → Bool
-isMonomial r = eqb (kind r) 2 || eqb (kind r) 3
+isMonomial r = among maskField (fields (kind r))
 
--- the monomial's mask
-abbrev pub maskIn : Record → ℕ
-maskIn (Start route U G) = 0
-maskIn (Condition m) = m
-maskIn (Answer j m) = m
-maskIn (End route) = 0
-maskIn (None state) = 0
-maskIn Broken = 0
-
--- the table that it belongs to: 0 the condition, j + 1 the answer for unknown j
+-- the table that its monomial belongs to: 0 the condition, j + 1 the answer for unknown j
 abbrev pub tableIn : Record → ℕ
-tableIn (Start route U G) = 0
-tableIn (Condition m) = 0
-tableIn (Answer j m) = suc j
-tableIn (End route) = 0
-tableIn (None state) = 0
-tableIn Broken = 0
+tableIn r = cond (among unknownField (fields (kind r))) (suc (valueOf unknownField r)) 0
 
--- the route, in kinds 1 and 4
-abbrev pub routeIn : Record → ℕ
-routeIn (Start route U G) = route
-routeIn (Condition m) = 0
-routeIn (Answer j m) = 0
-routeIn (End route) = route
-routeIn (None state) = 0
-routeIn Broken = 0
+-- 12, of one field: 'Are masks below 2^n, unknowns below U, the state below 2^G'
+abbrev pub fieldFits : ℕ → ℕ → Field → ℕ → Bool
+fieldFits U G routeField v = true
+fieldFits U G unknownsField v = true
+fieldFits U G givensField v = true
+fieldFits U G unknownField v = ltb v U
+fieldFits U G maskField v = ltb v (2 ^ (U + G))
+fieldFits U G stateField v = ltb v (2 ^ G)
 
--- U and G, in kind 1
-abbrev pub unknownsIn : Record → ℕ
-unknownsIn (Start route U G) = U
-unknownsIn (Condition m) = 0
-unknownsIn (Answer j m) = 0
-unknownsIn (End route) = 0
-unknownsIn (None state) = 0
-unknownsIn Broken = 0
+-- of every field of a body
+unfoldable pub bodyFits : ℕ → ℕ → List Field → List ℕ → Bool
+bodyFits U G [] bs = true
+bodyFits U G (f ∷ fs) bs = fieldFits U G f (fromLowFirst (take (width f) bs)) && bodyFits U G fs (drop (width f) bs)
 
-abbrev pub givensIn : Record → ℕ
-givensIn (Start route U G) = G
-givensIn (Condition m) = 0
-givensIn (Answer j m) = 0
-givensIn (End route) = 0
-givensIn (None state) = 0
-givensIn Broken = 0
+-- of a record
+unfoldable pub inBounds : ℕ → ℕ → Record → Bool
+inBounds U G r = bodyFits U G (fields (kind r)) (drop 1 r)
 
--- the state, in kind 5
-abbrev pub stateIn : Record → ℕ
-stateIn (Start route U G) = 0
-stateIn (Condition m) = 0
-stateIn (Answer j m) = 0
-stateIn (End route) = 0
-stateIn (None state) = state
-stateIn Broken = 0
+-- each is a byte
+abbrev pub AreBytes : List ℕ → Type 0
+AreBytes bs = (i : ℕ) → getD bs i 0 < 256

@@ -19,13 +19,15 @@ use Rattle.ring.specs.Letters.{point}
 use Rattle.ring.specs.Table.{present}
 use Rattle.ring.proofs.Bool.{and-left, and-right, bool-cases, digit-lt}
 use Rattle.tables.specs.Questions.{firstNo, lettersFit, tableQuestions}
-use Rattle.tables.specs.Reply.{Reply, accepted, refused, reply}
+use Rattle.tables.specs.Answered.{Reply, accepted, refused, reply}
 use Rattle.tables.proofs.FirstNo.{yes-to, asked-before, numbersBelow, first-below}
 use Rattle.tables.proofs.Questions.{letters-small, unknowns-small}
-use Rattle.operations.specs.Calls.{valueRefusal, valueAt, pairRefusal, substituteRefusal}
-use Rattle.notation.specs.Text.{textQuestions, textRefusal}
+use Rattle.calls.specs.GONE.{valueRefusal, pairRefusal, substituteRefusal}
+use Rattle.calls.specs.Operations.{valueAt}
+use Rattle.calls.specs.Questions.{textQuestions}
+use Rattle.calls.specs.GONE.{textRefusal}
 use Rattle.solution.specs.Elimination.{Verdict, solved, none, smallestBelow, blocked, smallestBlocked}
-use Rattle.solver.specs.Calls.{solvingRefusal, solvingReply, handedRefusal}
+use Rattle.calls.specs.GONE.{solvingRefusal, solvingReply, handedRefusal}
 use Rattle.entry.specs.declared.Record.{Record}
 use Rattle.entry.specs.Record.{AreBytes, bytes}
 use Rattle.entry.specs.Held.{records, routeOf, unknownsOf, givensOf, heldCondition, heldVerdict}
@@ -36,10 +38,14 @@ use Rattle.entry.proofs.Canonical.{records-end, held-fits, canonical}
 use Rattle.entry.proofs.Passes.{Passes, passes}
 use Rattle.entry.proofs.Verdicts.{VerdictFits}
 use Rattle.entry.proofs.Theorems.{entry-bound}
-use Rattle.writer.specs.Writing.{archived, writeQuestions, writeRefusal}
-use Rattle.reader.specs.Reading.{readRefusal, readValues, stateOf}
-use Rattle.audit.specs.Audit.{auditRefusal, auditReply}
-use Rattle.volume.specs.Walk.{walkQuestions, walkRefusal, walkReply, Ends, at-end, refused-at, Walks}
+use Rattle.calls.specs.GONE.{archived, writeRefusal}
+use Rattle.calls.specs.Questions.{writeQuestions}
+use Rattle.calls.specs.GONE.{readRefusal}
+use Rattle.calls.specs.Entries.{readValues, stateOf}
+use Rattle.calls.specs.GONE.{auditRefusal, auditReply}
+use Rattle.calls.specs.Questions.{walkQuestions}
+use Rattle.calls.specs.Walk.{walkRefusal, walkReply, Ends, Walks}
+use Rattle.calls.specs.GONE.{at-end, refused-at}
 use Rattle.volume.proofs.Theorems.{walk-exact, entries-most}
 use Rattle.layodegi.specs.Codes.{narrow, code, headingCode, entryCode, stateIn, plainReply, valueReply, stateReply, countReply, entryReply}
 

@@ -6,7 +6,7 @@ use mathlib.Core.List.{List, [], _∷_}
 use Prim.Native.Nat.{ℕ, zero, suc, _+_, _*_, _/_, _%_}
 use lib.Dec.{eqb}
 use lib.ListN.{getD, drop}
-use Rattle.tables.specs.Reply.{Reply, accepted, refused, reply}
+use Rattle.tables.specs.Answered.{Reply, accepted, refused, reply}
 
 -- a value as 32 bits; every value that a call gives is smaller
 abbrev pub narrow : ℕ → ℕ

@@ -1,30 +1,35 @@
 // The library as C and Rust see it: one exported function for each public call, on numbers and byte slices.
 // A slice passes as a pointer and then a length. Each function has the contract of its call, with the answer as a code (`specs/Codes.antt`).
-use audit::Audited;
-use operations::Valued;
-use reader::Read;
-use records::Heading;
-use records::Said;
+use calls::Read;
+use calls::Valued;
+use calls::Read;
+use calls::Heading;
+use calls::Verdict;
 use ring::Choice;
 use ring::State;
-use solver::Solving;
-use tables::Outcome;
-use volume::Walked;
-use writer::Written;
+use calls::Solving;
+use calls::Outcome;
+use calls::Walked;
+use calls::Written;
 ghost use mathlib.Core.Path.{_≡_};
 ghost use mathlib.Core.List.{[], _∷_};
 ghost use Prim.Native.Nat.{_%_, _<_, _≤_};
 ghost use lib.ListN.{length};
-ghost use Rattle.tables.specs.Reply.{reply, after, outcome};
-ghost use Rattle.operations.specs.Calls.{valued, valueRefusal, valueAt, pairRefusal, sumTable, productTable, substituteRefusal, substituteTable};
+ghost use Rattle.tables.specs.Answered.{reply, after, outcome};
+ghost use Rattle.calls.specs.Operations.{valued, valueAt, sumTable, productTable, substituteTable};
+ghost use Rattle.calls.specs.GONE.{valueRefusal, pairRefusal, substituteRefusal};
 ghost use Rattle.grammar.specs.Text.{textTable};
-ghost use Rattle.notation.specs.Text.{textRefusal};
-ghost use Rattle.solver.specs.Calls.{solving, solvingReply, solvingRefusal, booleTable, particularTable, lowenheimTable, handedRefusal, handedTable};
+ghost use Rattle.calls.specs.GONE.{textRefusal};
+ghost use Rattle.calls.specs.Solving.{solving, handedTable};
+ghost use Rattle.calls.specs.GONE.{solvingReply, solvingRefusal, booleTable, particularTable, lowenheimTable, handedRefusal};
 ghost use Rattle.entry.specs.Held.{records, heldCondition};
-ghost use Rattle.reader.specs.Reading.{reading, readRefusal, readValues, heldAnswers};
-ghost use Rattle.writer.specs.Writing.{written, writeRefusal, archived};
-ghost use Rattle.audit.specs.Audit.{audited, auditReply, stateSaid};
-ghost use Rattle.volume.specs.Walk.{walked, walkReply};
+ghost use Rattle.calls.specs.Entries.{reading, readValues};
+ghost use Rattle.calls.specs.GONE.{readRefusal, heldAnswers};
+ghost use Rattle.calls.specs.Entries.{written};
+ghost use Rattle.calls.specs.GONE.{writeRefusal, archived};
+ghost use Rattle.calls.specs.GONE.{audited, auditReply};
+ghost use Rattle.calls.specs.Entries.{stateSaid};
+ghost use Rattle.calls.specs.Walk.{walked, walkReply};
 ghost use Rattle.layodegi.specs.Codes.{code, stateCode, headingCode, entryCode};
 
 // A value as 32 bits; every value that a call gives is smaller.

@@ -10,7 +10,7 @@ use lib.ListN.{length, take, drop, take-append-drop, drop-of-length-le}
 use lib.Seq.{length-take-le}
 use borrow.Author.Tests.{le-leb, lt-leb, leb-true}
 use Rattle.tables.specs.Questions.{firstNo, lettersFit, hasRoom}
-use Rattle.tables.specs.Reply.{accepted, refused, reply, after}
+use Rattle.tables.specs.Answered.{accepted, refused, reply, after}
 use Rattle.tables.proofs.Reply.{after-refused, call-refused, call-done}
 use Rattle.tables.proofs.FirstNo.{yes-to, first-counts, asked-before}
 use Rattle.tables.proofs.Questions.{letters-small, unknowns-small}
@@ -20,8 +20,10 @@ use Rattle.ring.proofs.Table.{is-table}
 use Rattle.ring.proofs.Bool.{and-right}
 use Rattle.grammar.specs.Reader.{grammarReads}
 use Rattle.grammar.specs.Text.{textTable}
-use Rattle.notation.specs.Text.{hasTextLength, textQuestions, textRefusal, Accepted}
-use Rattle.notation.specs.Work.{Ready, earlyRefusal, symbolQuestions, lateRefusal, valuesRefusal}
+use Rattle.calls.specs.Questions.{hasTextLength, textQuestions}
+use Rattle.calls.specs.GONE.{textRefusal}
+use Rattle.calls.specs.Text.{Accepted}
+use Rattle.notation.specs.Inner.Work.{Ready, earlyRefusal, symbolQuestions, lateRefusal, valuesRefusal}
 
 pub text-short : (text : List ℕ) → hasTextLength text ≡ true → length text ≤ 200
 unfolding hasTextLength

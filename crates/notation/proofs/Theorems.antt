@@ -17,7 +17,9 @@ use Rattle.grammar.specs.Grammar.{Tree, Sum}
 use Rattle.grammar.specs.Reader.{treeOf}
 use Rattle.grammar.specs.Text.{IsRead, Agree, textValue, textTable}
 use Rattle.grammar.proofs.Theorems as grammar
-use Rattle.notation.specs.Text.{hasTextLength, textRefusal, Accepted}
+use Rattle.calls.specs.Questions.{hasTextLength}
+use Rattle.calls.specs.GONE.{textRefusal}
+use Rattle.calls.specs.Text.{Accepted}
 use Rattle.notation.proofs.Refusal.{fine, late-counts, not-late}
 
 -- no question is answered no exactly for an accepted text and a buffer with room

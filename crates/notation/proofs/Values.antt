@@ -10,7 +10,7 @@ use Rattle.ring.specs.Polynomial.{value}
 use Rattle.ring.specs.Table.{present, table}
 use Rattle.ring.proofs.Table.{present-table}
 use Rattle.ring.proofs.Value.{value-cong}
-use Rattle.tables.specs.Reply.{after}
+use Rattle.tables.specs.Answered.{after}
 use Rattle.grammar.specs.Symbols.{symbols, every, allSigns, allDeclared}
 use Rattle.grammar.specs.Meaning.{normalForm}
 use Rattle.grammar.specs.Reader.{sum, reads, isWhole, grammarReads, treeOf}
@@ -20,10 +20,10 @@ use Rattle.grammar.proofs.Theorems.{text-declared}
 use Rattle.words.specs.Words.{bitAt}
 use Rattle.words.proofs.Words.{words-cong, length-words, at-known}
 use Rattle.words.proofs.Letters.{room, table-back}
-use Rattle.parser.specs.Blocks.{wholeWords}
-use Rattle.parser.specs.Questions.{isKnown, isLetterDeclared}
+use Rattle.parser.specs.Inner.Blocks.{wholeWords}
+use Rattle.parser.specs.Inner.Questions.{isKnown, isLetterDeclared}
 use Rattle.parser.proofs.Decoding.{signs-of-symbols, declared-of-symbols}
-use Rattle.notation.specs.Work.{textWords}
+use Rattle.notation.specs.Inner.Work.{textWords}
 use Rattle.notation.proofs.Refusal.{after-all}
 
 -- questions 5, 6 and 7

@@ -1,17 +1,18 @@
 // Reading a text: from its bytes to the table of its polynomial (document 01, 'The notation').
 // The public call is `read_text`. `text_values` is for the crates above that work on a condition's values, once question 1 has been asked;
 // the other functions are their own. The values come from the readers, 64 points to a word, and one transform takes them to the table.
-use tables::Outcome;
+use calls::Outcome;
 ghost use mathlib.Core.Path.{_≡_};
 ghost use mathlib.Core.Bool.{true};
 ghost use mathlib.Core.List.{[]};
 ghost use Prim.Native.Nat.{_+_, _-_, _^_};
 ghost use lib.ListN.{length};
 ghost use Rattle.tables.specs.Questions.{lettersFit};
-ghost use Rattle.tables.specs.Reply.{reply, after, outcome};
+ghost use Rattle.tables.specs.Answered.{reply, after, outcome};
 ghost use Rattle.grammar.specs.Text.{textTable};
-ghost use Rattle.notation.specs.Text.{hasTextLength, textRefusal};
-ghost use Rattle.notation.specs.Work.{Ready, textWords, earlyRefusal, lateRefusal, valuesRefusal};
+ghost use Rattle.calls.specs.Questions.{hasTextLength};
+ghost use Rattle.calls.specs.GONE.{textRefusal};
+ghost use Rattle.notation.specs.Inner.Work.{Ready, textWords, earlyRefusal, lateRefusal, valuesRefusal};
 
 // The first no of 5, 6 and 7, or 0 and the values of the text. Nothing is written before the answers.
 fn symbol_values(unknowns: usize, givens: usize, text: &[u8], words: &mut [u64]) -> u8

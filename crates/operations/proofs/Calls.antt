@@ -23,7 +23,8 @@ use Rattle.ring.proofs.Bool.{and-left, and-right}
 use Rattle.tables.specs.Questions.{asks, firstNo, tableQuestions, reads, inRange}
 use Rattle.tables.proofs.FirstNo.{yes-to}
 use Rattle.tables.proofs.Questions.{tableRefusal, one-table, table-yes, table-no, fine}
-use Rattle.operations.specs.Calls.{valueRefusal, valueAt, sumTable, productTable, substituteTable}
+use Rattle.calls.specs.GONE.{valueRefusal}
+use Rattle.calls.specs.Operations.{valueAt, sumTable, productTable, substituteTable}
 
 module _ (u g k : ℕ) (a b : List ℕ) (e : k ≡ 2 ^ (u + g)) where
   -- the sum and the product of the parts that count

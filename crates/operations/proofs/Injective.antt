@@ -1,9 +1,9 @@
 -- The reply of a call that gives a value fixes its answer.
 -- Assumes nothing.
 use mathlib.Core.Path.{_≡_}
-use Rattle.operations.specs.declared.Valued.{Valued}
-use Rattle.operations.specs.declared.Valued.the-variants.{Value, Refused}
-use Rattle.operations.specs.Calls.{valued}
+use Rattle.calls.specs.declared.Valued.{Valued}
+use Rattle.calls.specs.declared.Valued.the-variants.{Value, Refused}
+use Rattle.calls.specs.Operations.{valued}
 
 pub valued-injective : (a b : Valued) → valued a ≡ valued b → a ≡ b
 valued-injective (Value v) (Value w) e = cc

@@ -3,7 +3,7 @@
 // They ask the questions and lend the tables that have passed them; the work is `polynomials`'. Their contracts cite the polynomials' own definitions.
 use ring::Choice;
 use ring::State;
-use tables::Outcome;
+use calls::Outcome;
 ghost use mathlib.Core.Path.{_≡_};
 ghost use mathlib.Core.Bool.{_&&_};
 ghost use mathlib.Core.List.{[], _∷_};
@@ -13,8 +13,9 @@ ghost use lib.ListN.{length};
 ghost use Rattle.ring.specs.Letters.{digit};
 ghost use Rattle.ring.specs.Polynomial.{value, within};
 ghost use Rattle.ring.specs.Table.{present};
-ghost use Rattle.tables.specs.Reply.{reply, after, outcome};
-ghost use Rattle.operations.specs.Calls.{valued, valueRefusal, valueAt, pairRefusal, sumTable, productTable, substituteRefusal, substituteTable};
+ghost use Rattle.tables.specs.Answered.{reply, after, outcome};
+ghost use Rattle.calls.specs.Operations.{valued, valueAt, sumTable, productTable, substituteTable};
+ghost use Rattle.calls.specs.GONE.{valueRefusal, pairRefusal, substituteRefusal};
 
 // What the call for a value answers: the value, 0 or 1, or the number of the first no.
 pub enum Valued {

@@ -15,7 +15,7 @@ use Rattle.ring.specs.Letters.{digit}
 use Rattle.ring.specs.Polynomial.{Polynomial}
 use Rattle.words.proofs.Letters.{room}
 use Rattle.order.specs.Order.{keep, order, monomials}
-use Rattle.order.specs.Listing.{tagged, Listed}
+use Rattle.order.specs.Inner.Listing.{tagged, Listed}
 use Rattle.order.proofs.Lists.{keep-append}
 use Rattle.order.proofs.Order.{length-order, order-below, order-fewer}
 

@@ -11,7 +11,7 @@ use lib.Dec.{eqb, ltb, leb}
 use lib.ListN.{length}
 use borrow.Author.Tests.{lt-ltb, ltb-true, leb-true, eqb-true}
 use Rattle.order.specs.Order.{before, order, rises}
-use Rattle.order.specs.Place.{choose, nth, rank}
+use Rattle.order.specs.Inner.Place.{choose, nth, rank}
 use Rattle.ring.proofs.Bool.{and-left, and-right, never}
 use Rattle.ring.proofs.Every.{every-all}
 use Rattle.ring.proofs.Lists.{has-cases}

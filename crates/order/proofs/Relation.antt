@@ -11,7 +11,7 @@ use lib.Arith.{digits-lt}
 use borrow.Author.Tests.{lt-ltb, ltb-true, ltb-false, eqb-true, eq-eqb}
 use Rattle.ring.proofs.Bool.{bool-iff, and-left, and-right, both, or-cases, or-right, bool-cases}
 use Rattle.order.specs.Order.{letters, before}
-use Rattle.order.specs.Place.{rank}
+use Rattle.order.specs.Inner.Place.{rank}
 use Rattle.order.proofs.Letters.{letters-most}
 
 -- fewer letters

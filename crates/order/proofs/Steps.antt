@@ -18,7 +18,7 @@ use Rattle.ring.proofs.Bool.{or-cases}
 use Rattle.ring.proofs.Every.{every-all}
 use Rattle.ring.proofs.Lists.{length-listed, listed-last}
 use Rattle.order.specs.Order.{order}
-use Rattle.order.specs.Place.{choose, nth}
+use Rattle.order.specs.Inner.Place.{choose, nth}
 use Rattle.order.proofs.Letters.{lettersIn}
 use Rattle.order.proofs.Places.{counted, counted-order}
 use Rattle.order.proofs.Order.{length-order}

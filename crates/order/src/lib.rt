@@ -10,8 +10,8 @@ ghost use lib.ListN.{length, take, drop};
 ghost use Rattle.ring.specs.Letters.{digit};
 ghost use Rattle.words.specs.Words.{bitAt};
 ghost use Rattle.order.specs.Order.{letters, order, monomials};
-ghost use Rattle.order.specs.Place.{AreCounts, choose, nth, rank};
-ghost use Rattle.order.specs.Listing.{tagged, Listed};
+ghost use Rattle.order.specs.Inner.Place.{AreCounts, choose, nth, rank};
+ghost use Rattle.order.specs.Inner.Listing.{tagged, Listed};
 
 // How many masks for n letters have k: row n, entry k.
 const COUNTS: [[u8; 11]; 11] = [

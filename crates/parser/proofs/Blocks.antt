@@ -24,7 +24,7 @@ use Rattle.grammar.specs.Reader.{joinsSum, joined}
 use Rattle.words.specs.Words.{wordsOf, lowLetters}
 use Rattle.words.proofs.Words.{word-is, word-lt, word-bit, word-cong}
 use Rattle.words.proofs.Turned.{low-letter, high-letter}
-use Rattle.parser.specs.Blocks.{ones, wordAt, joinOf, paired}
+use Rattle.parser.specs.Inner.Blocks.{ones, wordAt, joinOf, paired}
 
 -- ---- the loops
 module _ (k : ℕ) (xs t : List ℕ) (i : ℕ) where

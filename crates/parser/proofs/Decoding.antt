@@ -18,7 +18,7 @@ use Rattle.ring.proofs.Bool.{and-left, and-right, same-bool}
 use Rattle.ring.proofs.Every.{every-all}
 use Rattle.ring.proofs.Lists.{length-listed}
 use Rattle.grammar.specs.Symbols.{space, foreign, isUnknown, isGiven, isSingle, symbol, symbols, isSign, every, allSigns, isDeclared, allDeclared}
-use Rattle.parser.specs.Questions.{unspaced, isKnown, isLetterDeclared}
+use Rattle.parser.specs.Inner.Questions.{unspaced, isKnown, isLetterDeclared}
 
 -- ---- one byte
 

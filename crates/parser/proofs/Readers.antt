@@ -21,7 +21,7 @@ use Rattle.grammar.specs.Meaning.{atPoint}
 use Rattle.grammar.specs.Reader.{Reading, found, Reader, sum, product, factor, sumFrom, productFrom, andThen, joinsSum, joined, closed, factorAt, reads}
 use Rattle.grammar.proofs.Fixed.{fixed, then-nothing, then-found}
 use Rattle.words.specs.Words.{wordsOf}
-use Rattle.parser.specs.Blocks.{ones, wordAt, letterOf, joinOf, paired, IsUpTo, IsMissing, Agrees}
+use Rattle.parser.specs.Inner.Blocks.{ones, wordAt, letterOf, joinOf, paired, IsUpTo, IsMissing, Agrees}
 use Rattle.parser.specs.declared.Place.{Place}
 use Rattle.parser.specs.declared.Place.the-variants.{Missing, UpTo}
 use Rattle.parser.proofs.Blocks.{front-values, front-joined, size-filled, times-word, sum-word, constant-values, negation-values}

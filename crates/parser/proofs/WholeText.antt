@@ -10,7 +10,7 @@ use lib.Seq.{drop-cons, length-take-le}
 use Rattle.grammar.specs.Meaning.{atPoint}
 use Rattle.grammar.specs.Reader.{sum, reads, isWhole}
 use Rattle.words.specs.Words.{wordsOf}
-use Rattle.parser.specs.Blocks.{IsUpTo, IsMissing, wholeWords}
+use Rattle.parser.specs.Inner.Blocks.{IsUpTo, IsMissing, wholeWords}
 
 module _ (U : ℕ) (s words : List ℕ) where
   pub missing-whole : IsMissing s 0 (reads sum s) → (false ≡ isWhole (reads sum s)) × (words ≡ wholeWords U (reads sum s) words)

@@ -12,8 +12,8 @@ ghost use Rattle.tables.proofs.Filled.{filled};
 ghost use Rattle.grammar.specs.Symbols.{symbol, symbols, every};
 ghost use Rattle.grammar.specs.Reader as reader;
 ghost use Rattle.grammar.specs.Reader.{reads, joinsSum, isWhole};
-ghost use Rattle.parser.specs.Questions.{unspaced, isKnown, isLetterDeclared};
-ghost use Rattle.parser.specs.Blocks.{wordAt, letterOf, joinOf, paired, Agrees, wholeWords};
+ghost use Rattle.parser.specs.Inner.Questions.{unspaced, isKnown, isLetterDeclared};
+ghost use Rattle.parser.specs.Inner.Blocks.{wordAt, letterOf, joinOf, paired, Agrees, wholeWords};
 
 // A symbol is a number: unknown j is j, given i is GIVEN + i, every other sign is its own byte.
 const GIVEN: u8 = 8;

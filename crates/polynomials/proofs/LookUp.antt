@@ -30,7 +30,7 @@ use Rattle.words.proofs.Words.{word-cong, bit-at, at-known}
 use Rattle.words.proofs.Holds.{Holds, word-holds, and-holds, xor-holds, also-holds, holds-word, constant-holds}
 use Rattle.words.proofs.Letters.{room, points, table-back}
 use Rattle.words.proofs.Parts.{part-point, answer-at}
-use Rattle.polynomials.specs.LookUp.{chosen, putFor}
+use Rattle.polynomials.specs.Inner.LookUp.{chosen, putFor}
 
 -- the letters from j on of the point that B makes
 pub above : (ℕ → Bool) → ℕ → ℕ

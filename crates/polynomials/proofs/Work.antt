@@ -21,7 +21,7 @@ use Rattle.words.specs.Words.{wordOf, wordsOf, bitAt, answerWords}
 use Rattle.words.proofs.Words.{words-cong, at-known, size-words}
 use Rattle.words.proofs.Letters.{room, table-back}
 use Rattle.words.proofs.Parts.{part-length, parts-end, words-parts}
-use Rattle.polynomials.specs.LookUp.{putFor}
+use Rattle.polynomials.specs.Inner.LookUp.{putFor}
 
 pub sum-done : (n : ℕ) (a b o₁ o₂ : List ℕ) → IsTable n a → o₁ ≡ a → o₂ ≡ tabulate (length o₁) (sum (present o₁) (present b))
     → o₂ ≡ table n (sum (present a) (present b))

@@ -1,1 +1,1 @@
-pub mod LookUp
+pub mod Inner

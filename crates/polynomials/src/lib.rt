@@ -10,7 +10,7 @@ ghost use Rattle.ring.specs.Lists.{listed};
 ghost use Rattle.ring.specs.Polynomial.{sum, product, substitute};
 ghost use Rattle.ring.specs.Table.{AreBits, IsTable, present, table, held, forUnknowns};
 ghost use Rattle.words.specs.Words.{wordOf, wordsOf, bitAt, answerWords};
-ghost use Rattle.polynomials.specs.LookUp.{chosen, putFor};
+ghost use Rattle.polynomials.specs.Inner.LookUp.{chosen, putFor};
 
 // The sum of two tables, into a third.
 pub fn add(n: usize, a: &[u8], b: &[u8], out: &mut [u8])

@@ -4,8 +4,8 @@ use mathlib.Core.Path.{_≡_, _∙_}
 use mathlib.Core.List.{List, [], _∷_, _++_, append-assoc}
 use Prim.Native.Nat.{ℕ, _+_, _<_}
 use lib.ListN.{length, set}
-use Rattle.tables.specs.Put.{Put}
-use Rattle.tables.specs.Reply.{accepted}
+use Rattle.tables.specs.Inner.Put.{Put}
+use Rattle.tables.specs.Answered.{accepted}
 use Rattle.tables.proofs.Put.{put-both, put-one, put-same}
 use Rattle.io.specs.Digits.{digits, Fewest}
 use Rattle.printing.specs.Print.{lineFeed, decimal, refusedWord, spaced, refusedLine, replyLine}

@@ -10,11 +10,11 @@ use lib.Dec.{ltb}
 use lib.ListN.{length, length-append}
 use borrow.Author.Tests.{ltb-true}
 use Rattle.ring.proofs.Bool.{and-left, and-right}
-use Rattle.tables.specs.Put.{Put}
+use Rattle.tables.specs.Inner.Put.{Put}
 use Rattle.tables.proofs.Put.{put-same}
 use Rattle.entry.specs.declared.Record.{Record}
 use Rattle.entry.specs.Record.{recordBytes, bytes, size}
-use Rattle.entry.specs.Codes.{monomialRecord, recordOf}
+use Rattle.entry.specs.Inner.Codes.{monomialRecord, recordOf}
 use Rattle.entry.specs.Held.{allWhole}
 use Rattle.entry.proofs.Codes.{each}
 use Rattle.printing.specs.Print.{lineFeed, hexadecimal, recordLines}

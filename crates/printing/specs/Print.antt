@@ -5,7 +5,7 @@ use mathlib.Core.List.{List, [], _∷_, _++_}
 use Prim.Native.Nat.{ℕ, zero, suc, _+_, _/_, _%_}
 use lib.Dec.{ltb}
 use Rattle.grammar.specs.Symbols.{space}
-use Rattle.tables.specs.Reply.{Reply, accepted, refused}
+use Rattle.tables.specs.Answered.{Reply, accepted, refused}
 use Rattle.entry.specs.declared.Record.{Record}
 use Rattle.entry.specs.Record.{recordBytes}
 

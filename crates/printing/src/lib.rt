@@ -4,9 +4,9 @@ ghost use mathlib.Core.Path.{_≡_};
 ghost use mathlib.Core.List.{[], _∷_, _++_, map};
 ghost use Prim.Native.Nat.{_+_, _*_, _≤_, _<_};
 ghost use lib.ListN.{length};
-ghost use Rattle.tables.specs.Put.{Put};
-ghost use Rattle.tables.specs.Reply.{accepted};
-ghost use Rattle.entry.specs.Codes.{recordOf};
+ghost use Rattle.tables.specs.Inner.Put.{Put};
+ghost use Rattle.tables.specs.Answered.{accepted};
+ghost use Rattle.entry.specs.Inner.Codes.{recordOf};
 ghost use Rattle.printing.specs.Print.{lineFeed, decimal, digitByte, hexadecimal, recordLines, unreadableLine, refusedWord, refusedLine, replyLine};
 
 fn put(out: &mut [u8], at: usize, bytes: &[u8]) -> usize

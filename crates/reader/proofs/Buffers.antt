@@ -14,7 +14,7 @@ use Rattle.ring.specs.declared.State.{State}
 use Rattle.ring.specs.Table.{tabulate, table, answerTable}
 use Rattle.ring.proofs.Table.{length-tabulate, length-table, length-answerTable}
 use Rattle.tables.specs.Questions.{firstNo, lettersFit, hasRoom, haveRoom}
-use Rattle.tables.specs.Reply.{accepted, after}
+use Rattle.tables.specs.Answered.{accepted, after}
 use Rattle.tables.proofs.FirstNo.{first-counts}
 use Rattle.tables.proofs.Parts.{answers-fit}
 use Rattle.tables.proofs.Questions.{letters-small, unknowns-small}
@@ -24,14 +24,15 @@ use Rattle.entry.specs.Held.{records, unknownsOf, givensOf, conditionIn, answer
 use Rattle.entry.specs.Questions.{numbersFit, entryQuestions, readQuestions}
 use Rattle.entry.proofs.Places.{numbers-by-places}
 use Rattle.entry.proofs.Passes.{Passes, passes, then-asked}
-use Rattle.records.specs.declared.Heading.{Heading}
-use Rattle.records.specs.Headings.{lengthUsed, headingOf, said}
+use Rattle.calls.specs.declared.Heading.{Heading}
+use Rattle.records.specs.Inner.Headings.{lengthUsed, headingOf, said}
 use Rattle.records.proofs.Headings.{heading-u, heading-g, said-none, said-solved}
-use Rattle.reader.specs.declared.Read.the-variants.{Solved, None, Refused}
-use Rattle.records.specs.declared.Said.{Said}
-use Rattle.records.specs.declared.Said.the-variants as said-variants
-use Rattle.reader.specs.Reading.{readRefusal, readValues, stateOf, answersOf, heldAnswers}
-use Rattle.reader.specs.Filling.{zeros, putMonomial, filled, roomFor, Fitting, Reads}
+use Rattle.calls.specs.declared.Read.the-variants.{Solved, None, Refused}
+use Rattle.calls.specs.declared.Verdict.{Said}
+use Rattle.calls.specs.declared.Verdict.the-variants as said-variants
+use Rattle.calls.specs.GONE.{readRefusal, heldAnswers}
+use Rattle.calls.specs.Entries.{readValues, stateOf, answersOf}
+use Rattle.reader.specs.Inner.Filling.{zeros, putMonomial, filled, roomFor, Fitting, Reads}
 use Rattle.reader.proofs.Filling.{filled-condition, filled-answers, filled-nothing}
 
 -- ---- a buffer whose front was cleared

@@ -22,12 +22,12 @@ use Rattle.entry.specs.declared.Record.the-variants.{Start, Condition, Answer, 
 use Rattle.entry.specs.Record.{size, kind, isEnd, isMonomial, maskIn, tableIn}
 use Rattle.entry.specs.Held.{next, records, hasMonomial, conditionIn, answersIn}
 use Rattle.entry.specs.Questions.{inBounds}
-use Rattle.entry.specs.Places.{placeOf, fitsBehind}
+use Rattle.entry.specs.Inner.Places.{placeOf, fitsBehind}
 use Rattle.entry.proofs.Records.{records-none, here-none, here}
 use Rattle.entry.proofs.Places.{mask-in-bounds}
 use Rattle.entry.proofs.Unique.{fits-bounds, fits-rest}
 use Rattle.records.proofs.Loops.{on-fits}
-use Rattle.reader.specs.Filling.{zeros, putMonomial, filled, Fitting}
+use Rattle.reader.specs.Inner.Filling.{zeros, putMonomial, filled, Fitting}
 
 -- ---- one record
 module _ (k : ℕ) {r : Record} (t : List ℕ) where

@@ -2,10 +2,10 @@
 -- Assumes nothing.
 use mathlib.Core.Path.{_≡_, ap, ap₂}
 use Prim.Native.Nat.{ℕ}
-use Rattle.records.specs.declared.Heading.{Heading}
-use Rattle.reader.specs.declared.Read.{Read}
-use Rattle.reader.specs.declared.Read.the-variants.{Solved, None, Refused}
-use Rattle.reader.specs.Reading.{reading}
+use Rattle.calls.specs.declared.Heading.{Heading}
+use Rattle.calls.specs.declared.Read.{Read}
+use Rattle.calls.specs.declared.Read.the-variants.{Solved, None, Refused}
+use Rattle.calls.specs.Entries.{reading}
 
 -- headings with the same four values are one
 pub same-heading : (h k : Heading) → h .route ≡ k .route → h .unknowns ≡ k .unknowns → h .givens ≡ k .givens → h .used ≡ k .used → h ≡ k

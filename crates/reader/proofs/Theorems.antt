@@ -7,14 +7,16 @@ use Prim.Native.Nat.{ℕ, _+_, _*_, _^_}
 use lib.Dec.{leb}
 use lib.ListN.{length}
 use Rattle.ring.specs.declared.State.{State}
-use Rattle.tables.specs.Reply.{after}
-use Rattle.solution.specs.Elimination.{none, defaultOrder, solve}
+use Rattle.tables.specs.Answered.{after}
+use Rattle.solution.specs.Condition.{defaultOrder}
+use Rattle.solution.specs.Elimination.{none, solve}
 use Rattle.entry.specs.declared.Record.{Record}
 use Rattle.entry.specs.Entry.{entry}
 use Rattle.entry.specs.Held.{records, heldVerdict}
 use Rattle.entry.proofs.Theorems.{ReadsBack}
 use Rattle.reader.proofs.Buffers.{then-4}
-use Rattle.reader.specs.Reading.{stateOf, answersOf, readRefusal, readValues, heldAnswers}
+use Rattle.calls.specs.Entries.{stateOf, answersOf, readValues}
+use Rattle.calls.specs.GONE.{readRefusal, heldAnswers}
 
 -- bytes in which a written entry is found, as `reads-back` finds it whatever stands behind it
 module _ {route U G : ℕ} {t : List ℕ} (bs : List ℕ) (r : ReadsBack route U G t (records bs)) where

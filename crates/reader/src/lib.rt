@@ -6,15 +6,16 @@ ghost use Prim.Native.Nat.{_+_, _*_, _^_, _≤_};
 ghost use lib.ListN.{length, set};
 ghost use Rattle.ring.specs.Table.{table, answerTable};
 ghost use Rattle.tables.specs.Questions.{firstNo};
-ghost use Rattle.tables.specs.Reply.{reply, after};
+ghost use Rattle.tables.specs.Answered.{reply, after};
 ghost use Rattle.entry.specs.Held.{records, conditionIn, answersIn, heldCondition, heldVerdict};
 ghost use Rattle.entry.specs.Questions.{inBounds, entryQuestions};
-ghost use Rattle.records.specs.Headings.{headingOf, said};
-ghost use Rattle.reader.specs.Reading.{reading, readRefusal, readValues, heldAnswers};
-ghost use Rattle.reader.specs.Filling.{putMonomial, filled, zeros, roomFor, Fitting, Reads};
+ghost use Rattle.records.specs.Inner.Headings.{headingOf, said};
+ghost use Rattle.calls.specs.Entries.{reading, readValues};
+ghost use Rattle.calls.specs.GONE.{readRefusal, heldAnswers};
+ghost use Rattle.reader.specs.Inner.Filling.{putMonomial, filled, zeros, roomFor, Fitting, Reads};
 use entry::Record;
-use records::Heading;
-use records::Said;
+use calls::Heading;
+use calls::Verdict;
 use ring::State;
 
 // What reading answers: the heading of a solved entry, or of one that says 'none', with the state, or the number of the first no.

@@ -18,16 +18,16 @@ use Rattle.entry.specs.declared.Record.the-variants.{Start, Condition, Answer, 
 use Rattle.entry.specs.Record.{bytes, kind, isEnd, isNone, routeIn, unknownsIn, givensIn, stateIn}
 use Rattle.entry.specs.Held.{next, records, first, routeOf, unknownsOf, givensOf, unlessNone, heldVerdict}
 use Rattle.entry.specs.Questions.{hasEnd, mayFollow, kindsFollow, kindsFit, inBounds, numbersFit, entryQuestions}
-use Rattle.entry.specs.Places.{placeOf, standsBehind, fitsBehind}
+use Rattle.entry.specs.Inner.Places.{placeOf, standsBehind, fitsBehind}
 use Rattle.entry.proofs.Records.{first-next, some-bytes}
 use Rattle.entry.proofs.Canonical.{endsThere, records-end, isEmpty}
 use Rattle.entry.proofs.Places.{numbers-by-places}
-use Rattle.records.specs.declared.Said.{Said}
-use Rattle.records.specs.declared.Said.the-variants as said-variants
+use Rattle.calls.specs.declared.Verdict.{Said}
+use Rattle.calls.specs.declared.Verdict.the-variants as said-variants
 use Rattle.records.specs.declared.Seen.{Seen}
 use Rattle.records.specs.declared.Gathered.{Gathered}
-use Rattle.records.specs.Headings.{lengthUsed, headingOf, said}
-use Rattle.records.specs.Gathering.{within, saidFirst, seenRecord, seenAll, nothingSeen, gathered, saidBy, gatheredQuestions, surveyOf}
+use Rattle.records.specs.Inner.Headings.{lengthUsed, headingOf, said}
+use Rattle.records.specs.Inner.Gathering.{within, saidFirst, seenRecord, seenAll, nothingSeen, gathered, saidBy, gatheredQuestions, surveyOf}
 
 -- ---- question 11
 module _ (route U masks states : ℕ) where

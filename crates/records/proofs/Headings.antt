@@ -10,9 +10,9 @@ use Rattle.solution.specs.Elimination.{Verdict, solved, none}
 use Rattle.entry.specs.declared.Record.{Record}
 use Rattle.entry.specs.Held.{unknownsOf, givensOf, unlessNone}
 use Rattle.entry.proofs.Canonical.{unless-cases}
-use Rattle.records.specs.declared.Heading.{Heading}
-use Rattle.records.specs.declared.Said.the-variants as said-variants
-use Rattle.records.specs.Headings.{headingOf, said}
+use Rattle.calls.specs.declared.Heading.{Heading}
+use Rattle.calls.specs.declared.Verdict.the-variants as said-variants
+use Rattle.records.specs.Inner.Headings.{headingOf, said}
 
 -- ---- the heading
 module _ (rs : List Record) {h : Heading} (eh : h ≡ headingOf rs) where

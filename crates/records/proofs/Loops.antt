@@ -19,8 +19,8 @@ use Rattle.entry.proofs.Records.{records-none, here-none, here, fits-at}
 use Rattle.entry.proofs.Canonical.{endsThere, records-end, isEmpty}
 use Rattle.records.specs.declared.Seen.{Seen}
 use Rattle.records.specs.declared.Gathered.{Gathered}
-use Rattle.records.specs.Headings.{lengthUsed}
-use Rattle.records.specs.Gathering.{seenRecord, seenAll, nothingSeen, gathered}
+use Rattle.records.specs.Inner.Headings.{lengthUsed}
+use Rattle.records.specs.Inner.Gathering.{seenRecord, seenAll, nothingSeen, gathered}
 
 -- ---- the length used
 -- where the first kind 4 ends, counted from `at`

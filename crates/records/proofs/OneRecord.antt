@@ -12,17 +12,17 @@ use borrow.Author.Tests.{le-leb, lt-leb, lt-ltb, ltb-true, ne-eqb, not-true, not
 use Rattle.ring.proofs.Bool.{and-right}
 use Rattle.tables.specs.Questions.{firstNo}
 use Rattle.tables.proofs.Questions.{failed, passed}
-use Rattle.order.specs.Place.{rank}
+use Rattle.order.specs.Inner.Place.{rank}
 use Rattle.entry.specs.declared.Record.{Record}
 use Rattle.entry.specs.declared.Record.the-variants.{Start, Condition, Answer, End, None, Broken}
 use Rattle.entry.specs.Held.{next}
 use Rattle.entry.specs.Questions.{routeFits, mayFollow}
-use Rattle.entry.specs.Places.{place, placeOf, standsBehind}
+use Rattle.entry.specs.Inner.Places.{place, placeOf, standsBehind}
 use Rattle.entry.proofs.Places.{rank-small}
-use Rattle.records.specs.declared.Said.the-variants as said-variants
+use Rattle.calls.specs.declared.Verdict.the-variants as said-variants
 use Rattle.records.specs.declared.Seen.{Seen}
 use Rattle.records.specs.declared.Gathered.{Gathered}
-use Rattle.records.specs.Gathering.{endFollows, saidFirst, seenMonomial, seenRecord, saidBy, gatheredQuestions}
+use Rattle.records.specs.Inner.Gathering.{endFollows, saidFirst, seenMonomial, seenRecord, saidBy, gatheredQuestions}
 
 same : {A : Type 0} (b : Bool) (a : A) → cond b a a ≡ a
 same true a = refl

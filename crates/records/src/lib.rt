@@ -9,7 +9,7 @@ ghost use Rattle.tables.specs.Questions.{firstNo};
 ghost use Rattle.entry.specs.Record.{size, kind, routeIn, unknownsIn, givensIn};
 ghost use Rattle.entry.specs.Held.{next, records};
 ghost use Rattle.entry.specs.Questions.{mayFollow};
-ghost use Rattle.records.specs.Gathering.{endFollows, saidFirst, seenMonomial, seenRecord, gathered, saidBy, gatheredQuestions, surveyOf};
+ghost use Rattle.records.specs.Inner.Gathering.{endFollows, saidFirst, seenMonomial, seenRecord, gathered, saidBy, gatheredQuestions, surveyOf};
 use entry::Record;
 use ring::State;
 

@@ -10,11 +10,11 @@ use lib.Seq.{take-all, take-add, length-take-le}
 use Rattle.tables.proofs.Slices.{rest-of}
 use Rattle.streams.specs.declared.Got.{Got}
 use Rattle.streams.specs.declared.Got.the-variants.{Bytes, End, Failed}
-use Rattle.streams.specs.Got.{gotBytes, gotSome, gotFailed, gotWithin}
+use Rattle.streams.specs.Inner.Got.{gotBytes, gotSome, gotFailed, gotWithin}
 use Rattle.sheet_lines.specs.declared.Fed.{Fed}
 use Rattle.sheet_lines.specs.Sheet.{sheet}
 use Rattle.sheet_lines.specs.Pieces.{Carried, carryAll, printsAll, printsLast, nothingCarried, joined, printsPieces}
-use Rattle.sheet_lines.specs.Feeding.{carried, Feeds}
+use Rattle.sheet_lines.specs.Inner.Feeding.{carried, Feeds}
 use Rattle.sheet_lines.proofs.Pieces.{carry-append, prints-append, sheet-in-pieces}
 use Rattle.sheet.specs.Running.{Advances, Takes, Ran}
 

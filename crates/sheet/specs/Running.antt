@@ -8,7 +8,7 @@ use mathlib.Core.List.{List}
 use Prim.Native.Nat.{ℕ, _+_}
 use lib.ListN.{length}
 use Rattle.streams.specs.declared.Got.{Got}
-use Rattle.streams.specs.Got.{gotBytes, gotSome, gotFailed}
+use Rattle.streams.specs.Inner.Got.{gotBytes, gotSome, gotFailed}
 use Rattle.sheet_lines.specs.Sheet.{sheet}
 use Rattle.sheet_lines.specs.Pieces.{Carried, carryAll, printsAll}
 

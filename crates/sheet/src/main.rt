@@ -17,8 +17,8 @@ ghost use mathlib.Core.Path.{_≡_};
 ghost use Prim.Native.Nat.{_+_, _-_, _≤_, _<_};
 ghost use lib.ListN.{length, take};
 ghost use Rattle.sheet_lines.specs.Pieces.{keptLength};
-ghost use Rattle.sheet_lines.specs.Feeding.{lineRoom, carried};
-ghost use Rattle.streams.specs.Got.{gotWithin};
+ghost use Rattle.sheet_lines.specs.Inner.Feeding.{lineRoom, carried};
+ghost use Rattle.streams.specs.Inner.Got.{gotWithin};
 ghost use Rattle.sheet.specs.Running.{Advances, Takes, Ran};
 
 // How far a run has come: whether the input goes on, whether a read or a write has failed, how many bytes were read and written, how

@@ -15,7 +15,7 @@ use Rattle.ring.specs.Table.{table, present}
 use Rattle.ring.proofs.Bool.{and-left, and-right}
 use Rattle.ring.proofs.Table.{table-cong}
 use Rattle.ring.proofs.Value.{value-cong, involution}
-use Rattle.tables.specs.Put.{Put}
+use Rattle.tables.specs.Inner.Put.{Put}
 use Rattle.tables.specs.Questions.{lettersFit}
 use Rattle.tables.proofs.Put.{put-length, put-both, put-same}
 use Rattle.tables.proofs.Questions.{letters-small, unknowns-small}
@@ -23,25 +23,25 @@ use Rattle.words.specs.Words.{wordsOf, bitAt}
 use Rattle.words.proofs.Words.{at-known, words-cong, size-words}
 use Rattle.words.proofs.Letters.{room}
 use Rattle.grammar.specs.Text.{textTable}
-use Rattle.notation.specs.Work.{textWords}
+use Rattle.notation.specs.Inner.Work.{textWords}
 use Rattle.notation.proofs.Values.{table-text}
 use Rattle.order.specs.Order.{order}
 use Rattle.entry.specs.declared.Record.{Record}
 use Rattle.entry.specs.declared.Record.the-variants as records
 use Rattle.entry.specs.Record.{recordBytes, size}
-use Rattle.entry.specs.Codes.{recordOf}
+use Rattle.entry.specs.Inner.Codes.{recordOf}
 use Rattle.entry.specs.Entry.{archivedRecords, entry}
 use Rattle.entry.specs.Questions.{routeFits}
 use Rattle.entry.proofs.Back.{written-whole}
 use Rattle.entry.proofs.Theorems.{entry-bound}
 use Rattle.writer.specs.declared.Listing.{Listing}
 use Rattle.writer.specs.declared.Listing.the-variants.{Solved, None}
-use Rattle.writer.specs.Steps.{countOf, noneOf, entryFrom, Lists, Listable}
+use Rattle.writer.specs.Inner.Steps.{countOf, noneOf, entryFrom, Lists, Listable}
 use Rattle.writer.proofs.Entries.{transformed}
 use Rattle.writer.proofs.Parts.{ordered}
 use Rattle.printing.specs.Print.{lineFeed, hexadecimal, recordLines}
 use Rattle.printing.proofs.Records.{lines-append, line-of, line-length, lines-most}
-use Rattle.sheet_lines.specs.Feeding.{lineRoom, tableOf, IsValues}
+use Rattle.sheet_lines.specs.Inner.Feeding.{lineRoom, tableOf, IsValues}
 
 pub givens-small : (U G : ℕ) → lettersFit U G ≡ true → G ≤ 8
 unfolding lettersFit

@@ -12,7 +12,7 @@ use lib.ListN.{length, getD, take, drop, set, length-append, length-set}
 use lib.Seq.{take-suc, take-all, take-suc-set, take-append-le, length-take-le}
 use borrow.Author.Tests.{eq-eqb, ne-eqb}
 use Rattle.ring.proofs.Bool.{bool-cases}
-use Rattle.tables.specs.Put.{Put}
+use Rattle.tables.specs.Inner.Put.{Put}
 use Rattle.tables.proofs.Put.{put-none, put-both, put-same}
 use Rattle.tables.proofs.Slices.{rest-of}
 use Rattle.printing.specs.Print.{unreadableLine}
@@ -23,7 +23,7 @@ use Rattle.sheet_lines.specs.declared.Fed.{Fed}
 use Rattle.sheet_lines.specs.Fields.{digitsAhead, isReadable, fields, readLine}
 use Rattle.sheet_lines.specs.Sheet.{printedFor, lastFor, printed, lastBehind}
 use Rattle.sheet_lines.specs.Pieces.{Carried, keptLength, carry, prints, carryAll, printsAll, printsLast}
-use Rattle.sheet_lines.specs.Feeding.{lineRoom, Answers, PrintsLine, carried, Took, Feeds}
+use Rattle.sheet_lines.specs.Inner.Feeding.{lineRoom, Answers, PrintsLine, carried, Took, Feeds}
 use Rattle.sheet_lines.proofs.Fields.{readable-fits}
 use Rattle.sheet_lines.proofs.Pieces.{carry-append, prints-append}
 

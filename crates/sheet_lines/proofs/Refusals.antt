@@ -6,20 +6,20 @@ use mathlib.Core.List.{List, [], _∷_, _++_}
 use Prim.Native.Nat.{ℕ, zero, suc, _≤_, _<_}
 use lib.Dec.{ltb}
 use borrow.Author.Tests.{lt-ltb, le-ltb}
-use Rattle.tables.specs.Put.{Put}
+use Rattle.tables.specs.Inner.Put.{Put}
 use Rattle.tables.specs.Questions.{asks, firstNo, lettersFit}
 use Rattle.tables.proofs.FirstNo.{yes-to, first-counts}
 use Rattle.tables.proofs.Questions.{failed}
 use Rattle.grammar.specs.Symbols.{allSigns, allDeclared}
 use Rattle.grammar.specs.Reader.{grammarReads}
 use Rattle.grammar.specs.Text.{textTable}
-use Rattle.notation.specs.Text.{hasTextLength}
-use Rattle.notation.specs.Work.{symbolQuestions, valuesRefusal}
+use Rattle.calls.specs.Questions.{hasTextLength}
+use Rattle.notation.specs.Inner.Work.{symbolQuestions, valuesRefusal}
 use Rattle.entry.specs.Entry.{archivedRecords}
 use Rattle.entry.specs.Questions.{routeFits}
 use Rattle.printing.specs.Print.{recordLines, refusedLine}
 use Rattle.sheet_lines.specs.Sheet.{lineQuestions, lineRefusal, answerLines, routeBehind}
-use Rattle.sheet_lines.specs.Feeding.{Answers}
+use Rattle.sheet_lines.specs.Inner.Feeding.{Answers}
 
 -- ---- the first no of a line
 module _ (last route U G : ℕ) (text : List ℕ) where

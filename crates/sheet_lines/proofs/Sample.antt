@@ -12,9 +12,10 @@ use Rattle.grammar.specs.Symbols.{symbol, symbols, isUnknown, isGiven, isSingle
 use Rattle.grammar.specs.Meaning.{normalForm}
 use Rattle.grammar.specs.Reader.{reads, readWith, andThen, grammarReads, treeOf}
 use Rattle.grammar.specs.Text.{textTable}
-use Rattle.notation.specs.Text.{hasTextLength}
+use Rattle.calls.specs.Questions.{hasTextLength}
 use Rattle.order.specs.Order.{letters, keep, below, groups, order, monomials}
-use Rattle.solution.specs.Elimination.{nextCondition, remains, answerFrom, booleAnswers, defaultOrder, smallestBelow, blocked, smallestBlocked, isZero, solvable, solve}
+use Rattle.solution.specs.Condition.{defaultOrder}
+use Rattle.solution.specs.Elimination.{nextCondition, remains, answerFrom, booleAnswers, smallestBelow, blocked, smallestBlocked, isZero, solvable, solve}
 use Rattle.entry.specs.Entry.{conditionRecords, answerRecords, verdictRecords, entryRecords}
 use Rattle.entry.specs.Questions.{routeFits}
 use Rattle.printing.specs.Print.{digitByte, hexadecimal, recordLines}

@@ -1,4 +1,4 @@
 pub mod Fields
 pub mod Sheet
 pub mod Pieces
-pub mod Feeding
+pub mod Inner

@@ -9,7 +9,7 @@ use Rattle.tables.specs.Questions.{Asked, asks, firstNo, lettersFit}
 use Rattle.grammar.specs.Symbols.{allSigns, allDeclared}
 use Rattle.grammar.specs.Reader.{grammarReads}
 use Rattle.grammar.specs.Text.{textTable}
-use Rattle.notation.specs.Text.{hasTextLength}
+use Rattle.calls.specs.Questions.{hasTextLength}
 use Rattle.entry.specs.declared.Record.{Record}
 use Rattle.entry.specs.Entry.{archivedRecords}
 use Rattle.entry.specs.Questions.{routeFits}

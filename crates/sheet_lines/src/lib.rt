@@ -6,20 +6,20 @@ ghost use mathlib.Core.Bool.{true};
 ghost use mathlib.Core.List.{[], _∷_, map};
 ghost use Prim.Native.Nat.{_+_, _-_, _^_, _≤_, _<_};
 ghost use lib.ListN.{length};
-ghost use Rattle.tables.specs.Put.{Put};
+ghost use Rattle.tables.specs.Inner.Put.{Put};
 ghost use Rattle.tables.specs.Questions.{lettersFit};
-ghost use Rattle.notation.specs.Work.{textWords};
+ghost use Rattle.notation.specs.Inner.Work.{textWords};
 ghost use Rattle.order.specs.Order.{order};
 ghost use Rattle.entry.specs.declared.Record.the-variants.{Start, End, None};
-ghost use Rattle.entry.specs.Codes.{recordOf};
+ghost use Rattle.entry.specs.Inner.Codes.{recordOf};
 ghost use Rattle.entry.specs.Entry.{archivedRecords};
 ghost use Rattle.entry.specs.Questions.{routeFits};
-ghost use Rattle.writer.specs.Steps.{countOf, entryFrom};
+ghost use Rattle.writer.specs.Inner.Steps.{countOf, entryFrom};
 ghost use Rattle.printing.specs.Print.{recordLines};
 ghost use Rattle.sheet_lines.specs.Fields.{isDigit, digitsAhead, numberBehind, hasLetters, isReadable, readLine};
 ghost use Rattle.sheet_lines.specs.Sheet.{lineRefusal};
 ghost use Rattle.sheet_lines.specs.Pieces.{keptLength, printsLast};
-ghost use Rattle.sheet_lines.specs.Feeding.{lineRoom, tableOf, IsValues, Answers, PrintsLine, carried, Took, Feeds};
+ghost use Rattle.sheet_lines.specs.Inner.Feeding.{lineRoom, tableOf, IsValues, Answers, PrintsLine, carried, Took, Feeds};
 use writer::Listing;
 
 const LONGEST_LINE: usize = 300; // 'lines over 300 bytes without the line feed' are unreadable

@@ -18,9 +18,10 @@ use Rattle.ring.proofs.Value.{value-cong, value-none, same-values}
 use Rattle.ring.proofs.Every.{every-all, every-of, every-not}
 use Rattle.solution.specs.Letters.{Letter, HoldsGivens, Valuation}
 use Rattle.solution.specs.Substitution.{Substitution, MakesZero}
-use Rattle.solution.specs.Elimination.{remains, IsOrder, blocked, smallestBlocked, isZero, solvable}
+use Rattle.solution.specs.Condition.{IsOrder}
+use Rattle.solution.specs.Elimination.{remains, blocked, smallestBlocked, isZero, solvable}
 use Rattle.solution.specs.General.{Blocked, SmallestBlocked}
-use Rattle.solution.specs.ByPoints.{answeredThrough}
+use Rattle.solution.specs.Inner.ByPoints.{answeredThrough}
 use Rattle.solution.proofs.Elimination.{remains-none, remains-outside, solves, answered-lt, answered-kept}
 use Rattle.solution.proofs.Letters.{replacedValue, value-putIn, valuation, valuation-letter}
 use Rattle.solution.proofs.General.{in-order, remains-values}

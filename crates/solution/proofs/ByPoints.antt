@@ -17,7 +17,7 @@ use Rattle.ring.proofs.Value.{same-values}
 use Rattle.ring.proofs.Substitute.{value-constant, value-forUnknowns}
 use Rattle.solution.specs.Substitution.{Substitution, ownLetters, putIn}
 use Rattle.solution.specs.Elimination.{booleAnswers, particular, ownLowenheim}
-use Rattle.solution.specs.ByPoints.{zeroChoice}
+use Rattle.solution.specs.Inner.ByPoints.{zeroChoice}
 use Rattle.solution.proofs.Values.{value-lowenheim}
 use Rattle.solution.proofs.General.{led, value-putIn-own}
 

@@ -14,7 +14,7 @@ use Rattle.ring.specs.Polynomial.{_⊕_}
 use Rattle.ring.specs.Lists.{has}
 use Rattle.ring.proofs.Lists.{has-first, has-rest}
 use Rattle.ring.proofs.Points.{assign-bit, bit-assign, bit-assign-other, assign-lt, same-letters}
-use Rattle.solution.specs.ByPoints.{chosenValue, bothCases, remainsThrough, chosenPoint, answeredThrough}
+use Rattle.solution.specs.Inner.ByPoints.{chosenValue, bothCases, remainsThrough, chosenPoint, answeredThrough}
 
 -- where not both cases give 1, the chosen value gives 0
 pub chosen-solves : (e : Bool → Bool) (x : Bool) → (e true && e false) ≡ false → e (chosenValue (e true) (e false) x) ≡ false

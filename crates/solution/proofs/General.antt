@@ -17,9 +17,10 @@ use Rattle.ring.proofs.Value.{value-cong}
 use Rattle.ring.proofs.Points.{pointWhere-cong, bit-pointWhere, pointWhere-lt, pointWhere-bits}
 use Rattle.solution.specs.Letters.{Letter, HoldsGivens, Valuation, valueOver}
 use Rattle.solution.specs.Substitution.{Substitution, letterAt, ownLetters, putIn, MakesZero, InstanceOf}
-use Rattle.solution.specs.Elimination.{booleAnswers, remains, IsOrder, lowenheim, particular}
+use Rattle.solution.specs.Condition.{IsOrder}
+use Rattle.solution.specs.Elimination.{booleAnswers, remains, lowenheim, particular}
 use Rattle.solution.specs.General.{General, InstancesOfEachOther}
-use Rattle.solution.specs.ByPoints.{remainsThrough, answeredThrough}
+use Rattle.solution.specs.Inner.ByPoints.{remainsThrough, answeredThrough}
 use Rattle.solution.proofs.Elimination.{solves, reproduces, answered-lt, answered-kept}
 use Rattle.solution.proofs.Values.{value-remains, value-answers, value-lowenheim}
 use Rattle.solution.proofs.Letters.{replacedValue, replacedValue-unknown, value-putIn, own-holds, ownPoint, value-own, valuation, ownPoint-valuation}

@@ -14,7 +14,8 @@ use Rattle.ring.specs.Lists.{listed}
 use Rattle.ring.proofs.Substitute.{value-letter}
 use Rattle.solution.specs.Letters.{Letter, unknown, given, other, holds, HoldsGivens, place, Valuation, pointOf, valueOver}
 use Rattle.solution.specs.Substitution.{Substitution, letterAt, ownLetters, putIn, MakesZero, InstanceOf}
-use Rattle.solution.specs.Elimination.{defaultOrder, Verdict, solved, none}
+use Rattle.solution.specs.Condition.{defaultOrder}
+use Rattle.solution.specs.Elimination.{Verdict, solved, none}
 use Rattle.solution.specs.General.{RightVerdict}
 use Rattle.solution.proofs.Letters.{replacedValue, value-putIn, bit-place}
 

@@ -7,7 +7,8 @@ use Rattle.ring.specs.Table.{present, tabulate, answerTable}
 use Rattle.ring.specs.Lists.{listed}
 use Rattle.solution.specs.Letters.{place}
 use Rattle.solution.specs.Substitution.{letterAt, ownLetters, putIn}
-use Rattle.solution.specs.Elimination.{nextCondition, remains, answerFrom, booleAnswers, particular, lowenheim, ownLowenheim, defaultOrder, smallestBelow, blocked, smallestBlocked, isZero, solvable, solve}
+use Rattle.solution.specs.Condition.{defaultOrder}
+use Rattle.solution.specs.Elimination.{nextCondition, remains, answerFrom, booleAnswers, particular, lowenheim, ownLowenheim, smallestBelow, blocked, smallestBlocked, isZero, solvable, solve}
 use Rattle.solution.specs.BenchTable.{starredRows, furtherRows, AllHold, end, _also_}
 
 pub starred-rows-hold : AllHold starredRows

@@ -13,7 +13,8 @@ use Rattle.ring.proofs.Bool.{bool-iff}
 use Rattle.ring.proofs.Table.{held-answerTable}
 use Rattle.solution.specs.Letters.{Letter, HoldsGivens, Valuation, valueOver}
 use Rattle.solution.specs.Substitution.{Substitution, ownLetters, putIn, MakesZero}
-use Rattle.solution.specs.Elimination.{booleAnswers, IsOrder, particular, lowenheim, ownLowenheim, smallestBlocked, solvable, solve}
+use Rattle.solution.specs.Condition.{IsOrder}
+use Rattle.solution.specs.Elimination.{booleAnswers, particular, lowenheim, ownLowenheim, smallestBlocked, solvable, solve}
 use Rattle.solution.specs.General.{SmallestBlocked, General, InstancesOfEachOther, RightVerdict, inPolynomials}
 use Rattle.solution.proofs.Letters.{own-holds, same-without-unknowns}
 use Rattle.solution.proofs.General.{each-other, lowenheim-general, particular-zero, leads-reproductive}

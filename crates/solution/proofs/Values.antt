@@ -16,7 +16,7 @@ use Rattle.ring.proofs.Restrict.{value-restrict}
 use Rattle.ring.proofs.Substitute.{value-constant, value-letter, value-substitute}
 use Rattle.solution.specs.Substitution.{Substitution}
 use Rattle.solution.specs.Elimination.{nextCondition, remains, answerFrom, booleAnswers, lowenheim}
-use Rattle.solution.specs.ByPoints.{chosenValue, bothCases, remainsThrough, chosenPoint, answeredThrough}
+use Rattle.solution.specs.Inner.ByPoints.{chosenValue, bothCases, remainsThrough, chosenPoint, answeredThrough}
 use Rattle.solution.proofs.Elimination.{answered-lt}
 
 pub value-next : (n : ℕ) (f : Polynomial) (x : ℕ) → x < n → value n (nextCondition n f x) ≡ bothCases (value n f) x

@@ -1,17 +1,16 @@
 -- Boole's elimination and Löwenheim's formula (document 01, the sections of these names), on polynomials in n = U + G letters.
 -- Elimination goes through a list of unknowns, the order; document 01's is 0, 1, 2, ..
 -- Assumes nothing.
-use mathlib.Core.Path.{_≡_}
 use mathlib.Core.Bool.{Bool, true, false, not, cond}
 use mathlib.Core.List.{List, [], _∷_}
 use Prim.Native.Nat.{ℕ, zero, suc, _+_, _^_}
-use lib.Dec.{eqb, ltb}
+use lib.Dec.{eqb}
 use Rattle.ring.specs.declared.State.{State}
 use Rattle.ring.specs.Letters.{point}
 use Rattle.ring.specs.Polynomial.{Polynomial, value, constant, letter, sum, product, restrict, substitute, everyBelow}
-use Rattle.ring.specs.Table.{present, answerTable}
-use Rattle.ring.specs.Lists.{listed, has}
+use Rattle.ring.specs.Table.{answerTable}
 use Rattle.solution.specs.Substitution.{Substitution, ownLetters, putIn}
+use Rattle.solution.specs.Condition.{Condition, width, polynomial}
 
 -- 'let r be f with x = 1 and s be f with x = 0. The next condition is r*s'
 unfoldable pub nextCondition : ℕ → Polynomial → ℕ → Polynomial
@@ -48,14 +47,6 @@ lowenheim n f b x = sum (letter x) (product n f (sum (letter x) (b x)))
 unfoldable pub ownLowenheim : ℕ → ℕ → List ℕ → Polynomial → Substitution
 ownLowenheim U G order f = lowenheim (U + G) f (particular U G order f)
 
--- 'Unknown 0 goes first, then 1, and so on'
-unfoldable pub defaultOrder : ℕ → List ℕ
-defaultOrder U = listed U (λ j. j)
-
--- the order lists the unknowns: every one of them, and nothing else
-abbrev pub IsOrder : ℕ → List ℕ → Type 0
-IsOrder U order = (x : ℕ) → has x order ≡ ltb x U
-
 -- the smallest number below k that passes the test, k if none does
 unfoldable pub smallestBelow : ℕ → (ℕ → Bool) → ℕ
 smallestBelow zero test = 0
@@ -77,14 +68,26 @@ isZero n f = everyBelow (2 ^ n) (λ m. not (f m))
 unfoldable pub solvable : ℕ → Polynomial → List ℕ → Bool
 solvable n f order = isZero n (remains n f order)
 
+-- the answer tables of a condition: Boole's ..
+unfoldable pub booleTable : Condition → List ℕ
+booleTable c = answerTable (c .U) (width c) (booleAnswers (width c) (polynomial c) (c .order))
+
+-- .. its particular solution ..
+unfoldable pub particularTable : Condition → List ℕ
+particularTable c = answerTable (c .U) (width c) (particular (c .U) (c .G) (c .order) (polynomial c))
+
+-- .. and the engine's own Löwenheim answers
+unfoldable pub lowenheimTable : Condition → List ℕ
+lowenheimTable c = answerTable (c .U) (width c) (ownLowenheim (c .U) (c .G) (c .order) (polynomial c))
+
 -- what is said of a condition: the answers, as a table or as polynomials, or 'none' and the state
 pub data Verdict (A : Type 0) : Type 0 where
   solved : A → Verdict A
   none : State → Verdict A
 
--- the verdict on the condition with the table t: 'If it is not 0, the answer is 'none' with the smallest state ..'; 'If it is 0, go back'
-unfoldable pub solve : ℕ → ℕ → List ℕ → List ℕ → Verdict (List ℕ)
-solve U G order t =
-    cond (solvable (U + G) (present t) order)
-    (solved (answerTable U (U + G) (booleAnswers (U + G) (present t) order)))
-    (none (smallestBlocked U G (present t)))
+-- the verdict on a condition: 'If it is not 0, the answer is 'none' with the smallest state ..'; 'If it is 0, go back'
+unfoldable pub solve : Condition → Verdict (List ℕ)
+solve c =
+    cond (solvable (width c) (polynomial c) (c .order))
+    (solved (booleTable c))
+    (none (smallestBlocked (c .U) (c .G) (polynomial c)))

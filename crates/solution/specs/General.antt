@@ -13,6 +13,7 @@ use Rattle.ring.specs.Polynomial.{Polynomial, value}
 use Rattle.ring.specs.Table.{held}
 use Rattle.solution.specs.Letters.{Letter, HoldsGivens}
 use Rattle.solution.specs.Substitution.{Substitution, ownLetters, putIn, MakesZero, InstanceOf}
+use Rattle.solution.specs.Condition.{Condition, width, polynomial}
 use Rattle.solution.specs.Elimination.{booleAnswers, ownLowenheim, Verdict, solved, none}
 
 -- every choice gives f the value 1 in the state
@@ -37,15 +38,21 @@ pub record InstancesOfEachOther (U G : ℕ) (a b : Substitution) : Type 0 where
   pub back : InstanceOf U G b (ownLetters U G) a
   pub instances : (L : List Letter) → HoldsGivens G L → (σ : Substitution) → InstanceOf U G a L σ ↔ InstanceOf U G b L σ
 
--- demand 3, of a condition f, the order of elimination, and what is said of f
-pub record RightVerdict (U G : ℕ) (order : List ℕ) (f : Polynomial) (verdict : Verdict Substitution) : Type 0 where
+-- σ, over L, makes the condition zero
+abbrev pub Solves : Condition → List Letter → Substitution → Type 0
+Solves c L σ = MakesZero (c .U) (c .G) (polynomial c) L σ
+
+-- demand 3, of a condition and what is said of it
+pub record RightVerdict (c : Condition) (verdict : Verdict Substitution) : Type 0 where
   -- 'none' exactly when no substitution over the list makes the condition zero, whatever the list
-  pub exactly : (L : List Letter) → HoldsGivens G L → ((state : State) × (verdict ≡ none state)) ↔ ((σ : Substitution) → ¬ MakesZero U G f L σ)
-  pub state : (state : State) → verdict ≡ none state → SmallestBlocked U G f state
+  pub exactly : (L : List Letter) → HoldsGivens (c .G) L → ((state : State) × (verdict ≡ none state)) ↔ ((σ : Substitution) → ¬ Solves c L σ)
+  pub state : (state : State) → verdict ≡ none state → SmallestBlocked (c .U) (c .G) (polynomial c) state
   -- the answers are Boole's, monomial by monomial, and a general solution; the own Löwenheim answers and they are instances of each other
-  pub booles : (a : Substitution) → verdict ≡ solved a → (j m : ℕ) → j < U → m < 2 ^ (U + G) → a j m ≡ booleAnswers (U + G) f order j m
-  pub general : (a : Substitution) → verdict ≡ solved a → General U G f a
-  pub lowenheims : (a : Substitution) → verdict ≡ solved a → InstancesOfEachOther U G a (ownLowenheim U G order f)
+  pub booles : (a : Substitution) → verdict ≡ solved a → (j m : ℕ) → j < c .U → m < 2 ^ width c
+      → a j m ≡ booleAnswers (width c) (polynomial c) (c .order) j m
+  pub general : (a : Substitution) → verdict ≡ solved a → General (c .U) (c .G) (polynomial c) a
+  pub lowenheims : (a : Substitution) → verdict ≡ solved a
+      → InstancesOfEachOther (c .U) (c .G) a (ownLowenheim (c .U) (c .G) (c .order) (polynomial c))
 
 -- what a verdict with an answer table says, in polynomials
 unfoldable pub inPolynomials : ℕ → Verdict (List ℕ) → Verdict Substitution

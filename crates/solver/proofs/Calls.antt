@@ -11,16 +11,18 @@ use Rattle.ring.specs.declared.State.{State}
 use Rattle.ring.specs.Table.{present, held, answerTable}
 use Rattle.ring.proofs.Table.{present-take, held-take, length-answerTable}
 use Rattle.tables.specs.Questions.{firstNo, asks, lettersFit, reads, writes, haveRoom, holdBits, tableQuestions}
-use Rattle.tables.specs.Reply.{Reply, accepted, refused, reply, after}
+use Rattle.tables.specs.Answered.{Reply, accepted, refused, reply, after}
 use Rattle.tables.proofs.Questions.{tableRefusal, one-read, table-yes, table-no}
 use Rattle.tables.proofs.Reply.{reply-refused, after-refused, after-done}
-use Rattle.solution.specs.Elimination.{defaultOrder, smallestBlocked, solvable, solved, none, Verdict as Said}
-use Rattle.solver.specs.Calls.{solvingRefusal, solvingReply, booleTable, particularTable, lowenheimTable, handedTable}
-use Rattle.solver.specs.Methods.{IsTableOf, AreTablesOf, answersBy, tableBy, solveBy, verdict, answersAfter}
+use Rattle.solution.specs.Condition.{defaultOrder}
+use Rattle.solution.specs.Elimination.{smallestBlocked, solvable, solved, none, Verdict as Said}
+use Rattle.calls.specs.GONE.{solvingRefusal, solvingReply, booleTable, particularTable, lowenheimTable}
+use Rattle.calls.specs.Solving.{handedTable}
+use Rattle.solver.specs.Inner.Methods.{IsTableOf, AreTablesOf, answersBy, tableBy, solveBy, verdict, answersAfter}
 use Rattle.solver.specs.declared.Method.{Method}
 use Rattle.solver.specs.declared.Method.the-variants.{Boole, Particular, Lowenheim}
-use Rattle.solver.specs.declared.Verdict.{Verdict}
-use Rattle.solver.specs.declared.Verdict.the-variants.{Solved, None}
+use Rattle.calls.specs.declared.Verdict.{Verdict}
+use Rattle.calls.specs.declared.Verdict.the-variants.{Solved, None}
 
 -- the tables' questions are none of them the ninth
 not-nine : (u g : ℕ) (t : List ℕ) (results room : ℕ) → firstNo (tableQuestions u g (reads 1 t ∷ writes results room ∷ [])) ≡ 9 → ⊥

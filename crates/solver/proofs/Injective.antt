@@ -2,9 +2,9 @@
 -- Assumes nothing.
 use mathlib.Core.Path.{_≡_, refl, ap}
 use Prim.Native.Nat.{ℕ}
-use Rattle.solver.specs.declared.Solving.{Solving}
-use Rattle.solver.specs.declared.Solving.the-variants.{Solved, None, Refused}
-use Rattle.solver.specs.Calls.{solving}
+use Rattle.calls.specs.declared.Solving.{Solving}
+use Rattle.calls.specs.declared.Solving.the-variants.{Solved, None, Refused}
+use Rattle.calls.specs.Solving.{solving}
 
 pub solving-injective : (a b : Solving) → solving a ≡ solving b → a ≡ b
 solving-injective Solved Solved e = refl

@@ -16,21 +16,22 @@ use Rattle.ring.proofs.Lists.{length-listed}
 use Rattle.words.specs.Words.{wordsOf, bitAt, answerWords}
 use Rattle.words.proofs.Letters.{room, points}
 use Rattle.words.proofs.Words.{at-known}
-use Rattle.solution.specs.Elimination.{IsOrder, defaultOrder, remains, smallestBelow, blocked, smallestBlocked, solvable, booleAnswers, solve, solved, none, Verdict as Said}
-use Rattle.solution.specs.ByPoints.{remainsThrough, answeredThrough}
+use Rattle.solution.specs.Condition.{IsOrder, defaultOrder}
+use Rattle.solution.specs.Elimination.{remains, smallestBelow, blocked, smallestBlocked, solvable, booleAnswers, solve, solved, none, Verdict as Said}
+use Rattle.solution.specs.Inner.ByPoints.{remainsThrough, answeredThrough}
 use Rattle.solution.proofs.General.{in-order, remains-values}
 use Rattle.solution.proofs.Blocked.{zero-values, blocked-remains, remains-blocked, is-blocked}
 use Rattle.solution.proofs.Orders.{default-order}
 use Rattle.solution.proofs.Smallest.{smallest-cong, smallest-is, smallest-none}
-use Rattle.elimination.specs.Stages.{InLetters, ListsEach, noRepeats}
+use Rattle.elimination.specs.Inner.Stages.{InLetters, ListsEach, noRepeats}
 use Rattle.elimination.proofs.AnyOrder.{Agree, remains-agree, answered-agree}
 use Rattle.elimination.proofs.Beyond.{value-answers-all}
 use Rattle.elimination.proofs.Slots.{answers-cong}
 use Rattle.elimination.proofs.States.{state-room}
 use Rattle.solver.specs.declared.Method.{Method}
-use Rattle.solver.specs.declared.Verdict.{Verdict}
-use Rattle.solver.specs.declared.Verdict.the-variants.{Solved, None}
-use Rattle.solver.specs.Methods.{answersBy, solveBy, verdict, answersAfter, solveWords}
+use Rattle.calls.specs.declared.Verdict.{Verdict}
+use Rattle.calls.specs.declared.Verdict.the-variants.{Solved, None}
+use Rattle.solver.specs.Inner.Methods.{answersBy, solveBy, verdict, answersAfter, solveWords}
 
 module _ (U G : ℕ) (o : List ℕ) (is : IsOrder U o) (F : Polynomial) (f : List ℕ) (ef : f ≡ wordsOf (2 ^ (U + G - 6)) (value (U + G) F)) where
   abbrev n : ℕ

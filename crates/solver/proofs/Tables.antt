@@ -23,7 +23,7 @@ use Rattle.words.specs.Words.{wordOf, wordsOf, bitAt, answerWords}
 use Rattle.words.proofs.Letters.{room}
 use Rattle.words.proofs.Words.{word-cong, at-known}
 use Rattle.words.proofs.Parts.{points-in, parts-more, parts-end, part-length, words-parts}
-use Rattle.solver.specs.Words.{partValue, mixedValue}
+use Rattle.solver.specs.Inner.Words.{partValue, mixedValue}
 
 -- ---- words into tables
 part-at : (d s : ℕ) (ws : List ℕ) (p : ℕ) → p < 64 * d → bitAt (take d (drop s ws)) p ≡ bitAt ws (64 * s + p)

@@ -19,13 +19,13 @@ use Rattle.words.specs.Words.{wordsOf, bitAt, IsWords, answerWords}
 use Rattle.words.proofs.Letters.{room}
 use Rattle.words.proofs.Words.{at-known, size-words, words-cong}
 use Rattle.solution.specs.Elimination.{booleAnswers, particular, lowenheim, ownLowenheim}
-use Rattle.solution.specs.ByPoints.{zeroChoice}
+use Rattle.solution.specs.Inner.ByPoints.{zeroChoice}
 use Rattle.solution.proofs.ByPoints.{value-particular, value-own-lowenheim}
 use Rattle.solution.proofs.Values.{value-lowenheim}
 use Rattle.words.proofs.Parts.{points-in, answer-at, part-fits}
 use Rattle.solver.specs.declared.Method.{Method}
-use Rattle.solver.specs.Methods.{IsTableOf, AreTablesOf, answersBy}
-use Rattle.solver.specs.Words.{partValue, mixedValue}
+use Rattle.solver.specs.Inner.Methods.{IsTableOf, AreTablesOf, answersBy}
+use Rattle.solver.specs.Inner.Words.{partValue, mixedValue}
 
 -- a table's values, by its polynomial
 pub values-of : (n : ℕ) (f : Polynomial) (t ws : List ℕ) → IsTableOf n f t → ws ≡ wordsOf (2 ^ (n - 6)) (value n (present t)) → ws ≡ wordsOf (2 ^ (n - 6)) (value n f)

@@ -1,3 +1,1 @@
-pub mod Calls
-pub mod Methods
-pub mod Words
+pub mod Inner

@@ -4,21 +4,23 @@
 // The work is done on truth values, 64 points to a word (`elimination`), in any order of the unknowns; the calls fix 0, 1, 2, ..
 // It comes back to polynomials, and the contracts cite the polynomials' own definitions.
 use ring::State;
-use tables::Outcome;
+use calls::Outcome;
 ghost use mathlib.Core.Path.{_≡_};
 ghost use mathlib.Core.List.{List, []};
 ghost use Prim.Native.Nat.{ℕ, _+_, _-_, _*_, _^_, _≤_, _<_};
 ghost use lib.ListN.{length};
 ghost use Rattle.ring.specs.Polynomial.{Polynomial, value};
 ghost use Rattle.ring.specs.Table.{IsTable, AreBits, held, answerTable};
-ghost use Rattle.tables.specs.Reply.{reply, after, outcome};
+ghost use Rattle.tables.specs.Answered.{reply, after, outcome};
 ghost use Rattle.words.specs.Words.{wordsOf, bitAt, answerWords};
-ghost use Rattle.solution.specs.Elimination.{booleAnswers, defaultOrder, lowenheim};
-ghost use Rattle.solution.specs.ByPoints.{zeroChoice};
-ghost use Rattle.elimination.specs.Stages.{ListsEach};
-ghost use Rattle.solver.specs.Calls.{solvingRefusal, solvingReply, solving, booleTable, particularTable, lowenheimTable, handedRefusal, handedTable};
-ghost use Rattle.solver.specs.Methods.{IsTableOf, AreTablesOf, answersBy, tableBy, solveBy, verdict, answersAfter, solveWords};
-ghost use Rattle.solver.specs.Words.{partValue, mixedValue};
+ghost use Rattle.solution.specs.Condition.{defaultOrder};
+ghost use Rattle.solution.specs.Elimination.{booleAnswers, lowenheim};
+ghost use Rattle.solution.specs.Inner.ByPoints.{zeroChoice};
+ghost use Rattle.elimination.specs.Inner.Stages.{ListsEach};
+ghost use Rattle.calls.specs.GONE.{solvingRefusal, solvingReply, booleTable, particularTable, lowenheimTable, handedRefusal};
+ghost use Rattle.calls.specs.Solving.{solving, handedTable};
+ghost use Rattle.solver.specs.Inner.Methods.{IsTableOf, AreTablesOf, answersBy, tableBy, solveBy, verdict, answersAfter, solveWords};
+ghost use Rattle.solver.specs.Inner.Words.{partValue, mixedValue};
 
 // What a solving call answers: the answers stand in the buffer, or there is none and every choice fails in this state, or the first no.
 pub enum Solving {

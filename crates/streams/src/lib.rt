@@ -7,7 +7,7 @@ use libc::types::timespec;
 ghost use mathlib.Core.Path.{_≡_};
 ghost use Prim.Native.Nat.{_≤_};
 ghost use lib.ListN.{length};
-ghost use Rattle.streams.specs.Got.{gotOf, gotWithin};
+ghost use Rattle.streams.specs.Inner.Got.{gotOf, gotWithin};
 
 // What a read gave: so many bytes at the front of the room, the end of the input, or a failure.
 pub enum Got {

@@ -8,7 +8,7 @@ use native.Mathlib.Numerals.{add-one}
 use native.Mathlib.Omega.{arith}
 use lib.ListN.{length, getD, set, take, length-append, length-set}
 use lib.Seq.{sets, length-sets, sets-eq, take-suc, take-all, take-append-seam}
-use Rattle.tables.specs.Put.{Put}
+use Rattle.tables.specs.Inner.Put.{Put}
 
 -- one part, and another right behind it
 sets-append : (vs ws old : List ℕ) (at : ℕ) → sets (sets old at vs) (at + length vs) ws ≡ sets old at (vs ++ ws)

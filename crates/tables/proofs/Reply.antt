@@ -5,9 +5,9 @@ use mathlib.Core.List.{List, [], _++_}
 use Prim.Native.Nat.{ℕ, zero, suc}
 use native.Mathlib.Omega.{arith}
 use lib.ListN.{length, drop}
-use Rattle.tables.specs.declared.Outcome.{Outcome}
-use Rattle.tables.specs.declared.Outcome.the-variants.{Done, Refused}
-use Rattle.tables.specs.Reply.{accepted, refused, reply, after, outcome}
+use Rattle.calls.specs.declared.Outcome.{Outcome}
+use Rattle.calls.specs.declared.Outcome.the-variants.{Done, Refused}
+use Rattle.tables.specs.Answered.{accepted, refused, reply, after, outcome}
 
 -- q is the number that the code found, r the one that the contract names
 module _ (q r : ℕ) (e : q ≡ r) where

@@ -1,3 +1,3 @@
 pub mod Questions
-pub mod Reply
-pub mod Put
+pub mod Answered
+pub mod Inner

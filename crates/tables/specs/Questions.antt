@@ -1,28 +1,70 @@
--- The questions on letters and buffers, and the first no (document 01, 'The questions, and the number if the answer is no').
--- Each is a Bool function, total on any numbers and bytes. Buffers are lists of bytes.
+-- The questions (document 01, 'The questions, and the number if the answer is no'): their numbers, how a call puts them and what it answers,
+-- and those that are put to letters and buffers. Each is a Bool function, total on any numbers and bytes. Buffers are lists of bytes.
+-- Which questions each call puts, and in which order, is in `calls`.
 -- Assumes nothing.
 use mathlib.Core.Bool.{Bool, true, _&&_, cond}
-use mathlib.Core.List.{List, [], _∷_}
-use Prim.Native.Nat.{ℕ, _+_, _*_, _^_}
+use mathlib.Core.List.{List, [], _∷_, _++_}
+use Prim.Native.Nat.{ℕ, _+_, _^_}
 use lib.Dec.{leb, ltb}
 use lib.ListN.{length, take}
 use Rattle.ring.specs.declared.State.{State}
 use Rattle.ring.specs.declared.Choice.{Choice}
+use Rattle.tables.specs.declared.Question.{Question}
+use Rattle.tables.specs.declared.Question.the-variants.{Letters, Route, TextLength, Room, Signs, Declared, Grammar, Bits, Solution, Records, Kinds, Numbers, Afresh, Output, Rising, Range}
 
--- a question as it is put: its number, and whether the answer is yes
+-- document 01's number of each question
+abbrev pub number : Question → ℕ
+-- 'Are U at most 6, G at most 8, n at most 10?'
+number Letters = 1
+-- 'Is the route 1 to 250?'
+number Route = 2
+-- 'Has the text 1 to 200 bytes?'
+number TextLength = 3
+-- 'Has each condition buffer 2^n bytes or more, and each answer or handed buffer U times 2^n or more?'
+number Room = 4
+-- 'Is every byte a sign of the notation or a space?'
+number Signs = 5
+-- 'Is every letter declared?'
+number Declared = 6
+-- 'Does the grammar read the whole text?'
+number Grammar = 7
+-- 'Is each byte of a table lent to be read, as far as question 4's length, 0 or 1?'
+number Bits = 8
+-- 'Has the condition a solution? (a no also gives the state)'
+number Solution = 9
+-- 'Does every record, to the first kind 4, have kind 1 to 5 and a whole body, and is there a kind 4?'
+number Records = 10
+-- 'Are the kinds in the entry's order, both routes equal?'
+number Kinds = 11
+-- 'Are masks below 2^n, unknowns below U, the state below 2^G, all in order, none twice?'
+number Numbers = 12
+-- 'Do the answers, or the state, equal those solved afresh?'
+number Afresh = 13
+-- 'Is the output at least as long as what is to be written?'
+number Output = 14
+-- 'Is the route above the one before?'
+number Rising = 15
+-- 'Is the state below 2^G and the choice below 2^U?'
+number Range = 16
+
+-- a question as it is put: whether the answer is yes, and what a no gives with its number
 pub data Asked : Type 0 where
-  asks : ℕ → Bool → Asked
+  asksGiving : Question → Bool → List ℕ → Asked
+
+-- a question whose no gives its number alone
+abbrev pub asks : Question → Bool → Asked
+asks question answer = asksGiving question answer []
 
 -- 'The first no counts': its number, 0 if every answer is yes
 unfoldable pub firstNo : List Asked → ℕ
 firstNo [] = 0
-firstNo (asks number answer ∷ rest) = cond answer (firstNo rest) number
+firstNo (asksGiving question answer given ∷ rest) = cond answer (firstNo rest) (number question)
 
 -- 1: 'Are U at most 6, G at most 8, n at most 10?'
 unfoldable pub lettersFit : ℕ → ℕ → Bool
 lettersFit U G = leb U 6 && (leb G 8 && leb (U + G) 10)
 
--- 4, of one buffer: 'Has each condition buffer 2^n bytes or more, and each answer or handed buffer U times 2^n or more?'
+-- 4, of a buffer that is to hold k bytes
 unfoldable pub hasRoom : ℕ → ℕ → Bool
 hasRoom k size = leb k size
 
@@ -31,30 +73,30 @@ unfoldable pub areBits : List ℕ → Bool
 areBits [] = true
 areBits (b ∷ bytes) = leb b 1 && areBits bytes
 
--- 8, of one table: 'Is each byte of a table lent to be read, as far as question 4's length, 0 or 1?'
+-- 8, of a table of k bytes
 unfoldable pub holdsBits : ℕ → List ℕ → Bool
 holdsBits k buffer = areBits (take k buffer)
 
--- what a call is lent: a buffer that is read and has to hold k tables, or the length of one that is written and has to hold k tables
+-- what a call is lent: a buffer of which k bytes are read, or one, of so many bytes, into which k are written
 pub data Lent : Type 0 where
   reads : ℕ → List ℕ → Lent
   writes : ℕ → ℕ → Lent
 
--- 4, of every buffer of a call over n letters
-unfoldable pub haveRoom : ℕ → List Lent → Bool
-haveRoom n [] = true
-haveRoom n (reads k buffer ∷ lent) = hasRoom (k * 2 ^ n) (length buffer) && haveRoom n lent
-haveRoom n (writes k size ∷ lent) = hasRoom (k * 2 ^ n) size && haveRoom n lent
+-- 4, of each buffer in turn
+unfoldable pub roomQuestions : List Lent → List Asked
+roomQuestions [] = []
+roomQuestions (reads k buffer ∷ lent) = asks Room (hasRoom k (length buffer)) ∷ roomQuestions lent
+roomQuestions (writes k size ∷ lent) = asks Room (hasRoom k size) ∷ roomQuestions lent
 
--- 8, of every table that the call reads
-unfoldable pub holdBits : ℕ → List Lent → Bool
-holdBits n [] = true
-holdBits n (reads k buffer ∷ lent) = holdsBits (k * 2 ^ n) buffer && holdBits n lent
-holdBits n (writes k size ∷ lent) = holdBits n lent
+-- 8, of each table that the call reads in turn
+unfoldable pub bitQuestions : List Lent → List Asked
+bitQuestions [] = []
+bitQuestions (reads k buffer ∷ lent) = asks Bits (holdsBits k buffer) ∷ bitQuestions lent
+bitQuestions (writes k size ∷ lent) = bitQuestions lent
 
--- 'before its own questions' a call asks 1, then 4 and then 8 of its tables
-unfoldable pub tableQuestions : ℕ → ℕ → List Lent → List Asked
-tableQuestions U G lent = asks 1 (lettersFit U G) ∷ asks 4 (haveRoom (U + G) lent) ∷ asks 8 (holdBits (U + G) lent) ∷ []
+-- 4 and then 8
+unfoldable pub bufferQuestions : List Lent → List Asked
+bufferQuestions lent = roomQuestions lent ++ bitQuestions lent
 
 -- 16: 'Is the state below 2^G and the choice below 2^U?'
 unfoldable pub inRange : ℕ → ℕ → State → Choice → Bool

@@ -8,13 +8,15 @@ use Rattle.ring.specs.Polynomial.{count, odd, within, value, constant, letter, 
 use Rattle.ring.specs.Table.{present, tabulate, table, answerTable}
 use Rattle.ring.specs.Lists.{listed}
 use Rattle.tables.specs.Questions.{firstNo, lettersFit}
-use Rattle.tables.specs.Reply.{Reply, accepted, refused}
+use Rattle.tables.specs.Answered.{Reply, accepted, refused}
 use Rattle.order.specs.Order.{letters, before}
-use Rattle.solution.specs.Elimination.{nextCondition, remains, answerFrom, booleAnswers, defaultOrder, smallestBelow, blocked, smallestBlocked, isZero, solvable, solve}
+use Rattle.solution.specs.Condition.{defaultOrder}
+use Rattle.solution.specs.Elimination.{nextCondition, remains, answerFrom, booleAnswers, smallestBelow, blocked, smallestBlocked, isZero, solvable, solve}
 use Rattle.entry.specs.Record.{bytes}
 use Rattle.entry.specs.Held.{next, firstRecords, records, hasMonomial, conditionIn, answersIn, unlessNone, heldCondition, heldVerdict}
 use Rattle.entry.specs.Questions.{routeFits, hasEnd, mayFollow, kindsFollow, kindsFit, allInBounds, standsBefore, inOrder, allInOrder, numbersFit, entryQuestions, sameBytes, solvedAfresh, answersHold, auditQuestions}
-use Rattle.volume.specs.Walk.{routeRises, walkQuestions, walkAtMost, walkBehind, walkReply}
+use Rattle.calls.specs.Questions.{routeRises, walkQuestions}
+use Rattle.calls.specs.Walk.{walkAtMost, walkBehind, walkReply}
 
 -- `u+v` with u = v and v = v, but for its end
 abbrev pub body : ℕ → List ℕ

@@ -1,9 +1,9 @@
 -- The reply of a walk fixes its answer.
 -- Assumes nothing.
 use mathlib.Core.Path.{_≡_}
-use Rattle.volume.specs.declared.Walked.{Walked}
-use Rattle.volume.specs.declared.Walked.the-variants.{Count, Refused}
-use Rattle.volume.specs.Walk.{walked}
+use Rattle.calls.specs.declared.Walked.{Walked}
+use Rattle.calls.specs.declared.Walked.the-variants.{Count, Refused}
+use Rattle.calls.specs.Walk.{walked}
 
 pub walked-injective : (a b : Walked) → walked a ≡ walked b → a ≡ b
 walked-injective (Count count) (Count other) e = cc

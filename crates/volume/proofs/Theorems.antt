@@ -15,17 +15,20 @@ use lib.Seq.{drop-at}
 use borrow.Author.Tests.{eqb-true, leb-true, ltb-true, lt-ltb}
 use Rattle.ring.proofs.Bool.{and-left, and-right, bool-cases, or-right}
 use Rattle.tables.specs.Questions.{firstNo}
-use Rattle.tables.specs.Reply.{Reply, accepted, refused}
+use Rattle.tables.specs.Answered.{Reply, accepted, refused}
 use Rattle.entry.specs.Record.{AreBytes, bytes}
 use Rattle.entry.specs.Entry.{entry, entryRecords, Archivable}
 use Rattle.entry.specs.Held.{records, routeOf, unknownsOf, givensOf, heldCondition}
 use Rattle.entry.specs.Questions.{routeFits, auditQuestions}
 use Rattle.entry.proofs.Bytes.{drop-bytes}
 use Rattle.entry.proofs.Theorems.{ReadsBack, reads-back, entry-audited}
-use Rattle.audit.specs.Audit.{auditRefusal}
+use Rattle.calls.specs.GONE.{auditRefusal}
 use Rattle.audit.proofs.Theorems.{passed-archivable, passed-entry}
-use Rattle.volume.specs.Volume.{Entries, no-entry, one-more, IsVolume}
-use Rattle.volume.specs.Walk.{routeRises, walkRefusal, atEntry, walkBehind, walkReply, Ends, at-end, refused-at, Walks}
+use Rattle.calls.specs.Volume.{Entries, IsVolume}
+use Rattle.calls.specs.GONE.{no-entry, one-more}
+use Rattle.calls.specs.Questions.{routeRises}
+use Rattle.calls.specs.Walk.{walkRefusal, atEntry, walkBehind, walkReply, Ends, Walks}
+use Rattle.calls.specs.GONE.{at-end, refused-at}
 use Rattle.volume.proofs.Walking.{then-15, passed-audit, passed-15, passed-some, walk-end, walk-on}
 
 -- ---- from the answer to the entries

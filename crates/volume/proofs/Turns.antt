@@ -9,20 +9,22 @@ use native.Mathlib.Omega.{arith}
 use lib.ListN.{length, drop, length-drop, drop-of-length-le}
 use lib.Seq.{drop-drop}
 use Rattle.tables.specs.Questions.{firstNo}
-use Rattle.tables.specs.Reply.{Reply, accepted, refused, reply}
+use Rattle.tables.specs.Answered.{Reply, accepted, refused, reply}
 use Rattle.tables.proofs.FirstNo.{first-counts}
 use Rattle.tables.proofs.Reply.{reply-refused, reply-accepted, accepted-is, refused-is}
 use Rattle.entry.specs.Record.{bytes}
 use Rattle.entry.specs.Held.{records, routeOf}
 use Rattle.entry.specs.Questions.{auditQuestions}
 use Rattle.entry.proofs.Records.{used-fits}
-use Rattle.records.specs.declared.Heading.{Heading}
-use Rattle.records.specs.declared.Said.{Said}
-use Rattle.reader.specs.Reading.{readValues}
-use Rattle.audit.specs.declared.Audited.{Audited}
-use Rattle.audit.specs.declared.Audited.the-variants.{Passed, Refused}
-use Rattle.audit.specs.Audit.{auditRefusal, auditReply, audited, stateSaid}
-use Rattle.volume.specs.Walk.{routeRises, walkQuestions, walkRefusal, atEntry, walkBehind, walkReply}
+use Rattle.calls.specs.declared.Heading.{Heading}
+use Rattle.calls.specs.declared.Verdict.{Said}
+use Rattle.calls.specs.Entries.{readValues}
+use Rattle.calls.specs.declared.Read.{Audited}
+use Rattle.calls.specs.declared.Read.the-variants.{Passed, Refused}
+use Rattle.calls.specs.GONE.{auditRefusal, auditReply, audited}
+use Rattle.calls.specs.Entries.{stateSaid}
+use Rattle.calls.specs.Questions.{routeRises, walkQuestions}
+use Rattle.calls.specs.Walk.{walkRefusal, atEntry, walkBehind, walkReply}
 use Rattle.volume.proofs.Walking.{then-15, passed-some, walk-end, walk-on}
 
 -- what the code finds at an entry

@@ -9,7 +9,7 @@ use native.Mathlib.Nat.{not-suc-le-zero}
 use native.Mathlib.Omega.{arith}
 use lib.ListN.{length, drop, length-drop}
 use Rattle.tables.specs.Questions.{asks, firstNo}
-use Rattle.tables.specs.Reply.{Reply, accepted}
+use Rattle.tables.specs.Answered.{Reply, accepted}
 use Rattle.tables.proofs.FirstNo.{yes-to, asked-before}
 use Rattle.entry.specs.declared.Record.{Record}
 use Rattle.entry.specs.Record.{bytes}
@@ -17,7 +17,8 @@ use Rattle.entry.specs.Held.{records, routeOf}
 use Rattle.entry.specs.Questions.{entryQuestions, answersHold, auditQuestions}
 use Rattle.entry.proofs.Records.{some-bytes}
 use Rattle.entry.proofs.Passes.{passes, then-asked}
-use Rattle.volume.specs.Walk.{routeRises, walkQuestions, walkRefusal, atEntry, walkAtMost, walkBehind}
+use Rattle.calls.specs.Questions.{routeRises, walkQuestions}
+use Rattle.calls.specs.Walk.{walkRefusal, atEntry, walkAtMost, walkBehind}
 
 -- ---- the questions
 -- behind the audit's, 15 is put where these are all answered yes

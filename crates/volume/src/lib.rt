@@ -3,12 +3,13 @@
 ghost use mathlib.Core.Path.{_≡_};
 ghost use Prim.Native.Nat.{_≤_};
 ghost use lib.ListN.{length, drop};
-ghost use Rattle.tables.specs.Reply.{reply};
+ghost use Rattle.tables.specs.Answered.{reply};
 ghost use Rattle.entry.specs.Held.{records};
-ghost use Rattle.reader.specs.Reading.{readValues};
-ghost use Rattle.audit.specs.Audit.{audited};
-ghost use Rattle.volume.specs.Walk.{routeRises, walkRefusal, walkReply, walked};
-use audit::Audited;
+ghost use Rattle.calls.specs.Entries.{readValues};
+ghost use Rattle.calls.specs.GONE.{audited};
+ghost use Rattle.calls.specs.Questions.{routeRises};
+ghost use Rattle.calls.specs.Walk.{walkRefusal, walkReply, walked};
+use calls::Read;
 
 // What a walk answers: the count of entries, or the number of the first no and the count of entries that passed before it.
 pub enum Walked {

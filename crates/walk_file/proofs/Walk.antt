@@ -5,10 +5,10 @@ use mathlib.Core.List.{List, [], _∷_}
 use Prim.Native.Nat.{ℕ, _≤_, _<_}
 use lib.ListN.{length}
 use borrow.Author.Tests.{le-leb, lt-leb}
-use Rattle.tables.specs.Reply.{accepted}
-use Rattle.volume.specs.declared.Walked.{Walked}
-use Rattle.volume.specs.declared.Walked.the-variants.{Count, Refused}
-use Rattle.volume.specs.Walk.{walkReply, walked}
+use Rattle.tables.specs.Answered.{accepted}
+use Rattle.calls.specs.declared.Walked.{Walked}
+use Rattle.calls.specs.declared.Walked.the-variants.{Count, Refused}
+use Rattle.calls.specs.Walk.{walkReply, walked}
 use Rattle.printing.specs.Print.{unreadableLine, refusedLine, replyLine}
 use Rattle.walk_file.specs.Walk.{walkPrinted}
 

@@ -6,7 +6,7 @@ use mathlib.Core.List.{List}
 use Prim.Native.Nat.{ℕ}
 use lib.Dec.{leb}
 use lib.ListN.{length}
-use Rattle.volume.specs.Walk.{walkReply}
+use Rattle.calls.specs.Walk.{walkReply}
 use Rattle.printing.specs.Print.{unreadableLine, replyLine}
 
 -- for the bytes of the file

@@ -3,12 +3,12 @@
 // C library reads or writes: that the bytes in the room are those of the file (`streams::read_some`), and that the line reaches the output.
 use libc::STDOUT_FILENO;
 use streams::Got;
-use volume::Walked;
+use calls::Walked;
 ghost use mathlib.Core.Path.{_≡_};
 ghost use Prim.Native.Nat.{_-_, _≤_};
 ghost use lib.ListN.{length, take};
-ghost use Rattle.tables.specs.Put.{Put};
-ghost use Rattle.streams.specs.Got.{gotWithin};
+ghost use Rattle.tables.specs.Inner.Put.{Put};
+ghost use Rattle.streams.specs.Inner.Got.{gotWithin};
 ghost use Rattle.walk_file.specs.Loaded.{roomLength, loadedWithin, loadedPrinted};
 ghost use Rattle.walk_file.specs.Walk.{walkPrinted};
 

@@ -10,9 +10,9 @@ use lib.Dec.{leb}
 use lib.ListN.{length, take, drop}
 use lib.Seq.{length-take-le, sets-eq}
 use borrow.Author.Tests.{le-leb, lt-leb, leb-true}
-use Rattle.tables.specs.Put.{Put}
+use Rattle.tables.specs.Inner.Put.{Put}
 use Rattle.tables.specs.Questions.{asks, firstNo, lettersFit, hasRoom, holdsBits}
-use Rattle.tables.specs.Reply.{reply, after}
+use Rattle.tables.specs.Answered.{reply, after}
 use Rattle.ring.proofs.Bool.{and-left, and-right}
 use Rattle.tables.proofs.Bits.{are-bits}
 use Rattle.tables.proofs.FirstNo.{yes-to, first-counts}
@@ -20,10 +20,12 @@ use Rattle.tables.proofs.Questions.{letters-small, unknowns-small}
 use Rattle.tables.proofs.Reply.{reply-refused, reply-accepted, after-refused, after-done}
 use Rattle.entry.specs.Entry.{entry}
 use Rattle.entry.specs.Questions.{routeFits}
-use Rattle.writer.specs.declared.Written.{Written}
-use Rattle.writer.specs.declared.Written.the-variants.{Done, Refused}
-use Rattle.writer.specs.Writing.{archived, outputFits, writeQuestions, writeRefusal, written}
-use Rattle.writer.specs.Steps.{Ready, conditionQuestions, conditionRefusal, HandsOut}
+use Rattle.calls.specs.declared.Written.{Written}
+use Rattle.calls.specs.declared.Written.the-variants.{Done, Refused}
+use Rattle.calls.specs.GONE.{archived, writeRefusal}
+use Rattle.calls.specs.Questions.{outputFits, writeQuestions}
+use Rattle.calls.specs.Entries.{written}
+use Rattle.writer.specs.Inner.Steps.{Ready, conditionQuestions, conditionRefusal, HandsOut}
 
 -- ---- 1, 2, 4 and 8
 module _ (route U G : ℕ) (t : List ℕ) where

@@ -18,28 +18,29 @@ use Rattle.words.specs.Words.{wordsOf, bitAt}
 use Rattle.words.proofs.Words.{at-known, words-cong}
 use Rattle.words.proofs.Letters.{room, value-low, values-taken, count-small}
 use Rattle.order.specs.Order.{order, monomials}
-use Rattle.order.specs.Listing.{tagged, Listed}
+use Rattle.order.specs.Inner.Listing.{tagged, Listed}
 use Rattle.order.proofs.Lists.{length-keep}
 use Rattle.order.proofs.Order.{length-order, monomials-same}
 use Rattle.order.proofs.Listing.{length-tagged}
 use Rattle.words.specs.Words.{answerWords}
 use Rattle.elimination.proofs.Slots.{answer-part}
-use Rattle.solution.specs.Elimination.{Verdict, solved, none, booleAnswers, defaultOrder, solve}
-use Rattle.solver.specs.declared.Verdict.{Verdict as Answer}
-use Rattle.solver.specs.declared.Verdict.the-variants as answers
-use Rattle.solver.specs.Methods.{verdict, solveWords}
+use Rattle.solution.specs.Condition.{defaultOrder}
+use Rattle.solution.specs.Elimination.{Verdict, solved, none, booleAnswers, solve}
+use Rattle.calls.specs.declared.Verdict.{Verdict as Answer}
+use Rattle.calls.specs.declared.Verdict.the-variants as answers
+use Rattle.solver.specs.Inner.Methods.{verdict, solveWords}
 use Rattle.solver.proofs.OnWords.{solved-by-values, none-by-values}
 use Rattle.entry.specs.declared.Record.{Record}
 use Rattle.entry.specs.declared.Record.the-variants as records
 use Rattle.entry.specs.Record.{bytes}
-use Rattle.entry.specs.Codes.{recordOf}
+use Rattle.entry.specs.Inner.Codes.{recordOf}
 use Rattle.entry.specs.Entry.{conditionRecords, answerRecords, verdictRecords, entryRecords, entry}
 use Rattle.entry.proofs.Codes.{condition-codes, answer-codes}
 use Rattle.entry.proofs.Bound.{length-bytes, condition-bytes, answer-bytes, entry-most}
 use Rattle.entry.proofs.Verdicts.{VerdictFits, solve-fits}
 use Rattle.writer.specs.declared.Listing.{Listing}
 use Rattle.writer.specs.declared.Listing.the-variants.{Solved, None}
-use Rattle.writer.specs.Steps.{answerPart, answerCodes, sizeOf, entryFrom, Lists}
+use Rattle.writer.specs.Inner.Steps.{answerPart, answerCodes, sizeOf, entryFrom, Lists}
 
 -- ---- words that are turned over
 -- the coefficients of values, or the values of coefficients, at the points of n letters

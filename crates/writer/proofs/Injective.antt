@@ -1,9 +1,9 @@
 -- The reply of writing fixes its answer.
 -- Assumes nothing.
 use mathlib.Core.Path.{_≡_}
-use Rattle.writer.specs.declared.Written.{Written}
-use Rattle.writer.specs.declared.Written.the-variants.{Done, Refused}
-use Rattle.writer.specs.Writing.{written}
+use Rattle.calls.specs.declared.Written.{Written}
+use Rattle.calls.specs.declared.Written.the-variants.{Done, Refused}
+use Rattle.calls.specs.Entries.{written}
 
 pub written-injective : (a b : Written) → written a ≡ written b → a ≡ b
 written-injective (Done size) (Done other) e = cc

@@ -8,17 +8,17 @@ use native.Mathlib.Omega.{arith}
 use lib.Pow.{pow-mono}
 use lib.ListN.{length, take, length-append}
 use lib.Seq.{take-at}
-use Rattle.tables.specs.Put.{Put}
+use Rattle.tables.specs.Inner.Put.{Put}
 use Rattle.tables.proofs.Put.{put-both, put-same}
 use Rattle.order.specs.Order.{order}
 use Rattle.order.proofs.Order.{length-order}
 use Rattle.entry.specs.declared.Record.the-variants as records
 use Rattle.entry.specs.Record.{recordBytes, bytes}
-use Rattle.entry.specs.Codes.{monomialRecord, recordOf}
+use Rattle.entry.specs.Inner.Codes.{monomialRecord, recordOf}
 use Rattle.entry.proofs.Back.{bytes-append}
 use Rattle.writer.specs.declared.Listing.{Listing}
 use Rattle.writer.specs.declared.Listing.the-variants.{Solved, None}
-use Rattle.writer.specs.Steps.{countOf, toldOf, noneOf, sizeOf, entryFrom}
+use Rattle.writer.specs.Inner.Steps.{countOf, toldOf, noneOf, sizeOf, entryFrom}
 
 -- ---- one monomial: the table's number and the mask of a number, and the record that they make
 module _ (code : ℕ) where

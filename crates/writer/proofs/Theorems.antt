@@ -6,16 +6,17 @@ use Prim.Native.Nat.{ℕ, _+_, _^_}
 use lib.ListN.{length, take}
 use Rattle.ring.specs.Table.{present}
 use Rattle.tables.specs.Questions.{firstNo, asks}
-use Rattle.tables.specs.Reply.{after}
+use Rattle.tables.specs.Answered.{after}
 use Rattle.tables.proofs.FirstNo.{asked-before}
-use Rattle.solution.specs.Elimination.{defaultOrder}
+use Rattle.solution.specs.Condition.{defaultOrder}
 use Rattle.solution.specs.General.{RightVerdict}
 use Rattle.entry.specs.Entry.{Archivable}
 use Rattle.entry.specs.Held.{records, says}
 use Rattle.entry.specs.Questions.{auditQuestions}
 use Rattle.entry.proofs.Theorems.{ReadsBack, reads-back, entry-audited, entry-right}
-use Rattle.writer.specs.Writing.{archived, outputFits, writeQuestions, writeRefusal}
-use Rattle.writer.specs.Steps.{Ready, conditionQuestions, conditionRefusal}
+use Rattle.calls.specs.GONE.{archived, writeRefusal}
+use Rattle.calls.specs.Questions.{outputFits, writeQuestions}
+use Rattle.writer.specs.Inner.Steps.{Ready, conditionQuestions, conditionRefusal}
 use Rattle.writer.proofs.Asked.{Fine, fine, fine-ready}
 
 module _ (route U G : ℕ) (condition out : List ℕ) (z : writeRefusal route U G condition (length out) ≡ 0) where

@@ -7,19 +7,20 @@ ghost use Prim.Native.Nat.{_+_, _-_, _*_, _^_, _≤_, _<_};
 ghost use lib.ListN.{length};
 ghost use Rattle.ring.specs.Polynomial.{value};
 ghost use Rattle.ring.specs.Table.{table};
-ghost use Rattle.tables.specs.Put.{Put};
-ghost use Rattle.tables.specs.Reply.{reply, after};
+ghost use Rattle.tables.specs.Inner.Put.{Put};
+ghost use Rattle.tables.specs.Answered.{reply, after};
 ghost use Rattle.words.specs.Words.{wordsOf, bitAt};
 ghost use Rattle.order.specs.Order.{order, monomials};
-ghost use Rattle.order.specs.Listing.{tagged, Listed};
-ghost use Rattle.elimination.specs.Stages.{ListsEach};
-ghost use Rattle.solution.specs.Elimination.{defaultOrder};
+ghost use Rattle.order.specs.Inner.Listing.{tagged, Listed};
+ghost use Rattle.elimination.specs.Inner.Stages.{ListsEach};
+ghost use Rattle.solution.specs.Condition.{defaultOrder};
 ghost use Rattle.entry.specs.Record.{recordBytes, bytes};
-ghost use Rattle.entry.specs.Codes.{recordOf};
+ghost use Rattle.entry.specs.Inner.Codes.{recordOf};
 ghost use Rattle.entry.specs.Entry.{entry};
-ghost use Rattle.writer.specs.Writing.{archived, writeRefusal, written};
-ghost use Rattle.writer.specs.Steps.{conditionRefusal, Ready, Listable, answerCodes, countOf, toldOf, sizeOf, entryFrom, Lists, HandsOut};
-use solver::Verdict;
+ghost use Rattle.calls.specs.GONE.{archived, writeRefusal};
+ghost use Rattle.calls.specs.Entries.{written};
+ghost use Rattle.writer.specs.Inner.Steps.{conditionRefusal, Ready, Listable, answerCodes, countOf, toldOf, sizeOf, entryFrom, Lists, HandsOut};
+use calls::Verdict;
 
 // What writing answers: the entry's length, or the number of the first no.
 pub enum Written {

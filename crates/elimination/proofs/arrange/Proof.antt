@@ -7,7 +7,7 @@ use borrow.Author.Needs.{needs}
 use borrow.Author.Tests.{lt-ltb}
 use lib.ListN.{length}
 use Rattle.tables.proofs.Filled.{filled, filled-start}
-use Rattle.elimination.specs.Stages.{slotWord}
+use Rattle.elimination.specs.Inner.Stages.{slotWord}
 use Rattle.words.proofs.Parts.{parts-more, parts-end, part-fits, part-length}
 use Rattle.elimination.proofs.Slots.{slot-copied}
 use Rattle.elimination.proofs.arrange.Statement.{statement}

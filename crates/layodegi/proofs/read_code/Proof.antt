@@ -4,7 +4,7 @@ use mathlib.Core.Path.{_≡_, sym, ap, _∙_}
 use Prim.Native.Nat.{ℕ, _+_, _*_}
 use native.Mathlib.Omega.{arith}
 use borrow.Author.Needs.{needs}
-use Rattle.reader.specs.Reading.{reading}
+use Rattle.calls.specs.Entries.{reading}
 use Rattle.layodegi.specs.Codes.{entryCode}
 use Rattle.layodegi.proofs.read_code.Statement.{statement}
 use Rattle.layodegi.proofs.read_code.Tie as tie

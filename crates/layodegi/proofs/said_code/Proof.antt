@@ -4,7 +4,7 @@ use mathlib.Core.Path.{sym, ap, _∙_}
 use Prim.Native.Nat.{_+_}
 use native.Mathlib.Omega.{arith}
 use borrow.Author.Needs.{needs}
-use Rattle.audit.specs.Audit.{stateSaid}
+use Rattle.calls.specs.Entries.{stateSaid}
 use Rattle.layodegi.specs.Codes.{stateCode}
 use Rattle.layodegi.proofs.said_code.Statement.{statement}
 use Rattle.layodegi.proofs.said_code.Tie as tie

@@ -3,7 +3,7 @@
 use mathlib.Core.Path.{sym, ap, _∙_}
 use Prim.Native.Nat.{_+_, _*_}
 use borrow.Author.Needs.{needs}
-use Rattle.solver.specs.Calls.{solving}
+use Rattle.calls.specs.Solving.{solving}
 use Rattle.layodegi.specs.Codes.{code}
 use Rattle.layodegi.proofs.solving_code.Statement.{statement}
 use Rattle.layodegi.proofs.solving_code.Tie as tie

@@ -3,7 +3,7 @@
 use mathlib.Core.Path.{sym, ap, _∙_}
 use Prim.Native.Nat.{_*_}
 use borrow.Author.Needs.{needs}
-use Rattle.operations.specs.Calls.{valued}
+use Rattle.calls.specs.Operations.{valued}
 use Rattle.layodegi.specs.Codes.{code}
 use Rattle.layodegi.proofs.value_code.Statement.{statement}
 use Rattle.layodegi.proofs.value_code.Tie as tie

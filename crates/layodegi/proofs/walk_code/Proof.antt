@@ -3,7 +3,7 @@
 use mathlib.Core.Path.{sym, ap, _∙_}
 use Prim.Native.Nat.{_*_}
 use borrow.Author.Needs.{needs}
-use Rattle.volume.specs.Walk.{walked}
+use Rattle.calls.specs.Walk.{walked}
 use Rattle.layodegi.specs.Codes.{code}
 use Rattle.layodegi.proofs.walk_code.Statement.{statement}
 use Rattle.layodegi.proofs.walk_code.Tie as tie

@@ -3,7 +3,7 @@
 use mathlib.Core.Path.{sym, ap, _∙_}
 use Prim.Native.Nat.{_*_}
 use borrow.Author.Needs.{needs}
-use Rattle.writer.specs.Writing.{written}
+use Rattle.calls.specs.Entries.{written}
 use Rattle.layodegi.specs.Codes.{code}
 use Rattle.layodegi.proofs.written_code.Statement.{statement}
 use Rattle.layodegi.proofs.written_code.Tie as tie

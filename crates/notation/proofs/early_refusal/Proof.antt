@@ -5,7 +5,7 @@ use native.Mathlib.Omega.{arith}
 use borrow.Author.Needs.{needs}
 use Rattle.tables.specs.Questions.{lettersFit}
 use Rattle.tables.proofs.Questions.{failed, passed, letters-small}
-use Rattle.notation.specs.Text.{hasTextLength}
+use Rattle.calls.specs.Questions.{hasTextLength}
 use Rattle.notation.proofs.Refusal.{refused-letters, refused-length, refused-room, not-early}
 use Rattle.notation.proofs.early_refusal.Statement.{statement}
 use Rattle.notation.proofs.early_refusal.Tie as tie

@@ -1,6 +1,6 @@
 -- Test by test. Assumes nothing.
 use borrow.Author.Tests.{le-leb, lt-leb}
-use Rattle.notation.specs.Text.{hasTextLength}
+use Rattle.calls.specs.Questions.{hasTextLength}
 use Rattle.notation.proofs.has_text_length.Statement.{statement}
 use Rattle.notation.proofs.has_text_length.Tie as tie
 

@@ -8,7 +8,7 @@ use lib.ListN.{length}
 use lib.Seq.{length-take-le}
 use Rattle.tables.proofs.Questions.{Fine, fine, first-table, second-length, second-are-bits}
 use Rattle.tables.proofs.Reply.{call-refused, call-done}
-use Rattle.operations.specs.Calls.{substituteRefusal}
+use Rattle.calls.specs.GONE.{substituteRefusal}
 use Rattle.operations.proofs.Calls.{substitute-whole, length-substitute}
 use Rattle.operations.proofs.substitute.Statement.{statement}
 use Rattle.operations.proofs.substitute.Tie as tie

@@ -6,7 +6,7 @@ use Prim.Native.Nat.{_*_, _+_, _<_}
 use native.Mathlib.Omega.{arith}
 use borrow.Author.Needs.{needs}
 use lib.Seq.{length-take-le}
-use Rattle.tables.specs.Reply.{accepted}
+use Rattle.tables.specs.Answered.{accepted}
 use Rattle.tables.proofs.Reply.{reply-refused, reply-accepted}
 use Rattle.operations.proofs.Calls.{Askable, askable, point-small, value-whole}
 use Rattle.operations.proofs.value.Statement.{statement}

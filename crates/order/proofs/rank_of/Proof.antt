@@ -1,7 +1,7 @@
 -- `order::rank_of` meets its contract. Assumes nothing.
 use native.Mathlib.Omega.{arith}
 use borrow.Author.Needs.{needs}
-use Rattle.order.specs.Place.{rank}
+use Rattle.order.specs.Inner.Place.{rank}
 use Rattle.order.proofs.rank_of.Statement.{statement}
 use Rattle.order.proofs.rank_of.Tie as tie
 

@@ -6,7 +6,7 @@ use borrow.Author.Needs.{needs}
 use lib.ListN.{length, take}
 use Rattle.ring.specs.Letters.{digit}
 use Rattle.grammar.specs.Symbols.{every}
-use Rattle.parser.specs.Questions.{isLetterDeclared}
+use Rattle.parser.specs.Inner.Questions.{isLetterDeclared}
 use Rattle.parser.proofs.Decoding.{none-noted, one-noted, all-noted}
 use Rattle.parser.proofs.all_declared.Statement.{statement}
 use Rattle.parser.proofs.all_declared.Tie as tie

@@ -6,7 +6,7 @@ use borrow.Author.Needs.{needs}
 use lib.ListN.{length, take}
 use Rattle.ring.specs.Letters.{digit}
 use Rattle.grammar.specs.Symbols.{every}
-use Rattle.parser.specs.Questions.{isKnown}
+use Rattle.parser.specs.Inner.Questions.{isKnown}
 use Rattle.parser.proofs.Decoding.{none-noted, one-noted, all-noted}
 use Rattle.parser.proofs.all_signs.Statement.{statement}
 use Rattle.parser.proofs.all_signs.Tie as tie

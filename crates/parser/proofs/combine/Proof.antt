@@ -1,5 +1,5 @@
 -- Sign by sign. Assumes nothing.
-use Rattle.parser.specs.Blocks.{joinOf}
+use Rattle.parser.specs.Inner.Blocks.{joinOf}
 use Rattle.parser.proofs.Blocks.{put-last}
 use Rattle.parser.proofs.combine.Statement.{statement}
 use Rattle.parser.proofs.combine.Tie as tie

@@ -6,7 +6,7 @@ use borrow.Author.Needs.{needs}
 use lib.ListN.{length}
 use Rattle.ring.specs.Letters.{bit}
 use Rattle.tables.proofs.Filled.{filled, filled-start, filled-more}
-use Rattle.parser.specs.Blocks.{wordAt}
+use Rattle.parser.specs.Inner.Blocks.{wordAt}
 use Rattle.parser.proofs.Blocks.{fill-end}
 use Rattle.parser.proofs.fill_high.Statement.{statement}
 use Rattle.parser.proofs.fill_high.Tie as tie

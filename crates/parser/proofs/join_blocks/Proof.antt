@@ -4,7 +4,7 @@ use Prim.Native.Nat.{_≤_, _-_}
 use borrow.Author.Needs.{needs}
 use lib.ListN.{length}
 use Rattle.tables.proofs.Filled.{filled, filled-start}
-use Rattle.parser.specs.Blocks.{paired}
+use Rattle.parser.specs.Inner.Blocks.{paired}
 use Rattle.parser.proofs.Blocks.{pair-more, fill-end}
 use Rattle.parser.proofs.join_blocks.Statement.{statement}
 use Rattle.parser.proofs.join_blocks.Tie as tie

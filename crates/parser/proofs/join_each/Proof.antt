@@ -4,7 +4,7 @@ use Prim.Native.Nat.{_≤_, _-_}
 use borrow.Author.Needs.{needs}
 use lib.ListN.{length, getD}
 use Rattle.tables.proofs.Filled.{filled, filled-start}
-use Rattle.parser.specs.Blocks.{joinOf}
+use Rattle.parser.specs.Inner.Blocks.{joinOf}
 use Rattle.parser.proofs.Blocks.{each-more, fill-end}
 use Rattle.parser.proofs.join_each.Statement.{statement}
 use Rattle.parser.proofs.join_each.Tie as tie

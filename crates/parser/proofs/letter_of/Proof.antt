@@ -2,7 +2,7 @@
 use native.Mathlib.Omega.{arith}
 use borrow.Author.Needs.{needs}
 use borrow.Author.Tests.{lt-ltb, le-ltb}
-use Rattle.parser.specs.Blocks.{letterOf}
+use Rattle.parser.specs.Inner.Blocks.{letterOf}
 use Rattle.parser.proofs.letter_of.Statement.{statement}
 use Rattle.parser.proofs.letter_of.Tie as tie
 

@@ -5,7 +5,7 @@ use native.Mathlib.Omega.{arith}
 use borrow.Author.Needs.{needs}
 use lib.ListN.{length, getD}
 use Rattle.tables.proofs.Filled.{filled, filled-start}
-use Rattle.polynomials.specs.LookUp.{chosen}
+use Rattle.polynomials.specs.Inner.LookUp.{chosen}
 use Rattle.polynomials.proofs.LookUp.{choose-more, choose-end}
 use Rattle.polynomials.proofs.choose.Statement.{statement}
 use Rattle.polynomials.proofs.choose.Tie as tie

@@ -8,7 +8,7 @@ use lib.ListN.{length}
 use lib.Pow.{pow-pos}
 use Rattle.tables.proofs.Filled.{filled, filled-start}
 use Rattle.words.proofs.Parts.{parts-more, part-fits, part-length}
-use Rattle.polynomials.specs.LookUp.{putFor}
+use Rattle.polynomials.specs.Inner.LookUp.{putFor}
 use Rattle.polynomials.proofs.Work.{partWord, part-put, parts-taken}
 use Rattle.polynomials.proofs.take_parts.Statement.{statement}
 use Rattle.polynomials.proofs.take_parts.Tie as tie

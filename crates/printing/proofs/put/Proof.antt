@@ -4,7 +4,7 @@ use Prim.Native.Nat.{_+_, _≤_, _-_}
 use native.Mathlib.Omega.{arith}
 use borrow.Author.Needs.{needs}
 use lib.ListN.{length, take, length-set}
-use Rattle.tables.specs.Put.{Put}
+use Rattle.tables.specs.Inner.Put.{Put}
 use Rattle.tables.proofs.Put.{put-start, put-more, put-all}
 use Rattle.printing.proofs.put.Statement.{statement}
 use Rattle.printing.proofs.put.Tie as tie

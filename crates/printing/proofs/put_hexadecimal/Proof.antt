@@ -5,7 +5,7 @@ use native.Mathlib.Omega.{arith}
 use borrow.Author.Needs.{needs}
 use lib.ListN.{length, take, length-set}
 use Rattle.printing.specs.Print.{hexadecimal}
-use Rattle.tables.specs.Put.{Put}
+use Rattle.tables.specs.Inner.Put.{Put}
 use Rattle.printing.proofs.Hexadecimal.{hex-start, hex-more, hex-all}
 use Rattle.printing.proofs.put_hexadecimal.Statement.{statement}
 use Rattle.printing.proofs.put_hexadecimal.Tie as tie

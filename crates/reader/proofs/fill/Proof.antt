@@ -6,7 +6,7 @@ use native.Mathlib.Omega.{arith}
 use lib.ListN.{length}
 use borrow.Author.Needs.{needs}
 use Rattle.records.proofs.Loops.{on-fits}
-use Rattle.reader.specs.Filling.{putMonomial}
+use Rattle.reader.specs.Inner.Filling.{putMonomial}
 use Rattle.reader.proofs.Filling.{Filling, put-long, fill-start, fill-none, fill-broken, fill-bounds, fill-end, fill-next}
 use Rattle.reader.proofs.fill.Statement.{statement}
 use Rattle.reader.proofs.fill.Tie as tie

@@ -8,7 +8,7 @@ use borrow.Author.Needs.{needs}
 use lib.ListN.{length, take, drop, length-drop}
 use lib.Seq.{length-take-le}
 use Rattle.tables.proofs.Put.{put-length}
-use Rattle.sheet_lines.specs.Feeding.{carried}
+use Rattle.sheet_lines.specs.Inner.Feeding.{carried}
 use Rattle.sheet_lines.proofs.Feeding.{feeds-some}
 use Rattle.sheet.specs.Running.{Advances}
 use Rattle.sheet.proofs.Running.{piece-starts, piece-more, piece-ends}

@@ -4,7 +4,7 @@ use Prim.Native.Nat.{ℕ}
 use borrow.Author.Needs.{needs}
 use lib.ListN.{length}
 use Rattle.streams.specs.declared.Got.{Got}
-use Rattle.streams.specs.Got.{gotWithin}
+use Rattle.streams.specs.Inner.Got.{gotWithin}
 use Rattle.sheet.proofs.Running.{takes-read, takes-forward}
 use Rattle.sheet.proofs.read_piece.Statement.{statement}
 use Rattle.sheet.proofs.read_piece.Tie as tie

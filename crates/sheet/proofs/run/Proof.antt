@@ -7,7 +7,7 @@ use native.Mathlib.Omega.{arith}
 use borrow.Author.Needs.{needs}
 use lib.ListN.{length}
 use Rattle.tables.proofs.Put.{put-length}
-use Rattle.sheet_lines.specs.Feeding.{carried}
+use Rattle.sheet_lines.specs.Inner.Feeding.{carried}
 use Rattle.sheet.proofs.Running.{Reached, reached-start, reached-more, reached-end}
 use Rattle.sheet.proofs.run.Statement.{statement}
 use Rattle.sheet.proofs.run.Tie as tie

@@ -6,7 +6,7 @@ use borrow.Author.Needs.{needs}
 use lib.Seq.{length-take-le}
 use Rattle.streams.specs.declared.Got.{Got}
 use Rattle.streams.specs.declared.Got.the-variants.{Bytes}
-use Rattle.streams.specs.Got.{gotWithin}
+use Rattle.streams.specs.Inner.Got.{gotWithin}
 use Rattle.sheet.proofs.Running.{takes-bytes, takes-end}
 use Rattle.sheet.proofs.take_got.Statement.{statement}
 use Rattle.sheet.proofs.take_got.Tie as tie

@@ -6,7 +6,7 @@ use native.Mathlib.Omega.{arith}
 use lib.ListN.{length}
 use borrow.Author.Needs.{needs}
 use Rattle.tables.proofs.Put.{put-length}
-use Rattle.sheet_lines.specs.Feeding.{Took}
+use Rattle.sheet_lines.specs.Inner.Feeding.{Took}
 use Rattle.sheet_lines.proofs.Feeding.{took-none, took-more}
 use Rattle.sheet_lines.proofs.feed_with.Statement.{statement}
 use Rattle.sheet_lines.proofs.feed_with.Tie as tie

@@ -10,7 +10,8 @@ use lib.Seq.{length-take-le}
 use Rattle.tables.proofs.Questions.{Fine, fine, first-table, second-length, second-are-bits}
 use Rattle.tables.proofs.Reply.{call-refused, call-done}
 use Rattle.tables.proofs.Steps.{pow-small}
-use Rattle.solver.specs.Calls.{handedRefusal, handedTable}
+use Rattle.calls.specs.GONE.{handedRefusal}
+use Rattle.calls.specs.Solving.{handedTable}
 use Rattle.solver.proofs.Calls.{length-handed, first-is, first-are}
 use Rattle.solver.proofs.lowenheim_handed.Statement.{statement}
 use Rattle.solver.proofs.lowenheim_handed.Tie as tie

@@ -4,7 +4,7 @@ use Prim.Native.Nat.{_≤_, _-_}
 use native.Mathlib.Omega.{arith}
 use borrow.Author.Needs.{needs}
 use lib.ListN.{length}
-use Rattle.solution.specs.ByPoints.{zeroChoice}
+use Rattle.solution.specs.Inner.ByPoints.{zeroChoice}
 use Rattle.words.specs.Words.{wordsOf, bitAt}
 use Rattle.words.proofs.Words.{size-words}
 use Rattle.words.proofs.Turned.{machine-words}

@@ -10,7 +10,7 @@ use Rattle.tables.proofs.Filled.{filled, filled-start}
 use Rattle.words.specs.Words.{bitAt}
 use Rattle.words.proofs.Words.{size-words}
 use Rattle.words.proofs.Parts.{part-fits, part-length}
-use Rattle.solver.specs.Words.{partValue, mixedValue}
+use Rattle.solver.specs.Inner.Words.{partValue, mixedValue}
 use Rattle.solver.proofs.Tables.{answerByte, tables-more, tables-done, mixed-table}
 use Rattle.solver.proofs.write_mixed.Statement.{statement}
 use Rattle.solver.proofs.write_mixed.Tie as tie

@@ -8,7 +8,7 @@ use lib.ListN.{length}
 use Rattle.ring.specs.Polynomial.{value}
 use Rattle.tables.proofs.Filled.{filled, filled-start}
 use Rattle.words.proofs.Parts.{part-fits, part-length}
-use Rattle.solver.specs.Words.{partValue}
+use Rattle.solver.specs.Inner.Words.{partValue}
 use Rattle.solver.proofs.Tables.{answerByte, tables-more, tables-done, copied-table}
 use Rattle.solver.proofs.write_tables.Statement.{statement}
 use Rattle.solver.proofs.write_tables.Tie as tie

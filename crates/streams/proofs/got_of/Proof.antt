@@ -2,7 +2,7 @@
 use mathlib.Core.Path.{_≡_, refl, sym, ap}
 use Prim.Native.Nat.{ℕ, zero, suc}
 use Rattle.streams.specs.declared.Got.the-variants.{Bytes}
-use Rattle.streams.specs.Got.{gotOf}
+use Rattle.streams.specs.Inner.Got.{gotOf}
 use Rattle.streams.proofs.got_of.Statement.{statement}
 use Rattle.streams.proofs.got_of.Tie as tie
 

@@ -5,7 +5,7 @@ use native.Mathlib.Omega.{arith}
 use borrow.Author.Needs.{needs}
 use lib.ListN.{length}
 use Rattle.streams.specs.declared.Got.{Got}
-use Rattle.streams.specs.Got.{gotOf, gotWithin}
+use Rattle.streams.specs.Inner.Got.{gotOf, gotWithin}
 use Rattle.streams.proofs.read_some.Statement.{statement}
 use Rattle.streams.proofs.read_some.Tie as tie
 

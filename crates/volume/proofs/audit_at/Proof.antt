@@ -4,7 +4,7 @@ use lib.ListN.{drop}
 use borrow.Author.Needs.{needs}
 use Rattle.tables.proofs.Questions.{failed, passed}
 use Rattle.tables.proofs.Slices.{rest-of}
-use Rattle.audit.specs.Audit.{auditReply, audited}
+use Rattle.calls.specs.GONE.{auditReply, audited}
 use Rattle.volume.proofs.Turns.{refused-first, refused-15, passed-all}
 use Rattle.volume.proofs.audit_at.Statement.{statement}
 use Rattle.volume.proofs.audit_at.Tie as tie

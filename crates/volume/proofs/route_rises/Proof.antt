@@ -1,6 +1,6 @@
 -- Where there is no route before, the answer is yes; else the routes are compared. Assumes nothing.
 use borrow.Author.Tests.{eq-eqb, ne-eqb}
-use Rattle.volume.specs.Walk.{routeRises}
+use Rattle.calls.specs.Questions.{routeRises}
 use Rattle.volume.proofs.route_rises.Statement.{statement}
 use Rattle.volume.proofs.route_rises.Tie as tie
 

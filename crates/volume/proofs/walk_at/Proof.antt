@@ -6,7 +6,7 @@ use Prim.Native.Nat.{_+_, _-_, _≤_, _<_}
 use native.Mathlib.Omega.{arith}
 use lib.ListN.{length, drop}
 use borrow.Author.Needs.{needs}
-use Rattle.volume.specs.Walk.{walkBehind, walkReply}
+use Rattle.calls.specs.Walk.{walkBehind, walkReply}
 use Rattle.volume.proofs.Turns.{walk-ends, walk-refused, walk-passed, some-used, used-within}
 use Rattle.volume.proofs.walk_at.Statement.{statement}
 use Rattle.volume.proofs.walk_at.Tie as tie

@@ -38,10 +38,11 @@ use denote.Triple.Table.{entered, cited}
 use denote.Triple.Walked.{says, Stays, stay-none, stay-none-slice, walkOf, goes-none, goes-none-slice, Walks, ends-at, walked, walk-meets}
 use denote.Exit.{yes}
 use denote.Triple.Clauses.{ensured, lasts}
-use Rattle.tables.specs.Reply.{Reply}
-use Rattle.volume.specs.Walk.{walkReply, walked as answerOf}
+use Rattle.tables.specs.Answered.{Reply}
+use Rattle.calls.specs.Walk.{walkReply}
+use Rattle.calls.specs.GONE.{walked as answerOf}
 use Rattle.volume.specs.declared.Walk.{Walk}
-use Rattle.volume.specs.declared.Walked.{Walked}
+use Rattle.calls.specs.declared.Walked.{Walked}
 use Rattle.volume.proofs.Walk as T
 use Rattle.volume.proofs.Walk.Laws as T′
 use Rattle.volume.proofs.Walked as S

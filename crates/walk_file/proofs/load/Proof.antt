@@ -6,7 +6,7 @@ use borrow.Author.Needs.{needs}
 use lib.ListN.{length}
 use Rattle.streams.specs.declared.Got.{Got}
 use Rattle.streams.specs.declared.Got.the-variants.{Bytes}
-use Rattle.streams.specs.Got.{gotWithin}
+use Rattle.streams.specs.Inner.Got.{gotWithin}
 use Rattle.walk_file.proofs.load.Statement.{statement}
 use Rattle.walk_file.proofs.load.Tie as tie
 

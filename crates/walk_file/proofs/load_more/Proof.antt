@@ -7,7 +7,7 @@ use borrow.Rule.Slice.PartMut.{take-put}
 use lib.ListN.{length, drop, length-drop}
 use lib.Seq.{length-take-le}
 use Rattle.streams.specs.declared.Got.{Got}
-use Rattle.streams.specs.Got.{gotWithin}
+use Rattle.streams.specs.Inner.Got.{gotWithin}
 use Rattle.walk_file.proofs.load_more.Statement.{statement}
 use Rattle.walk_file.proofs.load_more.Tie as tie
 

@@ -6,7 +6,7 @@ use borrow.Author.Needs.{needs}
 use lib.ListN.{length}
 use Rattle.tables.proofs.Put.{put-same}
 use Rattle.entry.specs.Record.{recordBytes}
-use Rattle.entry.specs.Codes.{recordOf}
+use Rattle.entry.specs.Inner.Codes.{recordOf}
 use Rattle.entry.proofs.Codes.{Putting, putting-start, part-fits, putting-more, putting-end, each-bytes}
 use Rattle.writer.proofs.put_monomials.Statement.{statement}
 use Rattle.writer.proofs.put_monomials.Tie as tie

@@ -1,0 +1,115 @@
+-- The questions that each call puts, in their order (document 01, 'The questions, and the number if the answer is no'): 'The first no counts'.
+-- U unknowns and G givens, n = U + G; a table has 2 ^ n bytes, an answer or handed buffer U of them. A buffer that is only written comes as its
+-- number of bytes.
+-- Assumes nothing.
+use mathlib.Core.Bool.{Bool, _&&_, _||_}
+use mathlib.Core.List.{List, [], _∷_, _++_}
+use Prim.Native.Nat.{ℕ, _+_, _*_, _^_}
+use lib.Dec.{eqb, leb, ltb}
+use lib.ListN.{length, take}
+use Rattle.ring.specs.declared.State.{State}
+use Rattle.ring.specs.declared.Choice.{Choice}
+use Rattle.tables.specs.declared.Question.the-variants.{Letters, Route, TextLength, Signs, Declared, Grammar, Solution, Records, Kinds, Numbers, Afresh, Output, Rising, Range}
+use Rattle.tables.specs.Questions.{Asked, asks, asksGiving, lettersFit, reads, writes, bufferQuestions, inRange}
+use Rattle.grammar.specs.Symbols.{allSigns, allDeclared}
+use Rattle.grammar.specs.Reader.{grammarReads}
+use Rattle.solution.specs.Condition.{Condition, width, polynomial, conditionOf}
+use Rattle.solution.specs.Elimination.{solvable, smallestBlocked}
+use Rattle.entry.specs.Record.{Record}
+use Rattle.entry.specs.Held.{routeOf, unknownsOf, givensOf}
+use Rattle.entry.specs.Entry.{entry}
+use Rattle.entry.specs.Questions.{routeFits, hasEnd, kindsFit, numbersFit, answersHold}
+
+-- 'Value: 1, 4, 8, 16'
+unfoldable pub valueQuestions : ℕ → ℕ → List ℕ → State → Choice → List Asked
+valueQuestions U G t state choice =
+    asks Letters (lettersFit U G)
+    ∷ (bufferQuestions (reads (2 ^ (U + G)) t ∷ [])
+    ++ (asks Range (inRange U G state choice) ∷ []))
+
+-- 'Sum or product of two tables ..: 1, 4, 8, the result going to a further condition buffer'
+unfoldable pub pairQuestions : ℕ → ℕ → List ℕ → List ℕ → ℕ → List Asked
+pairQuestions U G a b room =
+    asks Letters (lettersFit U G)
+    ∷ bufferQuestions (reads (2 ^ (U + G)) a ∷ reads (2 ^ (U + G)) b ∷ writes (2 ^ (U + G)) room ∷ [])
+
+-- '.. and handed polynomials put into a condition: 1, 4, 8'
+unfoldable pub substituteQuestions : ℕ → ℕ → List ℕ → List ℕ → ℕ → List Asked
+substituteQuestions U G condition handed room =
+    asks Letters (lettersFit U G)
+    ∷ bufferQuestions (reads (2 ^ (U + G)) condition ∷ reads (U * 2 ^ (U + G)) handed ∷ writes (2 ^ (U + G)) room ∷ [])
+
+-- 3: 'Has the text 1 to 200 bytes?'
+unfoldable pub hasTextLength : List ℕ → Bool
+hasTextLength text = leb 1 (length text) && leb (length text) 200
+
+-- 'Text: 1, 3, 4, 5, 6, 7'
+unfoldable pub textQuestions : ℕ → ℕ → List ℕ → ℕ → List Asked
+textQuestions U G text room =
+    asks Letters (lettersFit U G)
+    ∷ asks TextLength (hasTextLength text)
+    ∷ (bufferQuestions (writes (2 ^ (U + G)) room ∷ [])
+    ++ (asks Signs (allSigns text) ∷ asks Declared (allDeclared U G text) ∷ asks Grammar (grammarReads text) ∷ []))
+
+-- the condition in a lent buffer, read as far as question 4's length
+abbrev pub lentCondition : ℕ → ℕ → List ℕ → Condition
+lentCondition U G buffer = conditionOf U G (take (2 ^ (U + G)) buffer)
+
+-- '9. Has the condition a solution? (a no also gives the state)': the smallest in which every choice gives the condition the value 1
+abbrev pub asksSolution : Condition → Asked
+asksSolution c =
+    asksGiving Solution (solvable (width c) (polynomial c) (c .order)) (smallestBlocked (c .U) (c .G) (polynomial c) .0 ∷ [])
+
+-- 'Boole, particular solution, own Löwenheim: 1, 4, 8, 9'
+unfoldable pub solvingQuestions : ℕ → ℕ → List ℕ → ℕ → List Asked
+solvingQuestions U G condition room =
+    asks Letters (lettersFit U G)
+    ∷ (bufferQuestions (reads (2 ^ (U + G)) condition ∷ writes (U * 2 ^ (U + G)) room ∷ [])
+    ++ (asksSolution (lentCondition U G condition) ∷ []))
+
+-- 'Handed Löwenheim: 1, 4, 8, the result going to an answer buffer of its own'
+unfoldable pub handedQuestions : ℕ → ℕ → List ℕ → List ℕ → ℕ → List Asked
+handedQuestions U G condition handed room =
+    asks Letters (lettersFit U G)
+    ∷ bufferQuestions (reads (2 ^ (U + G)) condition ∷ reads (U * 2 ^ (U + G)) handed ∷ writes (U * 2 ^ (U + G)) room ∷ [])
+
+-- 14: 'Is the output at least as long as what is to be written?'
+unfoldable pub outputFits : List ℕ → ℕ → Bool
+outputFits made room = leb (length made) room
+
+-- 'Writing: 1, 2, 4, 8, 14'
+unfoldable pub writeQuestions : ℕ → ℕ → ℕ → List ℕ → ℕ → List Asked
+writeQuestions route U G condition room =
+    asks Letters (lettersFit U G)
+    ∷ asks Route (routeFits route)
+    ∷ (bufferQuestions (reads (2 ^ (U + G)) condition ∷ [])
+    ++ (asks Output (outputFits (entry route (lentCondition U G condition)) room) ∷ []))
+
+-- 10, 11, 1, 2, 12: what reading and audit put to the records of an entry
+unfoldable pub entryQuestions : List Record → List Asked
+entryQuestions rs =
+    asks Records (hasEnd rs)
+    ∷ asks Kinds (kindsFit rs)
+    ∷ asks Letters (lettersFit (unknownsOf rs) (givensOf rs))
+    ∷ asks Route (routeFits (routeOf rs))
+    ∷ asks Numbers (numbersFit rs)
+    ∷ []
+
+-- 'Reading: 10, 11, 1, 2, 12, 4'
+unfoldable pub readQuestions : List Record → ℕ → ℕ → List Asked
+readQuestions rs room answerRoom =
+    entryQuestions rs
+    ++ bufferQuestions
+    (writes (2 ^ (unknownsOf rs + givensOf rs)) room ∷ writes (unknownsOf rs * 2 ^ (unknownsOf rs + givensOf rs)) answerRoom ∷ [])
+
+-- 'Audit: 10, 11, 1, 2, 12, 13'
+unfoldable pub auditQuestions : List Record → List Asked
+auditQuestions rs = entryQuestions rs ++ (asks Afresh (answersHold rs) ∷ [])
+
+-- 15: 'Is the route above the one before?' Where `before` is 0 there is none before, and the answer is yes
+unfoldable pub routeRises : ℕ → ℕ → Bool
+routeRises before route = eqb before 0 || ltb before route
+
+-- 'Walk: the audit's, then 15, per entry'
+unfoldable pub walkQuestions : ℕ → List Record → List Asked
+walkQuestions before rs = auditQuestions rs ++ (asks Rising (routeRises before (routeOf rs)) ∷ [])

@@ -1,0 +1,42 @@
+-- What the solving calls do (`solver`). Tables are lists of bytes over U unknowns and G givens; n = U + G.
+-- Assumes nothing.
+use mathlib.Core.List.{List, [], _∷_}
+use Prim.Native.Nat.{ℕ, _+_}
+use lib.ListN.{length}
+use Rattle.ring.specs.Table.{present, held, answerTable}
+use Rattle.tables.specs.Answered.{Reply, accepted, refused, Answered, call, _into_}
+use Rattle.solution.specs.Condition.{Condition}
+use Rattle.solution.specs.Elimination.{lowenheim, booleTable, particularTable, lowenheimTable}
+use Rattle.calls.specs.declared.Verdict.the-variants.{Solved, None}
+use Rattle.calls.specs.declared.Solving.{Solving}
+use Rattle.calls.specs.declared.Solving.the-variants.{Said, Refused}
+use Rattle.calls.specs.Questions.{lentCondition, solvingQuestions, handedQuestions}
+
+-- this paper's number and values for each case of `Solving`: question 9 'also gives the state'
+abbrev pub solving : Solving → Reply
+solving (Said Solved) = accepted []
+solving (Said (None state)) = refused 9 (state .0 ∷ [])
+solving (Refused number) = refused number []
+
+-- a call that solves a condition and fills the answer buffer with one of its answer tables
+abbrev pub solvingCall : (Condition → List ℕ) → ℕ → ℕ → List ℕ → List ℕ → Answered Reply
+solvingCall answerTables U G condition answers =
+    call (solvingQuestions U G condition (length answers)) [] (answerTables (lentCondition U G condition) into answers ∷ [])
+
+-- Boole's answers, the particular solution, and the engine's own Löwenheim answers
+abbrev pub booleCall : ℕ → ℕ → List ℕ → List ℕ → Answered Reply
+booleCall = solvingCall booleTable
+
+abbrev pub particularCall : ℕ → ℕ → List ℕ → List ℕ → Answered Reply
+particularCall = solvingCall particularTable
+
+abbrev pub lowenheimCall : ℕ → ℕ → List ℕ → List ℕ → Answered Reply
+lowenheimCall = solvingCall lowenheimTable
+
+-- x + f*(x + b of x) for each unknown x, 'without a test that they solve f'
+unfoldable pub handedTable : ℕ → ℕ → List ℕ → List ℕ → List ℕ
+handedTable U G condition handed = answerTable U (U + G) (lowenheim (U + G) (present condition) (held (U + G) handed))
+
+abbrev pub handedCall : ℕ → ℕ → List ℕ → List ℕ → List ℕ → Answered Reply
+handedCall U G condition handed answers =
+    call (handedQuestions U G condition handed (length answers)) [] (handedTable U G condition handed into answers ∷ [])

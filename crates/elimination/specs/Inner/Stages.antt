@@ -1,0 +1,60 @@
+-- Boole's elimination through any order on truth values in words, k words to a function. The method at points is that of
+-- `solution/specs/ByPoints.antt`, which the laws of `solution` tie to the polynomials.
+-- Assumes nothing.
+use mathlib.Core.Path.{_≡_}
+use mathlib.Core.Bool.{Bool, true, not, _&&_, cond}
+use mathlib.Core.List.{List, [], _∷_, _++_}
+use Prim.Native.Nat.{ℕ, suc, _+_, _*_, _/_, _%_, _<_}
+use lib.Dec.{eqb}
+use lib.ListN.{length, getD, drop}
+use Rattle.ring.specs.Letters.{bit, assign}
+use Rattle.ring.specs.Lists.{has}
+use Rattle.ring.specs.Polynomial.{_⊕_}
+use Rattle.solution.specs.Condition.{IsOrder}
+use Rattle.solution.specs.Inner.ByPoints.{bothCases, answeredThrough, zeroChoice}
+use Rattle.words.specs.Words.{wordsOf, bitAt}
+
+-- the letters of a list are below n
+abbrev pub InLetters : ℕ → List ℕ → Type 0
+InLetters n order = (x : ℕ) → has x order ≡ true → x < n
+
+-- at the points of k words f does not turn on the unknowns below u
+abbrev pub IgnoresUnknowns : ℕ → ℕ → (ℕ → Bool) → Type 0
+IgnoresUnknowns u k f = (p : ℕ) → p < 64 * k → f p ≡ f (zeroChoice u p)
+
+-- no letter stands in the list twice
+unfoldable pub noRepeats : List ℕ → Bool
+noRepeats [] = true
+noRepeats (x ∷ order) = not (has x order) && noRepeats order
+
+-- the order lists each of the U unknowns once
+abbrev pub ListsEach : ℕ → List ℕ → Type 0
+ListsEach U order = IsOrder U order × (noRepeats order ≡ true) × (length order ≡ U)
+
+-- the conditions before each unknown goes
+unfoldable pub stageWords : ℕ → (ℕ → Bool) → List ℕ → List ℕ
+stageWords k f [] = []
+stageWords k f (x ∷ order) = wordsOf k f ++ stageWords k (bothCases f x) order
+
+-- the answer for x, the unknowns of the order being later: f + x with the later answers put in
+unfoldable pub answerAt : (ℕ → Bool) → ℕ → List ℕ → ℕ → Bool
+answerAt f x order p = f (answeredThrough (bothCases f x) order p) ⊕ bit p x
+
+-- the answers, in the order: a slot of k words for each
+unfoldable pub slotWords : ℕ → (ℕ → Bool) → List ℕ → List ℕ
+slotWords k f [] = []
+slotWords k f (x ∷ order) = wordsOf k (answerAt f x order) ++ slotWords k (bothCases f x) order
+
+-- a with the values in `slots` put for the letters of the order, the last one first
+unfoldable pub putWords : ℕ → List ℕ → List ℕ → (ℕ → Bool) → ℕ → Bool
+putWords k slots [] a p = a p
+putWords k slots (x ∷ order) a p = putWords k (drop k slots) order a (assign p x (bitAt slots p))
+
+-- where x stands in the order
+unfoldable pub placeOf : List ℕ → ℕ → ℕ
+placeOf [] x = 0
+placeOf (y ∷ order) x = cond (eqb x y) 0 (suc (placeOf order x))
+
+-- word w of the answers by unknown, k words to an unknown, from those in the order's slots
+unfoldable pub slotWord : ℕ → List ℕ → List ℕ → ℕ → ℕ
+slotWord k order slots w = getD slots (placeOf order (w / k) * k + w % k) 0

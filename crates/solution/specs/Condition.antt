@@ -1,0 +1,36 @@
+-- What is solved: a condition over its letters, and the order in which its unknowns go (document 01, 'Boole's elimination').
+-- Assumes nothing.
+use mathlib.Core.Path.{_≡_}
+use mathlib.Core.List.{List}
+use Prim.Native.Nat.{ℕ, _+_}
+use lib.Dec.{ltb}
+use Rattle.ring.specs.Polynomial.{Polynomial}
+use Rattle.ring.specs.Table.{present}
+use Rattle.ring.specs.Lists.{listed, has}
+
+-- 'condition = 0': U unknowns and G givens, the unknowns in the order in which they go, and the condition's table over all of them
+pub record Condition : Type 0 where
+  pub U : ℕ
+  pub G : ℕ
+  pub order : List ℕ
+  pub table : List ℕ
+
+-- n: the number of letters
+abbrev pub width : Condition → ℕ
+width c = c .U + c .G
+
+-- the polynomial that is to be 0
+abbrev pub polynomial : Condition → Polynomial
+polynomial c = present (c .table)
+
+-- 'Unknown 0 goes first, then 1, and so on'
+unfoldable pub defaultOrder : ℕ → List ℕ
+defaultOrder U = listed U (λ j. j)
+
+-- the condition with the table t, its unknowns in that order
+abbrev pub conditionOf : ℕ → ℕ → List ℕ → Condition
+conditionOf U G t = record { U = U; G = G; order = defaultOrder U; table = t }
+
+-- the order lists the unknowns: every one of them, and nothing else
+abbrev pub IsOrder : ℕ → List ℕ → Type 0
+IsOrder U order = (x : ℕ) → has x order ≡ ltb x U
