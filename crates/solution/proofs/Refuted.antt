@@ -14,14 +14,14 @@ use Rattle.ring.specs.Lists.{listed}
 use Rattle.ring.proofs.Substitute.{value-letter}
 use Rattle.solution.specs.Letters.{Letter, unknown, given, other, holds, HoldsGivens, place, Valuation, pointOf, valueOver}
 use Rattle.solution.specs.Substitution.{Substitution, letterAt, ownLetters, putIn, MakesZero, InstanceOf}
-use Rattle.solution.specs.Condition.{defaultOrder}
+use Rattle.solution.specs.Condition.{conditionOf}
 use Rattle.solution.specs.Elimination.{Verdict, solved, none}
 use Rattle.solution.specs.General.{RightVerdict}
 use Rattle.solution.proofs.Letters.{replacedValue, value-putIn, bit-place}
 
 -- a right verdict on the condition with the table t, in the order 0, 1, 2, ..
 abbrev Right : ℕ → ℕ → List ℕ → Verdict Substitution → Type 0
-Right U G t verdict = RightVerdict U G (defaultOrder U) (present t) verdict
+Right U G t verdict = RightVerdict (conditionOf U G t) verdict
 
 no-givens : (L : List Letter) → HoldsGivens 0 L
 no-givens L i h = absurd (omega arith)

@@ -8,11 +8,11 @@ use Rattle.ring.specs.Lists.{listed}
 use Rattle.solution.specs.Letters.{place}
 use Rattle.solution.specs.Substitution.{letterAt, ownLetters, putIn}
 use Rattle.solution.specs.Condition.{defaultOrder}
-use Rattle.solution.specs.Elimination.{nextCondition, remains, answerFrom, booleAnswers, particular, lowenheim, ownLowenheim, smallestBelow, blocked, smallestBlocked, isZero, solvable, solve}
+use Rattle.solution.specs.Elimination.{nextCondition, remains, answerFrom, booleAnswers, particular, lowenheim, ownLowenheim, smallestBelow, blocked, smallestBlocked, isZero, solvable, booleTable, lowenheimTable, solve}
 use Rattle.solution.specs.BenchTable.{starredRows, furtherRows, AllHold, end, _also_}
 
 pub starred-rows-hold : AllHold starredRows
-unfolding starredRows solve solvable isZero everyBelow remains nextCondition product restrict odd count present bit defaultOrder listed answerTable tabulate booleAnswers answerFrom sum letter constant substitute monomial smallestBlocked smallestBelow blocked point value within ownLowenheim lowenheim particular putIn place ownLetters letterAt
+unfolding starredRows solve booleTable lowenheimTable solvable isZero everyBelow remains nextCondition product restrict odd count present bit defaultOrder listed answerTable tabulate booleAnswers answerFrom sum letter constant substitute monomial smallestBlocked smallestBelow blocked point value within ownLowenheim lowenheim particular putIn place ownLetters letterAt
 starred-rows-hold =
     record { boole = refl; own = tt }
     also record { boole = refl; own = tt }
@@ -28,5 +28,5 @@ starred-rows-hold =
     also end
 
 pub further-rows-hold : AllHold furtherRows
-unfolding furtherRows solve solvable isZero everyBelow remains nextCondition product restrict odd count present bit defaultOrder listed answerTable tabulate booleAnswers answerFrom sum letter constant substitute monomial smallestBlocked smallestBelow blocked point value within ownLowenheim lowenheim particular putIn place ownLetters letterAt
+unfolding furtherRows solve booleTable lowenheimTable solvable isZero everyBelow remains nextCondition product restrict odd count present bit defaultOrder listed answerTable tabulate booleAnswers answerFrom sum letter constant substitute monomial smallestBlocked smallestBelow blocked point value within ownLowenheim lowenheim particular putIn place ownLetters letterAt
 further-rows-hold = record { boole = refl; own = refl } also record { boole = refl; own = tt } also end

@@ -8,13 +8,13 @@ use mathlib.Core.Bool.{Bool, true, false}
 use mathlib.Core.List.{List}
 use Prim.Native.Nat.{ℕ, _+_, _<_}
 use Rattle.ring.specs.Polynomial.{Polynomial, constant}
-use Rattle.ring.specs.Table.{present, held, answerTable}
+use Rattle.ring.specs.Table.{held}
 use Rattle.ring.proofs.Bool.{bool-iff}
 use Rattle.ring.proofs.Table.{held-answerTable}
 use Rattle.solution.specs.Letters.{Letter, HoldsGivens, Valuation, valueOver}
 use Rattle.solution.specs.Substitution.{Substitution, ownLetters, putIn, MakesZero}
-use Rattle.solution.specs.Condition.{IsOrder}
-use Rattle.solution.specs.Elimination.{booleAnswers, particular, lowenheim, ownLowenheim, smallestBlocked, solvable, solve}
+use Rattle.solution.specs.Condition.{Condition, width, polynomial, IsOrder}
+use Rattle.solution.specs.Elimination.{booleAnswers, particular, lowenheim, ownLowenheim, smallestBlocked, solvable, booleTable, lowenheimTable, solve}
 use Rattle.solution.specs.General.{SmallestBlocked, General, InstancesOfEachOther, RightVerdict, inPolynomials}
 use Rattle.solution.proofs.Letters.{own-holds, same-without-unknowns}
 use Rattle.solution.proofs.General.{each-other, lowenheim-general, particular-zero, leads-reproductive}
@@ -82,18 +82,18 @@ pub orders-each-other : (U G : ℕ) (f : Polynomial) (a b : List ℕ) → IsOrde
 orders-each-other U G f a b is-a is-b z =
     each-other U G f _ _ (boole-general U G f a is-a z) (boole-general U G f b is-b (sym (orders-agree U G f a b is-a is-b) ∙ z))
 
--- demand 3 of the bytes: what `solve` says of the condition with the table t is right, in every part
-pub right-verdict : (U G : ℕ) (order : List ℕ) → IsOrder U order → (t : List ℕ) → RightVerdict U G order (present t) (inPolynomials (U + G) (solve U G order t))
+-- demand 3 of the bytes: what `solve` says of a condition is right, in every part
+pub right-verdict : (c : Condition) → IsOrder (c .U) (c .order) → RightVerdict c (inPolynomials (width c) (solve c))
 right-verdict = right
 
 -- Boole's answer table and the engine's own Löwenheim answer table, as bytes
-pub tables-each-other : (U G : ℕ) (order : List ℕ) → IsOrder U order → (t : List ℕ) → solvable (U + G) (present t) order ≡ true
-    → InstancesOfEachOther U G (held (U + G) (answerTable U (U + G) (booleAnswers (U + G) (present t) order)))
-    (held (U + G) (answerTable U (U + G) (ownLowenheim U G order (present t))))
-unfolding AreBooles
-tables-each-other U G order is t z =
-    each-other U G (present t) _ _ (booles-general U G order is (present t) z _ (held-answerTable U (U + G) (booleAnswers (U + G) (present t) order)))
-    (own-table-general U G order is (present t) z)
+pub tables-each-other : (c : Condition) → IsOrder (c .U) (c .order) → solvable (width c) (polynomial c) (c .order) ≡ true
+    → InstancesOfEachOther (c .U) (c .G) (held (width c) (booleTable c)) (held (width c) (lowenheimTable c))
+unfolding AreBooles booleTable lowenheimTable
+tables-each-other c is z =
+    each-other (c .U) (c .G) (polynomial c) _ _
+    (booles-general (c .U) (c .G) (c .order) is (polynomial c) z _ (held-answerTable (c .U) (width c) (booleAnswers (width c) (polynomial c) (c .order))))
+    (own-table-general (c .U) (c .G) (c .order) is (polynomial c) z)
 
 -- 'Where U is 0 there is one substitution, the empty one': any two do the same
 pub empty-substitution : (G : ℕ) (f : Polynomial) (L : List Letter) → HoldsGivens G L → (σ τ : Substitution) (v : Valuation)

@@ -7,10 +7,10 @@ use Prim.Native.Nat.{ℕ, _+_, _^_, _<_}
 use native.Mathlib.Omega.{arith}
 use Rattle.ring.specs.declared.State.{State}
 use Rattle.ring.specs.Polynomial.{Polynomial, constant}
-use Rattle.ring.specs.Table.{present, held, answerTable}
+use Rattle.ring.specs.Table.{held, answerTable}
 use Rattle.solution.specs.Substitution.{Substitution, putIn}
-use Rattle.solution.specs.Condition.{IsOrder}
-use Rattle.solution.specs.Elimination.{booleAnswers, ownLowenheim, smallestBlocked, solvable, Verdict, solved, none, solve}
+use Rattle.solution.specs.Condition.{Condition, width, polynomial, IsOrder}
+use Rattle.solution.specs.Elimination.{booleAnswers, ownLowenheim, smallestBlocked, solvable, Verdict, solved, none, booleTable, solve}
 use Rattle.solution.specs.General.{SmallestBlocked, General, RightVerdict, inPolynomials}
 use Rattle.solution.proofs.Blocked.{zero-values, remains-blocked, blocked-none, smallest-blocked}
 use Rattle.solution.proofs.General.{Leads, leads-same, general, each-other, boole-leads, lowenheim-leads, particular-zero}
@@ -43,38 +43,51 @@ module _ (U G : ℕ) (order : List ℕ) (is : IsOrder U order) (f : Polynomial) 
   pub own-table-general : General U G f (held (U + G) (answerTable U (U + G) (ownLowenheim U G order f)))
   own-table-general = general U G f _ (leads-same U G f (ownLowenheim U G order f) _ (held-answerTable U (U + G) (ownLowenheim U G order f)) own-leads)
 
-  pub right-solved : (a : Substitution) → AreBooles U G order f a → RightVerdict U G order f (solved a)
+-- the same of a condition
+module _ (c : Condition) (is : IsOrder (c .U) (c .order)) where
+  pub right-solved : solvable (width c) (polynomial c) (c .order) ≡ true
+      → (a : Substitution) → AreBooles (c .U) (c .G) (c .order) (polynomial c) a → RightVerdict c (solved a)
   unfolding AreBooles
-  right-solved a same =
+  right-solved z a same =
       record {
-        exactly = λ L g.
-            (λ e. solved-none _ _ (e .1), λ h. absurd (h (λ j. putIn U G L (a j) (λ i. constant false)) (booles-general a same .each-makes-zero L g (λ i. constant false))));
+        exactly = λ L g. (
+          λ e. solved-none _ _ (e .1),
+          λ h. absurd (h (λ j. putIn (c .U) (c .G) L (a j) (λ i. constant false)) (is-general .each-makes-zero L g (λ i. constant false))),
+        );
         state = λ s e. solved-none _ _ e;
         booles = λ b e. rw (which b e) same;
-        general = λ b e. rw (which b e) (booles-general a same);
-        lowenheims = λ b e. rw (which b e) (each-other U G f _ _ (booles-general a same) own-general);
+        general = λ b e. rw (which b e) is-general;
+        lowenheims = λ b e. rw (which b e) (each-other (c .U) (c .G) (polynomial c) _ _ is-general own);
       }
     where
+      is-general : General (c .U) (c .G) (polynomial c) a
+      is-general = booles-general (c .U) (c .G) (c .order) is (polynomial c) z a same
+
+      own : General (c .U) (c .G) (polynomial c) (ownLowenheim (c .U) (c .G) (c .order) (polynomial c))
+      own = own-general (c .U) (c .G) (c .order) is (polynomial c) z
+
       which : (b : Substitution) → _≡_ {A = Verdict Substitution} (solved a) (solved b) → b ≡ a
       which b e = cc
 
-pub right-none : (U G : ℕ) (order : List ℕ) → IsOrder U order → (f : Polynomial) → solvable (U + G) f order ≡ false → RightVerdict U G order f (none (smallestBlocked U G f))
-right-none U G order is f z =
-    let r = remains-blocked U G f order is z in
-    let least : SmallestBlocked U G f (smallestBlocked U G f) = smallest-blocked U G f (r .0) (r .1) (r .2) in
-    record {
-      exactly = λ L g. (λ e σ. blocked-none U G f (r .0) (r .1) (r .2) L g σ, λ h. (smallestBlocked U G f, refl));
-      state = λ s e. let k : s ≡ smallestBlocked U G f = cc in rw k least;
-      booles = λ a e. solved-none _ _ (sym e);
-      general = λ a e. solved-none _ _ (sym e);
-      lowenheims = λ a e. solved-none _ _ (sym e);
-    }
+  pub right-none : solvable (width c) (polynomial c) (c .order) ≡ false
+      → RightVerdict c (none (smallestBlocked (c .U) (c .G) (polynomial c)))
+  right-none z =
+      let named : State = smallestBlocked (c .U) (c .G) (polynomial c) in
+      let r = remains-blocked (c .U) (c .G) (polynomial c) (c .order) is z in
+      let least : SmallestBlocked (c .U) (c .G) (polynomial c) named = smallest-blocked (c .U) (c .G) (polynomial c) (r .0) (r .1) (r .2) in
+      record {
+        exactly = λ L g. (λ e σ. blocked-none (c .U) (c .G) (polynomial c) (r .0) (r .1) (r .2) L g σ, λ h. (named, refl));
+        state = λ s e. let k : s ≡ named = cc in rw k least;
+        booles = λ a e. solved-none _ _ (sym e);
+        general = λ a e. solved-none _ _ (sym e);
+        lowenheims = λ a e. solved-none _ _ (sym e);
+      }
 
-pub right : (U G : ℕ) (order : List ℕ) → IsOrder U order → (t : List ℕ) → RightVerdict U G order (present t) (inPolynomials (U + G) (solve U G order t))
-unfolding solve inPolynomials AreBooles
-right U G order is t = go (solvable (U + G) (present t) order) refl
-  where
-    go : (b : Bool) → solvable (U + G) (present t) order ≡ b
-        → RightVerdict U G order (present t) (inPolynomials (U + G) (cond b (solved (answerTable U (U + G) (booleAnswers (U + G) (present t) order))) (none (smallestBlocked U G (present t)))))
-    go true z = right-solved U G order is (present t) z _ (held-answerTable U (U + G) (booleAnswers (U + G) (present t) order))
-    go false z = right-none U G order is (present t) z
+  pub right : RightVerdict c (inPolynomials (width c) (solve c))
+  unfolding solve booleTable inPolynomials AreBooles
+  right = go (solvable (width c) (polynomial c) (c .order)) refl
+    where
+      go : (b : Bool) → solvable (width c) (polynomial c) (c .order) ≡ b
+          → RightVerdict c (inPolynomials (width c) (cond b (solved (booleTable c)) (none (smallestBlocked (c .U) (c .G) (polynomial c)))))
+      go true z = right-solved z _ (held-answerTable (c .U) (width c) (booleAnswers (width c) (polynomial c) (c .order)))
+      go false z = right-none z
