@@ -1,44 +1,123 @@
--- The first no of a list of questions: what it means that there is none, and further questions behind them.
+-- The first no of a list of questions: what it means that there is none, and lists that are asked one behind another.
 -- Assumes nothing.
 use mathlib.Core.Path.{_≡_, refl, sym, _∙_}
-use mathlib.Core.Bool.{Bool, true, false, _&&_, cond}
+use mathlib.Core.Bool.{Bool, true, false, _&&_}
 use mathlib.Core.List.{List, [], _∷_, _++_}
 use Prim.Native.Nat.{ℕ, zero, suc, _<_}
 use native.Mathlib.Omega.{arith}
 use lib.Dec.{ltb}
 use borrow.Author.Tests.{ltb-true}
 use Rattle.ring.proofs.Bool.{and-left, and-right}
-use Rattle.tables.specs.Questions.{Asked, asks, firstNo}
+use Rattle.tables.specs.declared.Question.{Question}
+use Rattle.tables.specs.declared.Question.the-variants.{Letters, Route, TextLength, Room, Signs, Declared, Grammar, Bits, Solution, Records, Kinds, Numbers, Afresh, Output, Rising, Range}
+use Rattle.tables.specs.Questions.{Asked, asksGiving, number, firstNo}
+use Rattle.tables.specs.Inner.Asking.{also}
 
--- where there is none, the first question is answered yes, and there is none among those behind it
-pub yes-to : (answer : Bool) (behind number : ℕ) → cond answer behind (suc number) ≡ 0 → (answer ≡ true) × (behind ≡ 0)
-yes-to true behind number e = (refl, e)
-yes-to false behind number e = absurd (omega arith)
+-- every number is above 0, which stands for 'no no'
+pub number-some : (question : Question) → number question ≡ 0 → ⊥
+number-some Letters e = omega arith
+number-some Route e = omega arith
+number-some TextLength e = omega arith
+number-some Room e = omega arith
+number-some Signs e = omega arith
+number-some Declared e = omega arith
+number-some Grammar e = omega arith
+number-some Bits e = omega arith
+number-some Solution e = omega arith
+number-some Records e = omega arith
+number-some Kinds e = omega arith
+number-some Numbers e = omega arith
+number-some Afresh e = omega arith
+number-some Output e = omega arith
+number-some Rising e = omega arith
+number-some Range e = omega arith
 
--- a no counts before further questions
-pub first-counts : (questions further : List Asked) → (firstNo questions ≡ 0 → ⊥) → firstNo (questions ++ further) ≡ firstNo questions
+-- ---- the question in front
+-- it is answered no
+pub no-to : (question : Question) (answer : Bool) (given : List ℕ) (rest : List Asked) → answer ≡ false
+    → firstNo (asksGiving question answer given ∷ rest) ≡ number question
 unfolding firstNo
-first-counts [] further n = absurd (n refl)
-first-counts (asks q true ∷ questions) further n = first-counts questions further n
-first-counts (asks q false ∷ questions) further n = refl
+no-to question answer given rest e = rw e
+
+-- it is answered yes
+pub yes-counts : (question : Question) (answer : Bool) (given : List ℕ) (rest : List Asked) → answer ≡ true
+    → firstNo (asksGiving question answer given ∷ rest) ≡ firstNo rest
+unfolding firstNo
+yes-counts question answer given rest e = rw e
+
+-- where there is no no, it is answered yes, and there is none among those behind it
+pub yes-to : (question : Question) (answer : Bool) (given : List ℕ) (rest : List Asked) → firstNo (asksGiving question answer given ∷ rest) ≡ 0
+    → (answer ≡ true) × (firstNo rest ≡ 0)
+unfolding firstNo
+yes-to question true given rest e = (refl, e)
+yes-to question false given rest e = absurd (number-some question e)
+
+-- ---- all of them
+-- each question is answered yes
+abbrev pub EachYes : List Asked → Type 0
+EachYes [] = Unit
+EachYes (asksGiving question answer given ∷ rest) = (answer ≡ true) × EachYes rest
+
+pub each-yes : (questions : List Asked) → firstNo questions ≡ 0 → EachYes questions
+unfolding firstNo
+each-yes [] e = tt
+each-yes (asksGiving question true given ∷ rest) e = (refl, each-yes rest e)
+each-yes (asksGiving question false given ∷ rest) e = absurd (number-some question e)
+
+pub none-no : (questions : List Asked) → EachYes questions → firstNo questions ≡ 0
+unfolding firstNo
+none-no [] yes-all = refl
+none-no (asksGiving question answer given ∷ rest) yes-all = rw (yes-all .0) (none-no rest (yes-all .1))
+
+-- ---- lists that are asked one behind another
+-- a no counts before further questions
+pub also-kept : (found : ℕ) (questions : List Asked) → (found ≡ 0 → ⊥) → found ≡ also found questions
+unfolding also
+also-kept zero questions n = absurd (n refl)
+also-kept (suc found) questions n = refl
+
+pub also-none : (questions : List Asked) → firstNo questions ≡ also 0 questions
+unfolding also
+also-none questions = refl
+
+pub first-also : (questions further : List Asked) → firstNo (questions ++ further) ≡ also (firstNo questions) further
+unfolding firstNo also
+first-also [] further = refl
+first-also (asksGiving question true given ∷ rest) further = first-also rest further
+first-also (asksGiving question false given ∷ rest) further = also-kept (number question) further (number-some question)
+
+pub also-also : (found : ℕ) (questions further : List Asked) → also (also found questions) further ≡ also found (questions ++ further)
+unfolding also
+also-also zero questions further = sym (first-also questions further)
+also-also (suc found) questions further = refl
+
+pub first-counts : (questions further : List Asked) → (firstNo questions ≡ 0 → ⊥) → firstNo (questions ++ further) ≡ firstNo questions
+first-counts questions further n = first-also questions further ∙ sym (also-kept (firstNo questions) further n)
+
+-- where the questions before are all answered yes, those behind them count
+pub then-further : (questions further : List Asked) → firstNo questions ≡ 0 → firstNo (questions ++ further) ≡ firstNo further
+unfolding also
+then-further questions further z = first-also questions further ∙ rw z
 
 pub asked-before : (questions further : List Asked) → firstNo (questions ++ further) ≡ 0 → firstNo questions ≡ 0
-asked-before questions further e = go (firstNo questions) refl
+unfolding also
+asked-before questions further e = go (firstNo questions) (sym (first-also questions further) ∙ e)
   where
-    go : (q : ℕ) → firstNo questions ≡ q → firstNo questions ≡ 0
-    go zero f = f
-    go (suc q) f = sym (first-counts questions further some) ∙ e
-      where
-        some : firstNo questions ≡ 0 → ⊥
-        some z = omega arith
+    go : (found : ℕ) → also found further ≡ 0 → found ≡ 0
+    go zero f = refl
+    go (suc found) f = f
 
+pub asked-behind : (questions further : List Asked) → firstNo (questions ++ further) ≡ 0 → firstNo further ≡ 0
+asked-behind questions further e = sym (then-further questions further (asked-before questions further e)) ∙ e
+
+-- ---- numbers
 -- the number of each question of the list is below k; then so is that of the first no
 unfoldable pub numbersBelow : ℕ → List Asked → Bool
 numbersBelow k [] = true
-numbersBelow k (asks number answer ∷ rest) = ltb number k && numbersBelow k rest
+numbersBelow k (asksGiving question answer given ∷ rest) = ltb (number question) k && numbersBelow k rest
 
 pub first-below : (k : ℕ) (questions : List Asked) → 0 < k → numbersBelow k questions ≡ true → firstNo questions < k
 unfolding numbersBelow firstNo
 first-below k [] p e = p
-first-below k (asks number true ∷ rest) p e = first-below k rest p (and-right (ltb number k) (numbersBelow k rest) e)
-first-below k (asks number false ∷ rest) p e = ltb-true number k (and-left (ltb number k) (numbersBelow k rest) e)
+first-below k (asksGiving question true given ∷ rest) p e = first-below k rest p (and-right (ltb (number question) k) (numbersBelow k rest) e)
+first-below k (asksGiving question false given ∷ rest) p e = ltb-true (number question) k (and-left (ltb (number question) k) (numbersBelow k rest) e)

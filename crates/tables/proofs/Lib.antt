@@ -1,9 +1,8 @@
 pub mod Filled
 pub mod Bits
-pub mod Steps
 pub mod Parts
-pub mod Questions
-pub mod Reply
 pub mod FirstNo
+pub mod Questions
+pub mod Answered
 pub mod Put
 pub mod Slices

@@ -1,4 +1,4 @@
-// The shared bottom of the calls: the questions on letters and buffers, and the copy and the sum of lent tables of bytes.
+// The shared bottom of the calls: the questions and how they are asked, and the copy and the sum of lent tables of bytes.
 // Nothing here is a public call of the library. The functions with a `requires` are for the crates above, which ask the questions first
 // and then lend slices of exactly the length that is needed.
 ghost use mathlib.Core.Path.{_≡_};
@@ -7,45 +7,64 @@ ghost use Prim.Native.Nat.{_+_, _^_, _≤_};
 ghost use lib.ListN.{length};
 ghost use Rattle.ring.specs.Polynomial.{sum};
 ghost use Rattle.ring.specs.Table.{AreBits, present, tabulate};
-ghost use Rattle.tables.specs.Questions.{firstNo, lettersFit, areBits, holdsBits, tableQuestions, reads, writes};
+ghost use Rattle.tables.specs.Questions.{number, asks, lettersFit, hasRoom, areBits, holdsBits};
+ghost use Rattle.tables.specs.Inner.Asking.{also};
 
-// The questions of document 01 that are asked here and in the crates above, by number.
-pub const LETTERS: u8 = 1; // Are U at most 6, G at most 8, n at most 10?
+// The questions of document 01, in the order of their numbers.
+pub enum Question {
+    Letters, // Are U at most 6, G at most 8, n at most 10?
+    Route, // Is the route 1 to 250?
+    TextLength, // Has the text 1 to 200 bytes?
+    Room, // Has each condition buffer 2^n bytes or more, and each answer or handed buffer U times 2^n or more?
+    Signs, // Is every byte a sign of the notation or a space?
+    Declared, // Is every letter declared?
+    Grammar, // Does the grammar read the whole text?
+    Bits, // Is each byte of a table lent to be read, as far as question 4's length, 0 or 1?
+    Solution, // Has the condition a solution?
+    Records, // Does every record, to the first kind 4, have kind 1 to 5 and a whole body, and is there a kind 4?
+    Kinds, // Are the kinds in the entry's order, both routes equal?
+    Numbers, // Are masks below 2^n, unknowns below U, the state below 2^G, all in order, none twice?
+    Afresh, // Do the answers, or the state, equal those solved afresh?
+    Output, // Is the output at least as long as what is to be written?
+    Rising, // Is the route above the one before?
+    Range, // Is the state below 2^G and the choice below 2^U?
+}
 
-pub const ROUTE: u8 = 2; // Is the route 1 to 250?
+// Document 01's number of a question.
+pub fn number(question: Question) -> u8
+    ensures { λ r. ⌜ r ≡ number question ⌝ }
+{
+    match question {
+        Question::Letters => 1,
+        Question::Route => 2,
+        Question::TextLength => 3,
+        Question::Room => 4,
+        Question::Signs => 5,
+        Question::Declared => 6,
+        Question::Grammar => 7,
+        Question::Bits => 8,
+        Question::Solution => 9,
+        Question::Records => 10,
+        Question::Kinds => 11,
+        Question::Numbers => 12,
+        Question::Afresh => 13,
+        Question::Output => 14,
+        Question::Rising => 15,
+        Question::Range => 16,
+    }
+}
 
-pub const TEXT_LENGTH: u8 = 3; // Has the text 1 to 200 bytes?
-
-pub const ROOM: u8 = 4; // Has each condition buffer 2^n bytes or more, and each answer or handed buffer U times 2^n or more?
-
-pub const SIGNS: u8 = 5; // Is every byte a sign of the notation or a space?
-
-pub const DECLARED: u8 = 6; // Is every letter declared?
-
-pub const GRAMMAR: u8 = 7; // Does the grammar read the whole text?
-
-pub const BITS: u8 = 8; // Is each byte of a table lent to be read, as far as question 4's length, 0 or 1?
-
-pub const SOLUTION: u8 = 9; // Has the condition a solution?
-
-pub const RECORDS: u8 = 10; // Does every record, to the first kind 4, have kind 1 to 5 and a whole body, and is there a kind 4?
-
-pub const KINDS: u8 = 11; // Are the kinds in the entry's order, both routes equal?
-
-pub const MASKS: u8 = 12; // Are masks below 2^n, unknowns below U, the state below 2^G, all in order, none twice?
-
-pub const SOLVED: u8 = 13; // Do the answers, or the state, equal those solved afresh?
-
-pub const OUTPUT: u8 = 14; // Is the output at least as long as what is to be written?
-
-pub const RISING: u8 = 15; // Is the route above the one before?
-
-pub const RANGE: u8 = 16; // Is the state below 2^G and the choice below 2^U?
-
-// What a call answers that gives no value of its own: done, or the number of the first no.
-pub enum Outcome {
-    Done,
-    Refused(u8),
+// One question more: the first no counts, so that `refusal` stays if it is not 0.
+pub fn ask(refusal: u8, question: Question, answer: bool) -> u8
+    ensures { λ r. ⌜ r ≡ also refusal (asks question answer ∷ []) ⌝ }
+{
+    if refusal != 0 {
+        return refusal;
+    }
+    if answer {
+        return 0;
+    }
+    number(question)
 }
 
 // The number of points, and of monomials, of n letters.
@@ -80,49 +99,21 @@ fn are_bits(s: &[u8]) -> bool
     union <= 1
 }
 
-// Question 8 of one table.
-pub fn holds_bits(k: usize, s: &[u8]) -> bool
-    requires { ⌜ k ≤ length (now s) ⌝ }
-    ensures { λ r. ⌜ r ≡ holdsBits k (now (s .entry)) ⌝ }
+// Question 4 of one buffer.
+pub fn has_room(k: usize, size: usize) -> bool
+    ensures { λ r. ⌜ r ≡ hasRoom k size ⌝ }
 {
-    are_bits(&s[..k])
+    k <= size
 }
 
-// The first no of questions 1, 4 and 8, or 0, for a call that reads one table and then `count` more,
-// and writes `results` tables into a buffer of `room` bytes.
-pub fn table_refusal(
-    u: usize,
-    g: usize,
-    first: &[u8],
-    second: &[u8],
-    count: usize,
-    room: usize,
-    results: usize,
-) -> u8
-    requires { ⌜ (count ≤ u + 1) × (results ≤ u + 1) ⌝ }
-    ensures { λ r. ⌜ r ≡ firstNo (tableQuestions u g (reads 1 (now (first .entry)) ∷ reads count (now (second .entry)) ∷ writes results room ∷ [])) ⌝ }
+// Question 8 of one table, as far as there are bytes.
+pub fn holds_bits(k: usize, s: &[u8]) -> bool
+    ensures { λ r. ⌜ r ≡ holdsBits k (now (s .entry)) ⌝ }
 {
-    if !letters_fit(u, g) {
-        return LETTERS;
+    if s.len() < k {
+        return are_bits(s);
     }
-    let k = pow2(u + g);
-    let further = count * k;
-    if first.len() < k {
-        return ROOM;
-    }
-    if second.len() < further {
-        return ROOM;
-    }
-    if room < results * k {
-        return ROOM;
-    }
-    if !holds_bits(k, first) {
-        return BITS;
-    }
-    if !holds_bits(further, second) {
-        return BITS;
-    }
-    0
+    are_bits(&s[..k])
 }
 
 pub fn copy(d: &mut [u8], s: &[u8])

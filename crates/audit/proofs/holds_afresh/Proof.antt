@@ -4,7 +4,7 @@ use Prim.Native.Nat.{_+_, _*_, _≤_}
 use native.Mathlib.Omega.{arith}
 use borrow.Author.Needs.{needs}
 use lib.Seq.{length-take-le}
-use Rattle.tables.proofs.Steps.{pow-small}
+use Rattle.tables.proofs.Questions.{pow-small}
 use Rattle.words.proofs.Letters.{count-small}
 use Rattle.reader.proofs.Buffers.{heading-small, heading-unknowns, size-small}
 use Rattle.solver.proofs.OnWords.{first-unknowns}

@@ -2,7 +2,7 @@
 use Prim.Native.Nat.{_+_, _≤_}
 use native.Mathlib.Omega.{arith}
 use borrow.Author.Needs.{needs}
-use Rattle.tables.proofs.Steps.{pow-small}
+use Rattle.tables.proofs.Questions.{pow-small}
 use Rattle.records.proofs.Answers.{few-letters, survey-is}
 use Rattle.records.proofs.survey_entry.Statement.{statement}
 use Rattle.records.proofs.survey_entry.Tie as tie

@@ -9,7 +9,7 @@ use borrow.Author.Needs.{needs}
 use lib.ListN.{length}
 use lib.Seq.{length-take-le}
 use Rattle.tables.proofs.Questions.{Fine, fine, first-table}
-use Rattle.tables.proofs.Steps.{pow-small}
+use Rattle.tables.proofs.Questions.{pow-small}
 use Rattle.solver.proofs.Calls.{refused-first, answered, without, first-is}
 use Rattle.solver.proofs.ask_and_solve.Statement.{statement}
 use Rattle.solver.proofs.ask_and_solve.Tie as tie

@@ -9,7 +9,7 @@ use lib.ListN.{length}
 use lib.Seq.{length-take-le}
 use Rattle.tables.proofs.Questions.{Fine, fine, first-table, second-length, second-are-bits}
 use Rattle.tables.proofs.Reply.{call-refused, call-done}
-use Rattle.tables.proofs.Steps.{pow-small}
+use Rattle.tables.proofs.Questions.{pow-small}
 use Rattle.calls.specs.GONE.{handedRefusal}
 use Rattle.calls.specs.Solving.{handedTable}
 use Rattle.solver.proofs.Calls.{length-handed, first-is, first-are}

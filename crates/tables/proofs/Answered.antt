@@ -1,0 +1,156 @@
+-- The two ways out of a call that asks its questions first: refused, with nothing changed, or done, with the answer at the front.
+-- `call-refused` and `call-done` build a call's contract, `given-refused` and `given-accepted` take it apart again.
+-- Assumes nothing.
+use mathlib.Core.Path.{_≡_, refl, sym, ap, _∙_}
+use mathlib.Core.Bool.{Bool, true, false}
+use mathlib.Core.List.{List, [], _∷_, _++_, map, append-nil}
+use Prim.Native.Nat.{ℕ, zero, suc}
+use native.Mathlib.Omega.{arith}
+use lib.ListN.{length, drop}
+use Rattle.tables.specs.declared.Question.{Question}
+use Rattle.tables.specs.Questions.{Asked, asksGiving, number, firstNo}
+use Rattle.tables.specs.Answered.{Reply, accepted, refused, reply, after, Answered, answered, Buffer, _into_, call, firstBuffer, secondBuffer}
+use Rattle.tables.proofs.FirstNo.{number-some, no-to, first-counts, then-further}
+
+-- ---- what a call gives
+-- the no to each of these questions gives its number alone
+abbrev pub givesNothing : List Asked → Bool
+givesNothing [] = true
+givesNothing (asksGiving question answer [] ∷ rest) = givesNothing rest
+givesNothing (asksGiving question answer (x ∷ given) ∷ rest) = false
+
+-- every question is answered yes
+pub reply-accepted : (questions : List Asked) (values : List ℕ) → firstNo questions ≡ 0 → accepted values ≡ reply questions values
+unfolding reply firstNo
+reply-accepted [] values z = refl
+reply-accepted (asksGiving question true given ∷ rest) values z = reply-accepted rest values z
+reply-accepted (asksGiving question false given ∷ rest) values z = absurd (number-some question z)
+
+-- the questions in front are answered yes
+pub reply-behind : (questions further : List Asked) (values : List ℕ) → firstNo questions ≡ 0 → reply further values ≡ reply (questions ++ further) values
+unfolding reply firstNo
+reply-behind [] further values z = refl
+reply-behind (asksGiving question true given ∷ rest) further values z = reply-behind rest further values z
+reply-behind (asksGiving question false given ∷ rest) further values z = absurd (number-some question z)
+
+-- one of the questions in front, which give their numbers alone, is answered no
+pub reply-stops : (questions further : List Asked) (values : List ℕ) → givesNothing questions ≡ true → (firstNo questions ≡ 0 → ⊥)
+    → refused (firstNo questions) [] ≡ reply (questions ++ further) values
+unfolding reply firstNo
+reply-stops [] further values p n = absurd (n refl)
+reply-stops (asksGiving question true [] ∷ rest) further values p n = reply-stops rest further values p n
+reply-stops (asksGiving question false [] ∷ rest) further values p n = refl
+reply-stops (asksGiving question answer (x ∷ given) ∷ rest) further values p n = absurd (let z : _≡_ {A = Bool} false true = p in never z)
+  where
+    never : _≡_ {A = Bool} false true → ⊥
+    never e = let z : _≡_ {A = ℕ} 0 1 = (cc) in omega arith
+
+-- the question in front is answered no
+pub reply-no : (question : Question) (answer : Bool) (given : List ℕ) (rest : List Asked) (values : List ℕ) → answer ≡ false
+    → reply (asksGiving question answer given ∷ rest) values ≡ refused (number question) given
+unfolding reply
+reply-no question answer given rest values e = rw e
+
+pub reply-refused : (questions : List Asked) (values : List ℕ) → givesNothing questions ≡ true → (firstNo questions ≡ 0 → ⊥)
+    → refused (firstNo questions) [] ≡ reply questions values
+reply-refused questions values p n = rw (append-nil questions) at (reply-stops questions [] values p n)
+
+-- ---- what becomes of a buffer
+pub after-refused : (found : ℕ) (answer lent : List ℕ) → (found ≡ 0 → ⊥) → lent ≡ after found answer lent
+unfolding after
+after-refused zero answer lent n = absurd (n refl)
+after-refused (suc found) answer lent n = refl
+
+-- as the code leaves it
+pub after-done : (found : ℕ) (answer lent front : List ℕ) (k : ℕ) → found ≡ 0 → front ≡ answer → k ≡ length answer
+    → front ++ drop k lent ≡ after found answer lent
+unfolding after
+after-done found answer lent front k z ef ek = rw (z, ef, ek)
+
+-- ---- a call's contract is built
+-- the buffers as they were lent
+abbrev pub asLent : List Buffer → List (List ℕ)
+asLent [] = []
+asLent (b ∷ buffers) = b .before ∷ asLent buffers
+
+lent-refused : (found : ℕ) (buffers : List Buffer) → (found ≡ 0 → ⊥)
+    → asLent buffers ≡ map (λ (b : Buffer). after found (b .answer) (b .before)) buffers
+lent-refused found [] n = refl
+lent-refused found (b ∷ buffers) n =
+    ap (λ (bs : List (List ℕ)). b .before ∷ bs) (lent-refused found buffers n)
+    ∙ ap (λ (lent : List ℕ). lent ∷ map (λ (b : Buffer). after found (b .answer) (b .before)) buffers) (after-refused found (b .answer) (b .before) n)
+
+-- a no to one of the questions in front, which give their numbers alone: nothing has changed
+pub call-stops : (questions further : List Asked) (values : List ℕ) (buffers : List Buffer) (found : ℕ) → givesNothing questions ≡ true
+    → found ≡ firstNo questions → (found ≡ 0 → ⊥) → answered (refused found []) (asLent buffers) ≡ call (questions ++ further) values buffers
+unfolding call
+call-stops questions further values buffers found p e n =
+    let some : firstNo questions ≡ 0 → ⊥ = λ z. n (e ∙ z) in
+    rw (e, reply-stops questions further values p some, first-counts questions further some, lent-refused (firstNo questions) buffers some)
+
+-- the same with no further questions
+pub call-refused : (questions : List Asked) (values : List ℕ) (buffers : List Buffer) (found : ℕ) → givesNothing questions ≡ true
+    → found ≡ firstNo questions → (found ≡ 0 → ⊥) → answered (refused found []) (asLent buffers) ≡ call questions values buffers
+call-refused questions values buffers found p e n = rw (append-nil questions) at (call-stops questions [] values buffers found p e n)
+
+-- the last question is answered no, with what its no gives
+pub call-last-no : (questions : List Asked) (question : Question) (answer : Bool) (given values : List ℕ) (buffers : List Buffer)
+    → firstNo questions ≡ 0 → answer ≡ false
+    → answered (refused (number question) given) (asLent buffers) ≡ call (questions ++ (asksGiving question answer given ∷ [])) values buffers
+unfolding call
+call-last-no questions question answer given values buffers z no-answer =
+    let last : List Asked = asksGiving question answer given ∷ [] in
+    let found : firstNo (questions ++ last) ≡ number question = then-further questions last z ∙ no-to question answer given [] no-answer in
+    let some : firstNo (questions ++ last) ≡ 0 → ⊥ = λ e. number-some question (sym found ∙ e) in
+    rw (← reply-behind questions last values z, ← lent-refused (firstNo (questions ++ last)) buffers some, reply-no question answer given [] values no-answer)
+
+-- every question is answered yes: the values, and each buffer as the code leaves it
+pub call-done-none : (questions : List Asked) (values : List ℕ) → firstNo questions ≡ 0 → answered (accepted values) [] ≡ call questions values []
+unfolding call
+call-done-none questions values z = rw (reply-accepted questions values z)
+
+pub call-done : (questions : List Asked) (values answer lent front : List ℕ) (k : ℕ) → firstNo questions ≡ 0 → front ≡ answer → k ≡ length answer
+    → answered (accepted values) ((front ++ drop k lent) ∷ []) ≡ call questions values (answer into lent ∷ [])
+unfolding call after
+call-done questions values answer lent front k z ef ek = rw (reply-accepted questions values z, z, ef, ek)
+
+-- two buffers, each as it is afterwards
+pub call-done-two : (questions : List Asked) (values answer lent now answer2 lent2 now2 : List ℕ) → firstNo questions ≡ 0
+    → now ≡ answer ++ drop (length answer) lent → now2 ≡ answer2 ++ drop (length answer2) lent2
+    → answered (accepted values) (now ∷ now2 ∷ []) ≡ call questions values (answer into lent ∷ answer2 into lent2 ∷ [])
+unfolding call after
+call-done-two questions values answer lent now answer2 lent2 now2 z e e2 = rw (reply-accepted questions values z, z, e, e2)
+
+-- ---- a call's contract is taken apart
+module _ (questions : List Asked) (values : List ℕ) where
+  pub call-gives : (buffers : List Buffer) {gives : Reply} {lent : List (List ℕ)} → answered gives lent ≡ call questions values buffers
+      → gives ≡ reply questions values
+  unfolding call
+  call-gives buffers e = ap (λ (a : Answered Reply). a .gives) e
+
+  -- the first buffer, and the second
+  pub call-first : (answer lent : List ℕ) (buffers : List Buffer) {gives : Reply} {now : List ℕ} {rest : List (List ℕ)}
+      → answered gives (now ∷ rest) ≡ call questions values (answer into lent ∷ buffers) → now ≡ after (firstNo questions) answer lent
+  unfolding call
+  call-first answer lent buffers e = ap firstBuffer e
+
+  pub call-second : (answer lent : List ℕ) (first : Buffer) {gives : Reply} {now1 now : List ℕ}
+      → answered gives (now1 ∷ now ∷ []) ≡ call questions values (first ∷ answer into lent ∷ []) → now ≡ after (firstNo questions) answer lent
+  unfolding call
+  call-second answer lent first e = ap secondBuffer e
+
+-- what a reply says of the questions
+pub accepted-is : (questions : List Asked) {given : List ℕ} (values : List ℕ) → accepted given ≡ reply questions values
+    → (firstNo questions ≡ 0) × (given ≡ values)
+unfolding reply firstNo
+accepted-is [] values e = (refl, (cc))
+accepted-is (asksGiving question true with-it ∷ rest) values e = accepted-is rest values e
+accepted-is (asksGiving question false with-it ∷ rest) values e = let z : _≡_ {A = ℕ} 0 1 = (cc) in absurd (omega arith)
+
+pub refused-is : (questions : List Asked) {found : ℕ} {given : List ℕ} (values : List ℕ) → refused found given ≡ reply questions values
+    → (firstNo questions ≡ found) × (found ≡ 0 → ⊥)
+unfolding reply firstNo
+refused-is [] values e = let z : _≡_ {A = ℕ} 0 1 = (cc) in absurd (omega arith)
+refused-is (asksGiving question true with-it ∷ rest) values e = refused-is rest values e
+refused-is (asksGiving question false with-it ∷ rest) {found} values e =
+    let same : number question ≡ found = (cc) in (same, λ z. number-some question (same ∙ z))
