@@ -1,7 +1,7 @@
 // Boole's elimination on truth values, 64 points to a word, in any order of the unknowns: each stage's values are kept, and the way back
 // goes from the last, the later answers put in one letter at a time.
 // `solver` asks the questions first; nothing here is a public call of the library.
-// The contracts cite the method at points (`solution/specs/ByPoints.antt`), which the laws of `solution` tie to the polynomials.
+// The contracts cite the method at points (`solution/specs/Inner/ByPoints.antt`), which the laws of `solution` tie to the polynomials.
 ghost use mathlib.Core.Path.{_≡_};
 ghost use mathlib.Core.Bool.{true};
 ghost use mathlib.Core.List.{_++_};

@@ -1,5 +1,5 @@
 -- Boole's elimination through any order on truth values in words, k words to a function. The method at points is that of
--- `solution/specs/ByPoints.antt`, which the laws of `solution` tie to the polynomials.
+-- `solution/specs/Inner/ByPoints.antt`, which the laws of `solution` tie to the polynomials.
 -- Assumes nothing.
 use mathlib.Core.Path.{_≡_}
 use mathlib.Core.Bool.{Bool, true, not, _&&_, cond}
