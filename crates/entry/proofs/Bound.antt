@@ -13,10 +13,9 @@ use Rattle.ring.specs.Table.{present, held}
 use Rattle.order.specs.Order.{monomials, order}
 use Rattle.order.proofs.Lists.{length-keep}
 use Rattle.order.proofs.Order.{length-order}
+use Rattle.solution.specs.Condition.{Condition, width}
 use Rattle.solution.specs.Elimination.{Verdict, solved, none}
-use Rattle.entry.specs.declared.Record.{Record}
-use Rattle.entry.specs.declared.Record.the-variants.{Condition, Answer, End}
-use Rattle.entry.specs.Record.{bytes}
+use Rattle.entry.specs.Record.{Record, fields, bodyOf, lowFirst, conditionRecord, answerRecord, endRecord, bytes}
 use Rattle.entry.specs.Entry.{conditionRecords, answerRecords, verdictRecords, entryRecords}
 use Rattle.entry.proofs.Back.{bytes-append}
 
@@ -27,20 +26,20 @@ length-monomials n f = omega (arith, length-keep f (order n), length-order n)
 pub length-bytes : (rs ss : List Record) → length (bytes (rs ++ ss)) ≡ length (bytes rs) + length (bytes ss)
 length-bytes rs ss = ap length (bytes-append rs ss) ∙ length-append (bytes rs) (bytes ss)
 
-pub condition-bytes : (ms : List ℕ) → length (bytes (map Condition ms)) ≡ 3 * length ms
-unfolding bytes
+pub condition-bytes : (ms : List ℕ) → length (bytes (map conditionRecord ms)) ≡ 3 * length ms
+unfolding bytes fields bodyOf lowFirst
 condition-bytes [] = refl
 condition-bytes (m ∷ ms) = omega (arith, condition-bytes ms)
 
-pub answer-bytes : (j : ℕ) (ms : List ℕ) → length (bytes (map (Answer j) ms)) ≡ 4 * length ms
-unfolding bytes
+pub answer-bytes : (j : ℕ) (ms : List ℕ) → length (bytes (map (answerRecord j) ms)) ≡ 4 * length ms
+unfolding bytes fields bodyOf lowFirst
 answer-bytes j [] = refl
 answer-bytes j (m ∷ ms) = omega (arith, answer-bytes j ms)
 
 -- the condition's records
-pub condition-most : (n : ℕ) (t : List ℕ) → length (bytes (conditionRecords n t)) ≤ 3 * 2 ^ n
+pub condition-most : (c : Condition) → length (bytes (conditionRecords c)) ≤ 3 * 2 ^ width c
 unfolding conditionRecords
-condition-most n t = omega (arith, condition-bytes (monomials n (present t)), length-monomials n (present t))
+condition-most c = omega (arith, condition-bytes (monomials (width c) (present (c .table))), length-monomials (width c) (present (c .table)))
 
 -- the answers' records
 pub answers-most : (j n : ℕ) (a : List ℕ) → length (bytes (answerRecords j n a)) ≤ j * (4 * 2 ^ n)
@@ -48,7 +47,7 @@ unfolding answerRecords bytes
 answers-most zero n a = omega arith
 answers-most (suc j) n a =
     let e : length (bytes (answerRecords (suc j) n a)) ≡ length (bytes (answerRecords j n a)) + 4 * length (monomials n (held n a j)) =
-    length-bytes (answerRecords j n a) (map (Answer j) (monomials n (held n a j))) ∙ ap (λ (k : ℕ). length (bytes (answerRecords j n a)) + k) (answer-bytes j (monomials n (held n a j))) in
+    length-bytes (answerRecords j n a) (map (answerRecord j) (monomials n (held n a j))) ∙ ap (λ (k : ℕ). length (bytes (answerRecords j n a)) + k) (answer-bytes j (monomials n (held n a j))) in
     let ih : length (bytes (answerRecords j n a)) ≤ j * (4 * 2 ^ n) = answers-most j n a in
     omega (arith, length-monomials n (held n a j), suc-mul j (4 * 2 ^ n))
 
@@ -58,17 +57,19 @@ module _ (U n : ℕ) (hu : U ≤ 6) (hn : n ≤ 10) where
 
   -- the verdict's records
   pub verdict-most : (v : Verdict (List ℕ)) → length (bytes (verdictRecords U n v)) ≤ 24576
-  unfolding verdictRecords bytes
+  unfolding verdictRecords bytes fields bodyOf lowFirst
   verdict-most (solved a) =
       let q : 4 * 2 ^ n ≤ 4096 = omega (arith, size-most) in
       let p : U * (4 * 2 ^ n) ≤ 6 * 4096 = mul-le-mul hu q in
       omega (arith, answers-most U n a)
   verdict-most (none state) = omega arith
 
-pub entry-most : (route U G : ℕ) (t : List ℕ) (v : Verdict (List ℕ)) → U ≤ 6 → U + G ≤ 10 → length (bytes (entryRecords route U G t v)) ≤ 27654
-unfolding entryRecords bytes
-entry-most route U G t v hu hn =
-    let c : length (bytes (conditionRecords (U + G) t ++ (verdictRecords U (U + G) v ++ (End route ∷ [])))) ≡ length (bytes (conditionRecords (U + G) t)) + length (bytes (verdictRecords U (U + G) v ++ (End route ∷ []))) =
-    length-bytes (conditionRecords (U + G) t) (verdictRecords U (U + G) v ++ (End route ∷ [])) in
-    let d : length (bytes (verdictRecords U (U + G) v ++ (End route ∷ []))) ≡ length (bytes (verdictRecords U (U + G) v)) + 2 = length-bytes (verdictRecords U (U + G) v) (End route ∷ []) in
-    omega (arith, condition-most (U + G) t, size-most U (U + G) hu hn, verdict-most U (U + G) hu hn v)
+pub entry-most : (route : ℕ) (c : Condition) (v : Verdict (List ℕ)) → c .U ≤ 6 → width c ≤ 10 → length (bytes (entryRecords route c v)) ≤ 27654
+unfolding entryRecords bytes fields bodyOf lowFirst
+entry-most route c v hu hn =
+    let told : List Record = verdictRecords (c .U) (width c) v in
+    let e : length (bytes (conditionRecords c ++ (told ++ (endRecord route ∷ []))))
+    ≡ length (bytes (conditionRecords c)) + length (bytes (told ++ (endRecord route ∷ []))) =
+    length-bytes (conditionRecords c) (told ++ (endRecord route ∷ [])) in
+    let d : length (bytes (told ++ (endRecord route ∷ []))) ≡ length (bytes told) + 2 = length-bytes told (endRecord route ∷ []) in
+    omega (arith, condition-most c, size-most (c .U) (width c) hu hn, verdict-most (c .U) (width c) hu hn v)

@@ -19,24 +19,23 @@ use Rattle.ring.proofs.Bool.{and-right}
 use Rattle.ring.proofs.Lists.{has-first, has-rest}
 use Rattle.tables.specs.Inner.Put.{Put}
 use Rattle.tables.proofs.Put.{put-length, put-both, put-same, put-none}
+use Rattle.solution.specs.Condition.{Condition, width}
 use Rattle.order.specs.Order.{monomials}
 use Rattle.order.specs.Inner.Listing.{tagged}
 use Rattle.order.proofs.Order.{has-monomials, monomials-same}
-use Rattle.entry.specs.declared.Record.{Record}
-use Rattle.entry.specs.declared.Record.the-variants.{Condition, Answer}
-use Rattle.entry.specs.Record.{recordBytes, bytes}
+use Rattle.entry.specs.Record.{Record, conditionRecord, answerRecord, bytes}
 use Rattle.entry.specs.Entry.{conditionRecords}
-use Rattle.entry.specs.Inner.Codes.{monomialRecord, recordOf}
+use Rattle.entry.specs.Inner.Codes.{monomialRecord, listedRecord}
 
 -- ---- a number is its table and its mask
-record-of : (i m : ℕ) → m < 1024 → recordOf (1024 * i + m) ≡ monomialRecord i m
-unfolding recordOf
+record-of : (i m : ℕ) → m < 1024 → listedRecord (1024 * i + m) ≡ monomialRecord i m
+unfolding listedRecord
 record-of i m h =
     let d : (1024 * i + m) / 1024 ≡ i = omega arith in
     let r : (1024 * i + m) % 1024 ≡ m = omega arith in
     ap₂ monomialRecord d r
 
-of-tagged : (i : ℕ) (ms : List ℕ) → ((m : ℕ) → has m ms ≡ true → m < 1024) → map recordOf (tagged (1024 * i) ms) ≡ map (monomialRecord i) ms
+of-tagged : (i : ℕ) (ms : List ℕ) → ((m : ℕ) → has m ms ≡ true → m < 1024) → map listedRecord (tagged (1024 * i) ms) ≡ map (monomialRecord i) ms
 unfolding tagged
 of-tagged i [] h = refl
 of-tagged i (m ∷ ms) h =
@@ -48,27 +47,20 @@ small n f h m l =
     let e : (f m && ltb m (2 ^ n)) ≡ true = sym (has-monomials n f m) ∙ l in
     omega (arith, ltb-true m (2 ^ n) (and-right (f m) (ltb m (2 ^ n)) e))
 
-condition-map : (ms : List ℕ) → map (monomialRecord 0) ms ≡ map Condition ms
-condition-map [] = refl
-condition-map (m ∷ ms) = ap (λ (l : List Record). Condition m ∷ l) (condition-map ms)
-
-answer-map : (j : ℕ) (ms : List ℕ) → map (monomialRecord (suc j)) ms ≡ map (Answer j) ms
-answer-map j [] = refl
-answer-map j (m ∷ ms) = ap (λ (l : List Record). Answer j m ∷ l) (answer-map j ms)
-
 -- the condition's monomials, listed
-pub condition-codes : (n : ℕ) (f : Polynomial) (t : List ℕ) → n ≤ 10 → ((m : ℕ) → m < 2 ^ n → f m ≡ present t m) → map recordOf (tagged 0 (monomials n f)) ≡ conditionRecords n t
+pub condition-codes : (c : Condition) (f : Polynomial) → width c ≤ 10 → ((m : ℕ) → m < 2 ^ width c → f m ≡ present (c .table) m)
+    → map listedRecord (tagged 0 (monomials (width c) f)) ≡ conditionRecords c
 unfolding conditionRecords
-condition-codes n f t h e =
-    of-tagged 0 (monomials n f) (small n f h) ∙ condition-map (monomials n f) ∙ ap (map Condition) (monomials-same n f (present t) e)
+condition-codes c f h e =
+    of-tagged 0 (monomials (width c) f) (small (width c) f h) ∙ ap (map conditionRecord) (monomials-same (width c) f (present (c .table)) e)
 
 -- those of the answer for unknown j
-pub answer-codes : (j n : ℕ) (f g : Polynomial) → n ≤ 10 → ((m : ℕ) → m < 2 ^ n → f m ≡ g m) → map recordOf (tagged (1024 * (j + 1)) (monomials n f)) ≡ map (Answer j) (monomials n g)
+pub answer-codes : (j n : ℕ) (f g : Polynomial) → n ≤ 10 → ((m : ℕ) → m < 2 ^ n → f m ≡ g m)
+    → map listedRecord (tagged (1024 * (j + 1)) (monomials n f)) ≡ map (answerRecord j) (monomials n g)
 answer-codes j n f g h e =
     of-tagged (j + 1) (monomials n f) (small n f h)
     ∙ ap (λ (i : ℕ). map (monomialRecord i) (monomials n f)) (add-one j)
-    ∙ answer-map j (monomials n f)
-    ∙ ap (map (Answer j)) (monomials-same n f g e)
+    ∙ ap (map (answerRecord j)) (monomials-same n f g e)
 
 -- ---- something put for each number of a list
 unfoldable pub each : (ℕ → List ℕ) → List ℕ → List ℕ
@@ -121,7 +113,7 @@ module _ {f : ℕ → List ℕ} {xs old : List ℕ} {from p at : ℕ} {new : Lis
   putting-end l = put-same (w .put) (ap (each f) (take-all p xs l))
 
 -- the bytes of records, record by record
-pub each-bytes : (codes : List ℕ) → each (λ code. recordBytes (recordOf code)) codes ≡ bytes (map recordOf codes)
+pub each-bytes : (codes : List ℕ) → each listedRecord codes ≡ bytes (map listedRecord codes)
 unfolding each bytes
 each-bytes [] = refl
-each-bytes (code ∷ codes) = ap (λ (l : List ℕ). recordBytes (recordOf code) ++ l) (each-bytes codes)
+each-bytes (code ∷ codes) = ap (λ (l : List ℕ). listedRecord code ++ l) (each-bytes codes)

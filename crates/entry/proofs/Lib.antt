@@ -1,14 +1,9 @@
+pub mod Made
 pub mod Records
+pub mod Bytes
 pub mod Back
+pub mod Monomials
 pub mod Places
 pub mod Verdicts
-pub mod EntryPasses
-pub mod Held
-pub mod Unique
-pub mod Canonical
-pub mod Bytes
 pub mod Bound
-pub mod Passes
-pub mod Theorems
-pub mod Examples
 pub mod Codes

@@ -10,15 +10,15 @@ use native.Mathlib.Omega.{arith}
 use lib.Dec.{eqb, ltb}
 use lib.Pow.{pow-mono}
 use borrow.Author.Tests.{lt-ltb, ltb-true, ltb-false, eqb-true, eqb-false, ne-eqb}
-use Rattle.ring.proofs.Bool.{bool-iff, and-left-comm, and-left, and-right, both, or-cases, or-right, bool-cases, never}
+use Rattle.ring.proofs.Bool.{bool-iff, and-left-comm, and-left, and-right, both, or-cases, or-right, bool-cases}
 use Rattle.order.specs.Order.{before}
 use Rattle.order.specs.Inner.Place.{rank}
 use Rattle.order.proofs.Relation.{before-rank, rank-most}
-use Rattle.entry.specs.declared.Record.{Record}
-use Rattle.entry.specs.declared.Record.the-variants.{Start, Condition, Answer, End, None, Broken}
-use Rattle.entry.specs.Record.{isMonomial, maskIn, tableIn}
-use Rattle.entry.specs.Questions.{inBounds, allInBounds, standsBefore, inOrder, allInOrder}
+use Rattle.entry.specs.Record.{Record, maskField, fields, kind, among, valueOf, isMonomial, tableIn, bodyFits, inBounds}
+use Rattle.entry.specs.Questions.{allInBounds, standsBefore, inOrder, allInOrder}
 use Rattle.entry.specs.Inner.Places.{place, placeOf, standsBehind, fitsBehind}
+use Rattle.entry.specs.Inner.Codes.{monomialRecord}
+use Rattle.entry.proofs.Monomials.{mask-in-bounds, monomial-is, monomial-table, monomial-mask}
 
 -- ---- places
 pub rank-small : (m : ℕ) → m < 2 ^ 10 → rank 10 m < 16384
@@ -63,30 +63,18 @@ place-before i m j k hm hk = bool-iff _ _ (λ e. lt-ltb _ _ (up (or-cases (ltb i
     down (inr e) (inl f) l = or-right (ltb i j) (both f (before-rank 10 m k hm hk ∙ lt-ltb _ _ (same f l)))
     down (inr e) (inr f) l = let a : j ≤ i = ltb-false i j e in absurd (omega (arith, eqb-false i j f, sk))
 
--- ---- records in bounds
-pub mask-in-bounds : (U G : ℕ) (r : Record) → inBounds U G r ≡ true → isMonomial r ≡ true → maskIn r < 2 ^ (U + G)
-mask-in-bounds U G (Start route unknowns givens) e h = never h refl
-mask-in-bounds U G (Condition m) e h = ltb-true _ _ e
-mask-in-bounds U G (Answer j m) e h = ltb-true _ _ (and-right (ltb j U) (ltb m (2 ^ (U + G))) e)
-mask-in-bounds U G (End route) e h = never h refl
-mask-in-bounds U G (None state) e h = never h refl
-mask-in-bounds U G Broken e h = never h refl
-
-pub table-in-bounds : (U G : ℕ) (r : Record) → inBounds U G r ≡ true → tableIn r ≤ U
-table-in-bounds U G (Start route unknowns givens) e = omega arith
-table-in-bounds U G (Condition m) e = omega arith
-table-in-bounds U G (Answer j m) e = ltb-true j U (and-left (ltb j U) (ltb m (2 ^ (U + G))) e)
-table-in-bounds U G (End route) e = omega arith
-table-in-bounds U G (None state) e = omega arith
-table-in-bounds U G Broken e = omega arith
-
-pub place-monomial : (r : Record) → isMonomial r ≡ true → placeOf r ≡ place (tableIn r) (maskIn r)
+-- ---- places of records
+pub place-monomial : (r : Record) → isMonomial r ≡ true → placeOf r ≡ place (tableIn r) (valueOf maskField r)
 unfolding placeOf
 place-monomial r h = rw h
 
 pub place-other : (r : Record) → isMonomial r ≡ false → placeOf r ≡ 0
 unfolding placeOf
 place-other r h = rw h
+
+-- of a record that was made for a monomial
+pub place-made : (i m : ℕ) → placeOf (monomialRecord i m) ≡ place i m
+place-made i m = place-monomial (monomialRecord i m) (monomial-is m i) ∙ rw (monomial-table m i, monomial-mask m i)
 
 pub mask-small : (n m : ℕ) → n ≤ 10 → m < 2 ^ n → m < 2 ^ 10
 mask-small n m l h = let p : 2 ^ n ≤ 2 ^ 10 = pow-mono l in omega arith
@@ -98,15 +86,15 @@ module _ (U G : ℕ) (l : U + G ≤ 10) where
     where
       go : (isMonomial r ≡ true) ⊎ (isMonomial r ≡ false) → (isMonomial s ≡ true) ⊎ (isMonomial s ≡ false) → inOrder r s ≡ (eqb (placeOf s) 0 || ltb (placeOf r) (placeOf s))
       go p (inr q) = rw (q, and-false (isMonomial r), place-other s q)
-      go (inr p) (inl q) = rw (p, place-other r p, place-monomial s q) (sym (or-right (eqb (place (tableIn s) (maskIn s)) 0) (lt-ltb 0 (place (tableIn s) (maskIn s)) (omega (arith, place-least (tableIn s) (maskIn s))))))
+      go (inr p) (inl q) = rw (p, place-other r p, place-monomial s q) (sym (or-right (eqb (place (tableIn s) (valueOf maskField s)) 0) (lt-ltb 0 (place (tableIn s) (valueOf maskField s)) (omega (arith, place-least (tableIn s) (valueOf maskField s))))))
       go (inl p) (inl q) =
-          let hr : maskIn r < 2 ^ 10 = mask-small (U + G) (maskIn r) l (mask-in-bounds U G r br p) in
-          let hs : maskIn s < 2 ^ 10 = mask-small (U + G) (maskIn s) l (mask-in-bounds U G s bs q) in
-          rw (p, q, place-monomial r p, place-monomial s q, ne-eqb (place (tableIn s) (maskIn s)) 0 some)
-          (place-before (tableIn r) (maskIn r) (tableIn s) (maskIn s) hr hs)
+          let hr : valueOf maskField r < 2 ^ 10 = mask-small (U + G) (valueOf maskField r) l (mask-in-bounds U G r br p) in
+          let hs : valueOf maskField s < 2 ^ 10 = mask-small (U + G) (valueOf maskField s) l (mask-in-bounds U G s bs q) in
+          rw (p, q, place-monomial r p, place-monomial s q, ne-eqb (place (tableIn s) (valueOf maskField s)) 0 some)
+          (place-before (tableIn r) (valueOf maskField r) (tableIn s) (valueOf maskField s) hr hs)
         where
-          some : place (tableIn s) (maskIn s) ≡ 0 → ⊥
-          some e = omega (arith, place-least (tableIn s) (maskIn s))
+          some : place (tableIn s) (valueOf maskField s) ≡ 0 → ⊥
+          some e = omega (arith, place-least (tableIn s) (valueOf maskField s))
 
   fits-behind : (p : Record) (rs : List Record) → inBounds U G p ≡ true → fitsBehind U G (placeOf p) rs ≡ (allInBounds U G rs && allInOrder (p ∷ rs))
   unfolding fitsBehind allInBounds allInOrder
@@ -119,6 +107,6 @@ module _ (U G : ℕ) (l : U + G ≤ 10) where
 
   -- the law that the code's question 12 stands on
   pub numbers-by-places : (rs : List Record) → fitsBehind U G 0 rs ≡ (allInBounds U G rs && allInOrder rs)
-  unfolding allInOrder inOrder placeOf
-  numbers-by-places [] = fits-behind Broken [] refl
-  numbers-by-places (r ∷ rs) = fits-behind Broken (r ∷ rs) refl
+  unfolding allInOrder inOrder placeOf kind fields among inBounds bodyFits
+  numbers-by-places [] = fits-behind [] [] refl
+  numbers-by-places (r ∷ rs) = fits-behind [] (r ∷ rs) refl

@@ -4,58 +4,79 @@
 -- Assumes nothing.
 use mathlib.Core.Path.{_≡_, refl, sym, ap, _∙_}
 use mathlib.Core.Bool.{Bool, true, false, cond}
-use mathlib.Core.List.{List, [], _∷_}
+use mathlib.Core.List.{List, [], _∷_, _++_}
 use mathlib.Core.Logic.{_⊎_, inl, inr}
-use Prim.Native.Nat.{ℕ, zero, suc, _+_, _*_, _≤_, _<_}
+use Prim.Native.Nat.{ℕ, zero, suc, _+_, _≤_, _<_}
 use native.Mathlib.Nat.{not-suc-le-zero}
 use native.Mathlib.Omega.{arith}
-use lib.Dec.{leb, eqb}
-use lib.ListN.{length, getD, drop, length-drop, drop-of-length-le}
-use lib.Seq.{drop-drop}
+use lib.Dec.{leb}
+use lib.ListN.{length, getD, take, drop, length-append, length-drop, drop-of-length-le}
+use lib.Seq.{drop-drop, getD-take, length-take-le}
 use borrow.Author.Tests.{leb-true}
 use Rattle.ring.proofs.Bool.{bool-cases, never}
-use Rattle.entry.specs.declared.Record.{Record}
-use Rattle.entry.specs.declared.Record.the-variants.{Start, Condition, Answer, End, None, Broken}
-use Rattle.entry.specs.Record.{bytes, size, isEnd}
-use Rattle.entry.specs.Held.{whole, next, untilEnd, firstRecords, records, first}
+use Rattle.entry.specs.Record.{Record, bytes, size, kind, isEnd, fields, AreBytes}
+use Rattle.entry.specs.Held.{next, untilEnd, firstRecords, records, first}
 use Rattle.entry.specs.Questions.{hasEnd}
+use Rattle.entry.proofs.Made.{IsRecord, take-bytes, drop-bytes}
 
 -- ---- the first record
-whole-fits : (bs : List ℕ) (r : Record) → size (whole bs r) ≤ length bs
-whole-fits bs r = go (bool-cases (leb (size r) (length bs)))
+-- there is none, or as many of the bytes as their kind says
+next-cases : (bs : List ℕ) → (next bs ≡ []) ⊎ ((size (kind bs) ≤ length bs) × (next bs ≡ take (size (kind bs)) bs))
+unfolding next
+next-cases bs = go (bool-cases (leb (size (kind bs)) (length bs)))
   where
-    go : (leb (size r) (length bs) ≡ true) ⊎ (leb (size r) (length bs) ≡ false) → size (whole bs r) ≤ length bs
-    go (inl e) = rw e (leb-true _ _ e)
-    go (inr e) = rw e (omega arith)
+    go : (leb (size (kind bs)) (length bs) ≡ true) ⊎ (leb (size (kind bs)) (length bs) ≡ false)
+        → (next bs ≡ []) ⊎ ((size (kind bs) ≤ length bs) × (next bs ≡ take (size (kind bs)) bs))
+    go (inl e) = inr (leb-true _ _ e, rw e)
+    go (inr e) = inl (rw e)
+
+-- the bytes begin with it
+pub next-front : (bs : List ℕ) → next bs ≡ take (length (next bs)) bs
+next-front bs = go (next-cases bs)
+  where
+    go : (next bs ≡ []) ⊎ ((size (kind bs) ≤ length bs) × (next bs ≡ take (size (kind bs)) bs)) → next bs ≡ take (length (next bs)) bs
+    go (inl e) = rw e
+    go (inr e) = e .1 ∙ ap (λ (k : ℕ). take k bs) (sym (ap length (e .1) ∙ length-take-le (size (kind bs)) bs (e .0)))
 
 -- the bytes hold all of it
-pub size-fits : (bs : List ℕ) → size (next bs) ≤ length bs
-unfolding next
-size-fits bs =
-    pick (eqb (getD bs 0 0) 1) _ _ (whole-fits bs (Start (getD bs 1 0) (getD bs 2 0) (getD bs 3 0)))
-    (pick (eqb (getD bs 0 0) 2) _ _ (whole-fits bs (Condition (getD bs 1 0 + 256 * getD bs 2 0)))
-    (pick (eqb (getD bs 0 0) 3) _ _ (whole-fits bs (Answer (getD bs 1 0) (getD bs 2 0 + 256 * getD bs 3 0)))
-    (pick (eqb (getD bs 0 0) 4) _ _ (whole-fits bs (End (getD bs 1 0)))
-    (pick (eqb (getD bs 0 0) 5) _ Broken (whole-fits bs (None (getD bs 1 0)))
-    (omega arith)))))
+pub size-fits : (bs : List ℕ) → length (next bs) ≤ length bs
+size-fits bs = go (next-cases bs)
   where
-    pick : (b : Bool) (r s : Record) → size r ≤ length bs → size s ≤ length bs → size (cond b r s) ≤ length bs
-    pick true r s p q = p
-    pick false r s p q = q
+    go : (next bs ≡ []) ⊎ ((size (kind bs) ≤ length bs) × (next bs ≡ take (size (kind bs)) bs)) → length (next bs) ≤ length bs
+    go (inl e) = rw e (omega arith)
+    go (inr e) = rw (e .1) (omega (arith, e .0, length-take-le (size (kind bs)) bs (e .0)))
+
+kind-front : (k : ℕ) (bs : List ℕ) → 0 < k → kind (take k bs) ≡ kind bs
+unfolding kind
+kind-front k bs h = getD-take k bs 0 0 h
+
+-- no bytes pass for a whole record
+pub no-record : IsRecord []
+unfolding size kind fields
+no-record = record { whole = refl; are-bytes = λ i. omega arith }
+
+-- it is a whole record, if bytes are bytes
+pub next-is : (bs : List ℕ) → AreBytes bs → IsRecord (next bs)
+next-is bs w = record { whole = go (next-cases bs); are-bytes = λ i. rw (next-front bs) (take-bytes (length (next bs)) bs w i) }
+  where
+    front : (k : ℕ) → k ≤ length bs → size (kind bs) ≡ k → length (take k bs) ≡ size (kind (take k bs))
+    front zero h e = no-record .whole
+    front (suc k) h e = length-take-le (suc k) bs h ∙ sym e ∙ ap size (sym (kind-front (suc k) bs (omega arith)))
+
+    go : (next bs ≡ []) ⊎ ((size (kind bs) ≤ length bs) × (next bs ≡ take (size (kind bs)) bs)) → length (next bs) ≡ size (kind (next bs))
+    go (inl e) = rw e (no-record .whole)
+    go (inr e) = rw (e .1) (front (size (kind bs)) (e .0) refl)
 
 -- ---- those behind it
 none-left : (k : ℕ) → firstRecords k [] ≡ []
-unfolding firstRecords next
+unfolding firstRecords next kind size fields untilEnd
 none-left zero = refl
 none-left (suc k) = refl
 
-until-same : (r : Record) (rs ss : List Record) → (0 < size r → rs ≡ ss) → untilEnd r rs ≡ untilEnd r ss
-until-same (Start route U G) rs ss h = ap (λ (l : List Record). Start route U G ∷ l) (h (omega arith))
-until-same (Condition m) rs ss h = ap (λ (l : List Record). Condition m ∷ l) (h (omega arith))
-until-same (Answer j m) rs ss h = ap (λ (l : List Record). Answer j m ∷ l) (h (omega arith))
-until-same (End route) rs ss h = refl
-until-same (None state) rs ss h = ap (λ (l : List Record). None state ∷ l) (h (omega arith))
-until-same Broken rs ss h = refl
+until-same : (r : Record) (rs ss : List Record) → (0 < length r → rs ≡ ss) → untilEnd r rs ≡ untilEnd r ss
+unfolding untilEnd
+until-same [] rs ss h = refl
+until-same (b ∷ r) rs ss h = ap (λ (l : List Record). (b ∷ r) ∷ cond (isEnd (b ∷ r)) [] l) (h (omega arith))
 
 steps-enough : (j k : ℕ) (bs : List ℕ) → length bs ≤ j → length bs ≤ k → firstRecords j bs ≡ firstRecords k bs
 unfolding firstRecords
@@ -65,80 +86,79 @@ steps-enough zero k (b ∷ bs) h l = absurd (not-suc-le-zero h)
 steps-enough (suc j) zero (b ∷ bs) h l = absurd (not-suc-le-zero l)
 steps-enough (suc j) (suc k) (b ∷ bs) h l =
     until-same (next (b ∷ bs)) _ _
-    (λ p. steps-enough j k (drop (size (next (b ∷ bs))) (b ∷ bs)) (omega (arith, length-drop (size (next (b ∷ bs))) (b ∷ bs))) (omega (arith, length-drop (size (next (b ∷ bs))) (b ∷ bs))))
+    (λ p. let n : ℕ = length (next (b ∷ bs)) in
+    let e : length (drop n (b ∷ bs)) ≤ j = omega (arith, length-drop n (b ∷ bs)) in
+    let f : length (drop n (b ∷ bs)) ≤ k = omega (arith, length-drop n (b ∷ bs)) in
+    steps-enough j k (drop n (b ∷ bs)) e f)
 
-pub records-next : (bs : List ℕ) → records bs ≡ untilEnd (next bs) (records (drop (size (next bs)) bs))
+pub records-next : (bs : List ℕ) → records bs ≡ untilEnd (next bs) (records (drop (length (next bs)) bs))
 unfolding records firstRecords
 records-next bs =
+    let n : ℕ = length (next bs) in
     steps-enough (length bs) (suc (length bs)) bs (omega arith) (omega arith)
-    ∙ ap (untilEnd (next bs)) (steps-enough (length bs) (length (drop (size (next bs)) bs)) (drop (size (next bs)) bs) (omega (arith, length-drop (size (next bs)) bs)) (omega arith))
+    ∙ ap (untilEnd (next bs)) (steps-enough (length bs) (length (drop n bs)) (drop n bs) (omega (arith, length-drop n bs)) (omega arith))
 
--- ---- a loop over the records: r stands at `at`
-records-at : (bs : List ℕ) (at : ℕ) {r : Record} → r ≡ next (drop at bs) → records (drop at bs) ≡ untilEnd r (records (drop (at + size r) bs))
-records-at bs at {r} e = records-next (drop at bs) ∙ rw (← e, drop-drop (size r) at bs)
-
-pub fits-at : (bs : List ℕ) (at : ℕ) {r : Record} → at ≤ length bs → r ≡ next (drop at bs) → at + size r ≤ length bs
-fits-at bs at {r} h e = rw e (omega (arith, size-fits (drop at bs), length-drop at bs))
-
+-- ---- a loop over the records: one of n bytes stands at `at`, none if n is 0
 pub records-none : (bs : List ℕ) (at : ℕ) → length bs ≤ at → records (drop at bs) ≡ []
 unfolding records
 records-none bs at h = rw (drop-of-length-le bs h) (none-left 0)
 
-module _ (bs : List ℕ) (at : ℕ) {r : Record} (er : r ≡ next (drop at bs)) {n : ℕ} (en : n ≡ size r) where
+pub fits-at : (bs : List ℕ) (at : ℕ) {n : ℕ} → at ≤ length bs → n ≡ length (next (drop at bs)) → at + n ≤ length bs
+fits-at bs at {n} h e = omega (arith, size-fits (drop at bs), length-drop at bs)
+
+module _ (bs : List ℕ) (at : ℕ) {n : ℕ} (en : n ≡ length (next (drop at bs))) where
+  -- the record
+  pub there : next (drop at bs) ≡ take n (drop at bs)
+  there = next-front (drop at bs) ∙ ap (λ (k : ℕ). take k (drop at bs)) (sym en)
+
+  records-at : records (drop at bs) ≡ untilEnd (take n (drop at bs)) (records (drop (at + n) bs))
+  records-at = records-next (drop at bs) ∙ rw (← en, there, drop-drop n at bs)
+
+  some-there : length (take n (drop at bs)) ≡ n
+  some-there = ap length (sym there) ∙ sym en
+
   -- none stands there
   pub here-none : n ≡ 0 → records (drop at bs) ≡ []
-  here-none e = records-at bs at er ∙ cases r (sym en ∙ e) (records (drop (at + size r) bs))
-    where
-      cases : (r : Record) → size r ≡ 0 → (rs : List Record) → untilEnd r rs ≡ []
-      cases (Start route U G) z rs = absurd (omega arith)
-      cases (Condition m) z rs = absurd (omega arith)
-      cases (Answer j m) z rs = absurd (omega arith)
-      cases (End route) z rs = absurd (omega arith)
-      cases (None state) z rs = absurd (omega arith)
-      cases Broken z rs = refl
+  unfolding untilEnd
+  here-none e = records-at ∙ rw e
 
   -- one stands there, and the rest behind it unless it is the end
-  pub here : (n ≡ 0 → ⊥) → records (drop at bs) ≡ r ∷ cond (isEnd r) [] (records (drop (at + n) bs))
-  here s = records-at bs at er ∙ cases r (λ z. s (en ∙ z)) (records (drop (at + size r) bs)) ∙ rw en
+  pub here : (n ≡ 0 → ⊥) → records (drop at bs) ≡ take n (drop at bs) ∷ cond (isEnd (take n (drop at bs))) [] (records (drop (at + n) bs))
+  unfolding untilEnd
+  here s = records-at ∙ cases (take n (drop at bs)) some-there (records (drop (at + n) bs))
     where
-      cases : (r : Record) → (size r ≡ 0 → ⊥) → (rs : List Record) → untilEnd r rs ≡ r ∷ cond (isEnd r) [] rs
-      cases (Start route U G) n rs = refl
-      cases (Condition m) n rs = refl
-      cases (Answer j m) n rs = refl
-      cases (End route) n rs = refl
-      cases (None state) n rs = refl
-      cases Broken n rs = absurd (n refl)
+      cases : (r : Record) → length r ≡ n → (rs : List Record) → untilEnd r rs ≡ r ∷ cond (isEnd r) [] rs
+      cases [] e rs = absurd (s (sym e))
+      cases (b ∷ r) e rs = refl
 
 -- the first of the records is the first in the bytes
 pub first-next : (bs : List ℕ) → first (records bs) ≡ next bs
-first-next bs = ap first (records-next bs) ∙ cases (next bs) (records (drop (size (next bs)) bs))
+unfolding untilEnd
+first-next bs = ap first (records-next bs) ∙ cases (next bs) (records (drop (length (next bs)) bs))
   where
     cases : (r : Record) (rs : List Record) → first (untilEnd r rs) ≡ r
-    cases (Start route U G) rs = refl
-    cases (Condition m) rs = refl
-    cases (Answer j m) rs = refl
-    cases (End route) rs = refl
-    cases (None state) rs = refl
-    cases Broken rs = refl
+    cases [] rs = refl
+    cases (b ∷ r) rs = refl
 
 -- ---- the length used
-until-length : (r : Record) (rs : List Record) → length (bytes (untilEnd r rs)) ≤ size r + length (bytes rs)
-unfolding bytes
-until-length (Start route U G) rs = omega arith
-until-length (Condition m) rs = omega arith
-until-length (Answer j m) rs = omega arith
-until-length (End route) rs = omega arith
-until-length (None state) rs = omega arith
-until-length Broken rs = omega arith
+until-length : (r : Record) (rs : List Record) → length (bytes (untilEnd r rs)) ≤ length r + length (bytes rs)
+unfolding bytes untilEnd
+until-length [] rs = omega arith
+until-length (b ∷ r) rs = go (isEnd (b ∷ r))
+  where
+    go : (e : Bool) → length ((b ∷ r) ++ bytes (cond e [] rs)) ≤ length (b ∷ r) + length (bytes rs)
+    go true = omega (arith, length-append (b ∷ r) [])
+    go false = omega (arith, length-append (b ∷ r) (bytes rs))
 
 first-length : (k : ℕ) (bs : List ℕ) → length (bytes (firstRecords k bs)) ≤ length bs
 unfolding firstRecords bytes
 first-length zero bs = omega arith
 first-length (suc k) bs =
-    let rs : List Record = firstRecords k (drop (size (next bs)) bs) in
-    let u : length (bytes (untilEnd (next bs) rs)) ≤ size (next bs) + length (bytes rs) = until-length (next bs) rs in
-    let l : length (bytes rs) ≤ length (drop (size (next bs)) bs) = first-length k (drop (size (next bs)) bs) in
-    omega (arith, size-fits bs, length-drop (size (next bs)) bs)
+    let n : ℕ = length (next bs) in
+    let rs : List Record = firstRecords k (drop n bs) in
+    let u : length (bytes (untilEnd (next bs) rs)) ≤ n + length (bytes rs) = until-length (next bs) rs in
+    let l : length (bytes rs) ≤ length (drop n bs) = first-length k (drop n bs) in
+    omega (arith, size-fits bs, length-drop n bs)
 
 -- it is within the bytes
 pub used-fits : (bs : List ℕ) → length (bytes (records bs)) ≤ length bs
@@ -147,11 +167,33 @@ used-fits bs = first-length (length bs) bs
 
 -- an end has bytes
 pub some-bytes : (rs : List Record) → hasEnd rs ≡ true → 0 < length (bytes rs)
-unfolding hasEnd bytes
+unfolding hasEnd bytes kind
 some-bytes [] h = never h refl
-some-bytes (Start route U G ∷ rs) h = omega arith
-some-bytes (Condition m ∷ rs) h = omega arith
-some-bytes (Answer j m ∷ rs) h = omega arith
-some-bytes (End route ∷ rs) h = omega arith
-some-bytes (None state ∷ rs) h = omega arith
-some-bytes (Broken ∷ rs) h = some-bytes rs h
+some-bytes ([] ∷ rs) h = some-bytes rs h
+some-bytes ((b ∷ r) ∷ rs) h = omega arith
+
+-- ---- all of them are whole
+-- every one of the records is
+abbrev pub AreRecords : List Record → Type 0
+AreRecords rs = (i : ℕ) → IsRecord (getD rs i [])
+
+until-are : (r : Record) (rs : List Record) → IsRecord r → AreRecords rs → AreRecords (untilEnd r rs)
+unfolding untilEnd
+until-are [] rs h hs i = no-record
+until-are (b ∷ r) rs h hs zero = h
+until-are (b ∷ r) rs h hs (suc i) = go (isEnd (b ∷ r))
+  where
+    go : (e : Bool) → IsRecord (getD (cond e [] rs) i [])
+    go true = no-record
+    go false = hs i
+
+first-are : (k : ℕ) (bs : List ℕ) → AreBytes bs → AreRecords (firstRecords k bs)
+unfolding firstRecords
+first-are zero bs w i = no-record
+first-are (suc k) bs w i =
+    until-are (next bs) (firstRecords k (drop (length (next bs)) bs)) (next-is bs w)
+    (first-are k (drop (length (next bs)) bs) (drop-bytes (length (next bs)) bs w)) i
+
+pub records-are : (bs : List ℕ) → AreBytes bs → AreRecords (records bs)
+unfolding records
+records-are bs w = first-are (length bs) bs w

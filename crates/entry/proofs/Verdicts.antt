@@ -5,12 +5,11 @@ use mathlib.Core.Path.{_≡_, refl}
 use mathlib.Core.Bool.{Bool, true, false, cond}
 use mathlib.Core.List.{List}
 use Prim.Native.Nat.{ℕ, _+_, _^_, _<_}
-use Rattle.ring.specs.Table.{present, held, answerTable}
+use Rattle.ring.specs.Table.{held, answerTable}
 use Rattle.ring.proofs.Table.{held-answerTable, answerTable-cong}
 use Rattle.solution.specs.Substitution.{Substitution}
-use Rattle.solution.specs.Condition.{defaultOrder}
-use Rattle.solution.specs.Elimination.{Verdict, solved, none, solve, solvable, booleAnswers, smallestBlocked}
-use Rattle.solution.proofs.Orders.{default-order}
+use Rattle.solution.specs.Condition.{Condition, width, polynomial, IsOrder}
+use Rattle.solution.specs.Elimination.{Verdict, solved, none, solve, solvable, booleAnswers, booleTable, smallestBlocked}
 use Rattle.solution.proofs.Theorems.{none-names-smallest}
 
 abbrev pub VerdictFits : ℕ → ℕ → Verdict (List ℕ) → Type 0
@@ -21,10 +20,11 @@ VerdictFits U G (none state) = state .0 < 2 ^ G
 pub answers-fit : (U G : ℕ) (b : Substitution) → VerdictFits U G (solved (answerTable U (U + G) b))
 answers-fit U G b = answerTable-cong U (U + G) _ b (λ j m h l. held-answerTable U (U + G) b j m h l)
 
-pub solve-fits : (U G : ℕ) (t : List ℕ) → VerdictFits U G (solve U G (defaultOrder U) t)
-unfolding solve
-solve-fits U G t = go (solvable (U + G) (present t) (defaultOrder U)) refl
+pub solve-fits : (c : Condition) → IsOrder (c .U) (c .order) → VerdictFits (c .U) (c .G) (solve c)
+unfolding solve booleTable
+solve-fits c is = go (solvable (width c) (polynomial c) (c .order)) refl
   where
-    go : (b : Bool) → solvable (U + G) (present t) (defaultOrder U) ≡ b → VerdictFits U G (cond b (solved (answerTable U (U + G) (booleAnswers (U + G) (present t) (defaultOrder U)))) (none (smallestBlocked U G (present t))))
-    go true e = answers-fit U G (booleAnswers (U + G) (present t) (defaultOrder U))
-    go false e = none-names-smallest U G (present t) (defaultOrder U) (default-order U) e .is-state
+    go : (b : Bool) → solvable (width c) (polynomial c) (c .order) ≡ b
+        → VerdictFits (c .U) (c .G) (cond b (solved (booleTable c)) (none (smallestBlocked (c .U) (c .G) (polynomial c))))
+    go true e = answers-fit (c .U) (c .G) (booleAnswers (width c) (polynomial c) (c .order))
+    go false e = none-names-smallest (c .U) (c .G) (polynomial c) (c .order) is e .is-state

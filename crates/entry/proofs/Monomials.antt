@@ -1,0 +1,97 @@
+-- Records that hold a monomial: what one says that was made for the monomial m of table i, and that it is the only one.
+-- Assumes nothing.
+use mathlib.Core.Path.{_≡_, refl, sym, ap, _∙_}
+use mathlib.Core.Bool.{Bool, true, false, _&&_, _||_, not, and-false, and-or-distrib-left}
+use mathlib.Core.List.{List, [], _∷_, map}
+use mathlib.Core.Logic.{_⊎_, inl, inr}
+use Prim.Native.Nat.{ℕ, zero, suc, _+_, _^_, _≤_, _<_}
+use native.Mathlib.Omega.{arith}
+use lib.Dec.{eqb, ltb}
+use borrow.Author.Tests.{ltb-true, lt-ltb, eqb-true}
+use Rattle.ring.specs.Polynomial.{everyBelow}
+use Rattle.ring.specs.Lists.{has}
+use Rattle.ring.proofs.Bool.{both, or-cases, bool-cases, never}
+use Rattle.entry.specs.Record.{Record, unknownField, maskField, fields, kind, among, valueIn, valueOf, isEnd, isNone, isMonomial, tableIn, inBounds}
+use Rattle.entry.specs.Held.{hasMonomial}
+use Rattle.entry.specs.Inner.Codes.{monomialRecord}
+use Rattle.entry.proofs.Made.{given, allFit, made-value, made-fits, field-fits, every-kind, IsRecord, valuesIn, made-again}
+
+-- ---- one that was made
+module _ (m : ℕ) where
+  pub monomial-is : (i : ℕ) → isMonomial (monomialRecord i m) ≡ true
+  unfolding kind fields among
+  monomial-is zero = refl
+  monomial-is (suc j) = refl
+
+  pub monomial-no-end : (i : ℕ) → isEnd (monomialRecord i m) ≡ false
+  unfolding kind
+  monomial-no-end zero = refl
+  monomial-no-end (suc j) = refl
+
+  pub monomial-no-none : (i : ℕ) → isNone (monomialRecord i m) ≡ false
+  unfolding kind
+  monomial-no-none zero = refl
+  monomial-no-none (suc j) = refl
+
+  pub monomial-mask : (i : ℕ) → valueOf maskField (monomialRecord i m) ≡ m
+  unfolding fields given
+  monomial-mask zero = made-value 2 (m ∷ []) refl maskField
+  monomial-mask (suc j) = made-value 3 (j ∷ m ∷ []) refl maskField
+
+  pub monomial-table : (i : ℕ) → tableIn (monomialRecord i m) ≡ i
+  unfolding kind fields among given
+  monomial-table zero = refl
+  monomial-table (suc j) = ap suc (made-value 3 (j ∷ m ∷ []) refl unknownField)
+
+  pub monomial-bounds : (U G i : ℕ) → i ≤ U → m < 2 ^ (U + G) → inBounds U G (monomialRecord i m) ≡ true
+  unfolding fields allFit
+  monomial-bounds U G zero h l = made-fits 2 (m ∷ []) refl U G ∙ both (lt-ltb m (2 ^ (U + G)) l) refl
+  monomial-bounds U G (suc j) h l = made-fits 3 (j ∷ m ∷ []) refl U G ∙ both (lt-ltb j U h) (both (lt-ltb m (2 ^ (U + G)) l) refl)
+
+-- the monomials of records that were made for table k
+pub table-monomials : (i m k : ℕ) (ms : List ℕ) → hasMonomial i m (map (monomialRecord k) ms) ≡ (eqb i k && has m ms)
+unfolding hasMonomial has
+table-monomials i m k [] = sym (and-false (eqb i k))
+table-monomials i m k (x ∷ ms) =
+    rw (monomial-is x k, monomial-table x k, monomial-mask x k, table-monomials i m k ms) (sym (and-or-distrib-left (eqb i k) (eqb m x) (has m ms)))
+
+-- ---- one that stands in bytes
+-- only kinds 2 and 3 hold a monomial
+mask-kinds : (k : ℕ) → among maskField (fields k) ≡ true → (k ≡ 2) ⊎ (k ≡ 3)
+unfolding among fields everyBelow
+mask-kinds k h = go (or-cases (eqb k 2) (eqb k 3) (both-ways (among maskField (fields k)) (every-kind test refl k some) h))
+  where
+    test : ℕ → Bool
+    test k = not (among maskField (fields k)) || (eqb k 2 || eqb k 3)
+
+    some : fields k ≡ [] → ⊥
+    some e = never h (ap (among maskField) e)
+
+    both-ways : (b : Bool) → (not b || (eqb k 2 || eqb k 3)) ≡ true → b ≡ true → (eqb k 2 || eqb k 3) ≡ true
+    both-ways true e f = e
+    both-ways false e f = never f refl
+
+    go : (eqb k 2 ≡ true) ⊎ (eqb k 3 ≡ true) → (k ≡ 2) ⊎ (k ≡ 3)
+    go (inl e) = inl (eqb-true k 2 e)
+    go (inr e) = inr (eqb-true k 3 e)
+
+-- a whole record that holds a monomial is the one that is made for it
+pub monomial-again : (r : Record) → IsRecord r → isMonomial r ≡ true → r ≡ monomialRecord (tableIn r) (valueOf maskField r)
+unfolding kind fields among valueOf valueIn valuesIn
+monomial-again [] w h = never h refl
+monomial-again (b ∷ bs) w h = go (mask-kinds b h)
+  where
+    go : (b ≡ 2) ⊎ (b ≡ 3) → b ∷ bs ≡ monomialRecord (tableIn (b ∷ bs)) (valueOf maskField (b ∷ bs))
+    go (inl e) = rw e (made-again 2 bs (rw e at w))
+    go (inr e) = rw e (made-again 3 bs (rw e at w))
+
+-- ---- question 12
+pub mask-in-bounds : (U G : ℕ) (r : Record) → inBounds U G r ≡ true → isMonomial r ≡ true → valueOf maskField r < 2 ^ (U + G)
+mask-in-bounds U G r e h = ltb-true _ _ (field-fits U G maskField r h e)
+
+pub table-in-bounds : (U G : ℕ) (r : Record) → inBounds U G r ≡ true → tableIn r ≤ U
+table-in-bounds U G r e = go (bool-cases (among unknownField (fields (kind r))))
+  where
+    go : (among unknownField (fields (kind r)) ≡ true) ⊎ (among unknownField (fields (kind r)) ≡ false) → tableIn r ≤ U
+    go (inl h) = rw h (ltb-true _ _ (field-fits U G unknownField r h e))
+    go (inr h) = rw h (omega arith)
