@@ -4,7 +4,7 @@
 use mathlib.Core.Path.{_≡_, refl, sym, ap, ap₂, _∙_}
 use mathlib.Core.Bool.{true, _&&_}
 use mathlib.Core.List.{List, [], _∷_, _++_, append-assoc, append-nil, map}
-use Prim.Native.Nat.{ℕ, suc, _+_, _*_, _/_, _%_, _^_, _≤_, _<_}
+use Prim.Native.Nat.{ℕ, zero, suc, _+_, _-_, _*_, _/_, _%_, _^_, _≤_, _<_}
 use native.Mathlib.Numerals.{add-one}
 use native.Mathlib.Omega.{arith}
 use lib.Dec.{ltb}
@@ -23,7 +23,7 @@ use Rattle.solution.specs.Condition.{Condition, width}
 use Rattle.order.specs.Order.{monomials}
 use Rattle.order.specs.Inner.Listing.{tagged}
 use Rattle.order.proofs.Order.{has-monomials, monomials-same}
-use Rattle.entry.specs.Record.{Record, conditionRecord, answerRecord, bytes}
+use Rattle.entry.specs.Record.{Record, fields, lowFirst, bodyOf, conditionRecord, answerRecord, bytes}
 use Rattle.entry.specs.Entry.{conditionRecords}
 use Rattle.entry.specs.Inner.Codes.{monomialRecord, listedRecord}
 
@@ -34,6 +34,20 @@ record-of i m h =
     let d : (1024 * i + m) / 1024 ≡ i = omega arith in
     let r : (1024 * i + m) % 1024 ≡ m = omega arith in
     ap₂ monomialRecord d r
+
+-- its bytes: three where the table is the condition, four where it is an answer's
+module _ (code : ℕ) where
+  pub condition-listed : code / 1024 ≡ 0 → listedRecord code ≡ 2 ∷ code % 1024 % 256 ∷ code % 1024 / 256 ∷ []
+  unfolding listedRecord fields bodyOf lowFirst
+  condition-listed z = rw z
+
+  pub answer-listed : (code / 1024 ≡ 0 → ⊥) → listedRecord code ≡ 3 ∷ (code / 1024 - 1) ∷ code % 1024 % 256 ∷ code % 1024 / 256 ∷ []
+  unfolding listedRecord fields bodyOf lowFirst
+  answer-listed some = go (code / 1024) some
+    where
+      go : (i : ℕ) → (i ≡ 0 → ⊥) → monomialRecord i (code % 1024) ≡ 3 ∷ (i - 1) ∷ code % 1024 % 256 ∷ code % 1024 / 256 ∷ []
+      go zero n = absurd (n refl)
+      go (suc j) n = let d : suc j - 1 ≡ j = omega arith in rw d
 
 of-tagged : (i : ℕ) (ms : List ℕ) → ((m : ℕ) → has m ms ≡ true → m < 1024) → map listedRecord (tagged (1024 * i) ms) ≡ map (monomialRecord i) ms
 unfolding tagged
