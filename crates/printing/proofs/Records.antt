@@ -4,19 +4,18 @@
 use mathlib.Core.Path.{_≡_, refl, sym, ap, _∙_}
 use mathlib.Core.Bool.{true}
 use mathlib.Core.List.{List, [], _∷_, _++_, append-assoc, map}
-use Prim.Native.Nat.{ℕ, zero, suc, _+_, _-_, _*_, _/_, _%_, _≤_, _<_}
+use Prim.Native.Nat.{ℕ, _+_, _-_, _*_, _/_, _%_, _≤_, _<_}
 use native.Mathlib.Omega.{arith}
-use lib.Dec.{ltb}
-use lib.ListN.{length, length-append}
+use lib.Dec.{eqb, ltb}
+use lib.ListN.{length, getD, length-append}
 use borrow.Author.Tests.{ltb-true}
 use Rattle.ring.proofs.Bool.{and-left, and-right}
 use Rattle.tables.specs.Inner.Put.{Put}
 use Rattle.tables.proofs.Put.{put-same}
-use Rattle.entry.specs.declared.Record.{Record}
-use Rattle.entry.specs.Record.{recordBytes, bytes, size}
-use Rattle.entry.specs.Inner.Codes.{monomialRecord, recordOf}
-use Rattle.entry.specs.Held.{allWhole}
-use Rattle.entry.proofs.Codes.{each}
+use Rattle.entry.specs.Record.{Record, size, kind, bytes}
+use Rattle.entry.specs.Inner.Codes.{listedRecord}
+use Rattle.entry.proofs.Back.{isWhole, allWhole}
+use Rattle.entry.proofs.Codes.{condition-listed, answer-listed, each, Putting, putting-start, part-fits, putting-more, putting-end}
 use Rattle.printing.specs.Print.{lineFeed, hexadecimal, recordLines}
 use Rattle.printing.proofs.Hexadecimal.{hex-length}
 
@@ -24,59 +23,75 @@ pub lines-append : (rs ss : List Record) → recordLines (rs ++ ss) ≡ recordLi
 unfolding recordLines
 lines-append [] ss = refl
 lines-append (r ∷ rs) ss =
-    ap (λ (l : List ℕ). hexadecimal (recordBytes r) ++ (lineFeed ∷ l)) (lines-append rs ss)
-    ∙ sym (append-assoc (hexadecimal (recordBytes r)) (lineFeed ∷ recordLines rs) (recordLines ss))
+    ap (λ (l : List ℕ). hexadecimal r ++ (lineFeed ∷ l)) (lines-append rs ss)
+    ∙ sym (append-assoc (hexadecimal r) (lineFeed ∷ recordLines rs) (recordLines ss))
 
 -- the line of a record
-pub line-of : (r : Record) → recordLines (r ∷ []) ≡ hexadecimal (recordBytes r) ++ (lineFeed ∷ [])
+pub line-of : (r : Record) → recordLines (r ∷ []) ≡ hexadecimal r ++ (lineFeed ∷ [])
 unfolding recordLines
 line-of r = refl
 
-pub line-length : (r : Record) → length (recordLines (r ∷ [])) ≡ 2 * size r + 1
+pub line-length : (r : Record) → length (recordLines (r ∷ [])) ≡ 2 * length r + 1
 unfolding recordLines
-line-length r = length-append (hexadecimal (recordBytes r)) (lineFeed ∷ []) ∙ ap (λ (k : ℕ). k + 1) (hex-length (recordBytes r))
+line-length r = length-append (hexadecimal r) (lineFeed ∷ []) ∙ ap (λ (k : ℕ). k + 1) (hex-length r)
 
 -- 'three bytes for each of an entry's'
 pub lines-most : (rs : List Record) → allWhole rs ≡ true → length (recordLines rs) ≤ 3 * length (bytes rs)
 unfolding recordLines bytes allWhole
 lines-most [] w = omega arith
 lines-most (r ∷ rs) w =
-    omega (arith, lines-most rs (and-right (ltb 0 (size r)) (allWhole rs) w), ltb-true 0 (size r) (and-left (ltb 0 (size r)) (allWhole rs) w), hex-length (recordBytes r), length-append (hexadecimal (recordBytes r)) (lineFeed ∷ recordLines rs), length-append (recordBytes r) (bytes rs))
+    let some : 0 < length r = ltb-true 0 (length r) (and-left (ltb 0 (length r)) (eqb (length r) (size (kind r))) (and-left (isWhole r) (allWhole rs) w)) in
+    let behind : length (recordLines rs) ≤ 3 * length (bytes rs) = lines-most rs (and-right (isWhole r) (allWhole rs) w) in
+    omega (arith, hex-length r, length-append (hexadecimal r) (lineFeed ∷ recordLines rs), length-append r (bytes rs))
 
 -- ---- the monomials that numbers stand for
 -- what is printed for one
 unfoldable pub codeLine : ℕ → List ℕ
-codeLine code = recordLines (recordOf code ∷ [])
+codeLine code = recordLines (listedRecord code ∷ [])
 
-pub each-lines : (codes : List ℕ) → each codeLine codes ≡ recordLines (map recordOf codes)
+pub each-lines : (codes : List ℕ) → each codeLine codes ≡ recordLines (map listedRecord codes)
 unfolding each codeLine recordLines
 each-lines [] = refl
 each-lines (code ∷ codes) =
-    append-assoc (hexadecimal (recordBytes (recordOf code))) (lineFeed ∷ []) (each codeLine codes)
-    ∙ ap (λ (l : List ℕ). hexadecimal (recordBytes (recordOf code)) ++ (lineFeed ∷ l)) (each-lines codes)
+    append-assoc (hexadecimal (listedRecord code)) (lineFeed ∷ []) (each codeLine codes)
+    ∙ ap (λ (l : List ℕ). hexadecimal (listedRecord code) ++ (lineFeed ∷ l)) (each-lines codes)
 
--- the table's number and the mask of a number, and the record that they make
+-- one of them by its bytes
+record-line : {r bs old new : List ℕ} {at next : ℕ} → r ≡ bs → Put old at (hexadecimal bs ++ (lineFeed ∷ [])) next new → Put old at (recordLines (r ∷ [])) next new
+record-line {r} e p = put-same p (sym (line-of r ∙ ap (λ (l : List ℕ). hexadecimal l ++ (lineFeed ∷ [])) e))
+
 module _ (code : ℕ) where
-  condition-is : code / 1024 ≡ 0 → recordBytes (recordOf code) ≡ 2 ∷ code % 1024 % 256 ∷ code % 1024 / 256 ∷ []
-  unfolding recordOf
-  condition-is z = rw z
+  pub condition-room : (at room : ℕ) → code / 1024 ≡ 0 → at + length (recordLines (listedRecord code ∷ [])) ≤ room → at + 2 * 3 < room
+  condition-room at room z h = omega (arith, line-length (listedRecord code), ap length (condition-listed code z))
 
-  answer-is : (code / 1024 ≡ 0 → ⊥) → recordBytes (recordOf code) ≡ 3 ∷ (code / 1024 - 1) ∷ code % 1024 % 256 ∷ code % 1024 / 256 ∷ []
-  unfolding recordOf
-  answer-is n = go (code / 1024) n
-    where
-      go : (i : ℕ) → (i ≡ 0 → ⊥) → recordBytes (monomialRecord i (code % 1024)) ≡ 3 ∷ (i - 1) ∷ code % 1024 % 256 ∷ code % 1024 / 256 ∷ []
-      go zero n = absurd (n refl)
-      go (suc j) n = let d : suc j - 1 ≡ j = omega arith in rw d
+  pub answer-room : (at room : ℕ) → (code / 1024 ≡ 0 → ⊥) → at + length (recordLines (listedRecord code ∷ [])) ≤ room → at + 2 * 4 < room
+  answer-room at room n h = omega (arith, line-length (listedRecord code), ap length (answer-listed code n))
 
-  pub condition-room : (at room : ℕ) → code / 1024 ≡ 0 → at + length (recordLines (recordOf code ∷ [])) ≤ room → at + 2 * 3 < room
-  condition-room at room z h = omega (arith, line-length (recordOf code), ap length (condition-is z))
+  pub condition-line : {at r : ℕ} {old new : List ℕ} → code / 1024 ≡ 0
+      → Put old at (hexadecimal (2 ∷ code % 1024 % 256 ∷ code % 1024 / 256 ∷ []) ++ (lineFeed ∷ [])) r new → Put old at (recordLines (listedRecord code ∷ [])) r new
+  condition-line z p = record-line (condition-listed code z) p
 
-  pub answer-room : (at room : ℕ) → (code / 1024 ≡ 0 → ⊥) → at + length (recordLines (recordOf code ∷ [])) ≤ room → at + 2 * 4 < room
-  answer-room at room n h = omega (arith, line-length (recordOf code), ap length (answer-is n))
+  pub answer-line : {at r : ℕ} {old new : List ℕ} → (code / 1024 ≡ 0 → ⊥)
+      → Put old at (hexadecimal (3 ∷ (code / 1024 - 1) ∷ code % 1024 % 256 ∷ code % 1024 / 256 ∷ []) ++ (lineFeed ∷ [])) r new
+      → Put old at (recordLines (listedRecord code ∷ [])) r new
+  answer-line n p = record-line (answer-listed code n) p
 
-  pub condition-line : {at r : ℕ} {old new : List ℕ} → code / 1024 ≡ 0 → Put old at (hexadecimal (2 ∷ code % 1024 % 256 ∷ code % 1024 / 256 ∷ []) ++ (lineFeed ∷ [])) r new → Put old at (recordLines (recordOf code ∷ [])) r new
-  condition-line z p = put-same p (sym (line-of (recordOf code) ∙ ap (λ (l : List ℕ). hexadecimal l ++ (lineFeed ∷ [])) (condition-is z)))
+-- ---- the loop that puts their lines
+abbrev pub Printing : List ℕ → List ℕ → ℕ → ℕ → ℕ → List ℕ → Type 0
+Printing codes old from p at new = Putting codeLine codes old from p at new
 
-  pub answer-line : {at r : ℕ} {old new : List ℕ} → (code / 1024 ≡ 0 → ⊥) → Put old at (hexadecimal (3 ∷ (code / 1024 - 1) ∷ code % 1024 % 256 ∷ code % 1024 / 256 ∷ []) ++ (lineFeed ∷ [])) r new → Put old at (recordLines (recordOf code ∷ [])) r new
-  answer-line n p = put-same p (sym (line-of (recordOf code) ∙ ap (λ (l : List ℕ). hexadecimal l ++ (lineFeed ∷ [])) (answer-is n)))
+pub printing-start : (codes old : List ℕ) (from : ℕ) → from + length (recordLines (map listedRecord codes)) ≤ length old → Printing codes old from 0 from old
+printing-start codes old from h = putting-start codeLine codes old from (rw (each-lines codes) h)
+
+module _ {codes old : List ℕ} {from p at : ℕ} {new : List ℕ} (w : Printing codes old from p at new) where
+  module _ (l : p < length codes) {code : ℕ} (e : code ≡ getD codes p 0) where
+    pub line-fits : at + length (recordLines (listedRecord code ∷ [])) ≤ length new
+    unfolding codeLine
+    line-fits = part-fits w l e
+
+    pub printing-more : {at′ : ℕ} {new′ : List ℕ} → Put new at (recordLines (listedRecord code ∷ [])) at′ new′ → Printing codes old from (p + 1) at′ new′
+    unfolding codeLine
+    printing-more q = putting-more w l e q
+
+  pub printing-end : length codes ≤ p → Put old from (recordLines (map listedRecord codes)) at new
+  printing-end l = put-same (putting-end w l) (each-lines codes)

@@ -6,8 +6,7 @@ use Prim.Native.Nat.{ℕ, zero, suc, _+_, _/_, _%_}
 use lib.Dec.{ltb}
 use Rattle.grammar.specs.Symbols.{space}
 use Rattle.tables.specs.Answered.{Reply, accepted, refused}
-use Rattle.entry.specs.declared.Record.{Record}
-use Rattle.entry.specs.Record.{recordBytes}
+use Rattle.entry.specs.Record.{Record}
 
 -- 'each line ends with a line feed'
 abbrev pub lineFeed : ℕ
@@ -34,7 +33,7 @@ hexadecimal (byte ∷ bytes) = digitByte (byte / 16) ∷ digitByte (byte % 16) �
 -- 'It prints each record of the entry on a line'
 unfoldable pub recordLines : List Record → List ℕ
 recordLines [] = []
-recordLines (r ∷ rs) = hexadecimal (recordBytes r) ++ (lineFeed ∷ recordLines rs)
+recordLines (r ∷ rs) = hexadecimal r ++ (lineFeed ∷ recordLines rs)
 
 -- `unreadable`, and its line feed
 abbrev pub unreadableLine : List ℕ

@@ -6,7 +6,7 @@ ghost use Prim.Native.Nat.{_+_, _*_, _≤_, _<_};
 ghost use lib.ListN.{length};
 ghost use Rattle.tables.specs.Inner.Put.{Put};
 ghost use Rattle.tables.specs.Answered.{accepted};
-ghost use Rattle.entry.specs.Inner.Codes.{recordOf};
+ghost use Rattle.entry.specs.Inner.Codes.{listedRecord};
 ghost use Rattle.printing.specs.Print.{lineFeed, decimal, digitByte, hexadecimal, recordLines, unreadableLine, refusedWord, refusedLine, replyLine};
 
 fn put(out: &mut [u8], at: usize, bytes: &[u8]) -> usize
@@ -73,8 +73,8 @@ fn wide(x: u16) -> usize
 
 // The line of a monomial's record.
 fn put_monomial(out: &mut [u8], at: usize, code: usize) -> usize
-    requires { ⌜ (code < 65536) × (at + length (recordLines (recordOf code ∷ [])) ≤ length (now out)) ⌝ }
-    ensures { λ r. ⌜ Put (now (out .entry)) at (recordLines (recordOf code ∷ [])) r (now (out .exit)) ⌝ }
+    requires { ⌜ (code < 65536) × (at + length (recordLines (listedRecord code ∷ [])) ≤ length (now out)) ⌝ }
+    ensures { λ r. ⌜ Put (now (out .entry)) at (recordLines (listedRecord code ∷ [])) r (now (out .exit)) ⌝ }
 {
     let i = code / 1024;
     let m = code % 1024;
@@ -90,8 +90,8 @@ fn put_monomial(out: &mut [u8], at: usize, code: usize) -> usize
 
 // The lines of the monomials that numbers stand for.
 pub fn put_monomials(out: &mut [u8], from: usize, codes: &[u16]) -> usize
-    requires { ⌜ from + length (recordLines (map recordOf (now codes))) ≤ length (now out) ⌝ }
-    ensures { λ r. ⌜ Put (now (out .entry)) from (recordLines (map recordOf (now (codes .entry)))) r (now (out .exit)) ⌝ }
+    requires { ⌜ from + length (recordLines (map listedRecord (now codes))) ≤ length (now out) ⌝ }
+    ensures { λ r. ⌜ Put (now (out .entry)) from (recordLines (map listedRecord (now (codes .entry)))) r (now (out .exit)) ⌝ }
 {
     let mut at = from;
     for p in 0..codes.len() {

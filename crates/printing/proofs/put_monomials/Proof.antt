@@ -1,52 +1,24 @@
 -- The invariant: the lines of the first p numbers are put. The measure is how many are left. Assumes nothing.
-use mathlib.Core.Path.{ap}
 use Prim.Native.Nat.{_-_}
 use lib.ListN.{length}
 use native.Mathlib.Omega.{arith}
 use borrow.Author.Needs.{needs}
-use Rattle.tables.proofs.Put.{put-same}
-use Rattle.entry.proofs.Codes.{Putting, putting-start, part-fits, putting-more, putting-end}
-use Rattle.printing.proofs.Records.{codeLine, each-lines}
+use Rattle.printing.proofs.Records.{Printing, printing-start, line-fits, printing-more, printing-end}
 use Rattle.printing.proofs.put_monomials.Statement.{statement}
 use Rattle.printing.proofs.put_monomials.Tie as tie
 
 abbrev Inv-loop : tie.InvT-loop
-Inv-loop out₀ from codes at₀ p₀ p-end out at p = Putting codeLine codes out₀ from p at out
+Inv-loop out₀ from codes at₀ p₀ p-end out at p = Printing codes out₀ from p at out
 
 abbrev μ-loop : tie.MeasureT-loop
 μ-loop out₀ from codes at₀ p₀ p-end out at p = length codes - p
 
-loop-holds : tie.Need-loop-holds Inv-loop μ-loop
-loop-holds c = putting-start _ _ _ _ (omega (arith, ap length (each-lines ((c .before .before .args) .codes .now)), (c .before .before .pre)))
-
-mul-wide : tie.Need-mul-wide Inv-loop μ-loop
-mul-wide c = search needs
-
-shared-slice-read-wide : tie.Need-shared-slice-read-wide Inv-loop μ-loop
-shared-slice-read-wide c = search needs
-
-wide-requires : tie.Need-wide-requires Inv-loop μ-loop
-wide-requires c κs = search needs
-
 put-monomial-requires : tie.Need-put-monomial-requires Inv-loop μ-loop
-unfolding codeLine
-put-monomial-requires c κs = (omega (arith, (c .wide) .ensures, (c .before .shared-slice-known2) .given ((c .before .before .before .before .loop) .p)), part-fits ((c .before .before .before .before .loop) .inv) ((c .before .before .before .loop-test) .taken) ((c .wide) .ensures))
-
-add-p : tie.Need-add-p Inv-loop μ-loop
-add-p c = search needs
-
-loop-less : tie.Need-loop-less Inv-loop μ-loop
-loop-less c = search needs
-
-loop-again : tie.Need-loop-again Inv-loop μ-loop
-unfolding codeLine
-loop-again c = putting-more ((c .before .before .before .before .before .before .before .loop) .inv) ((c .before .before .before .before .before .before .loop-test) .taken) ((c .before .before .before .wide) .ensures) ((c .before .before .put-monomial) .ensures)
+put-monomial-requires c κs =
+    (omega (arith, (c .wide) .ensures, (c .before .shared-slice-known2) .given ((c .before .before .before .before .loop) .p)), search line-fits)
 
 same-length : tie.Need-same-length Inv-loop μ-loop
 same-length c = (c .before .loop) .inv .long
-
-returns : tie.Need-returns Inv-loop μ-loop
-returns c = put-same (putting-end ((c .before .loop) .inv) ((c .loop-test) .left)) (each-lines ((c .before .before .before .before .args) .codes .now))
 
 pub put-monomials-spec : {M : Type 1} → statement M
 put-monomials-spec =
@@ -54,13 +26,13 @@ put-monomials-spec =
     (tie.spec
     Inv-loop
     μ-loop
-    loop-holds
-    mul-wide
-    shared-slice-read-wide
-    wide-requires
+    (λ c. search printing-start)
+    (λ c. search needs)
+    (λ c. search needs)
+    (λ c κs. search needs)
     put-monomial-requires
-    add-p
-    loop-less
-    loop-again
+    (λ c. search needs)
+    (λ c. search needs)
+    (λ c. search printing-more)
     same-length
-    returns)
+    (λ c. search printing-end))
