@@ -253,12 +253,12 @@ pub fn show_line_end() {
 }
 
 // What a call answers that gives no value of its own, and the buffer behind it.
-pub fn show_outcome(r: tables::Outcome, buffer: &[u8]) {
+pub fn show_outcome(r: calls::Outcome, buffer: &[u8]) {
     match r {
-        tables::Outcome::Done => {
+        calls::Outcome::Done => {
             io::write_all(STDOUT_FILENO, b"done");
         }
-        tables::Outcome::Refused(q) => show_refused(q),
+        calls::Outcome::Refused(q) => show_refused(q),
     }
     show_digits(buffer);
     show_line_end();

@@ -154,3 +154,20 @@ refused-is [] values e = let z : _≡_ {A = ℕ} 0 1 = (cc) in absurd (omega ari
 refused-is (asksGiving question true with-it ∷ rest) values e = refused-is rest values e
 refused-is (asksGiving question false with-it ∷ rest) {found} values e =
     let same : number question ≡ found = (cc) in (same, λ z. number-some question (same ∙ z))
+
+-- both of a call that is lent one buffer
+module _ (questions : List Asked) (values answer lent : List ℕ) where
+  pub call-accepted : {given now : List ℕ} → answered (accepted given) (now ∷ []) ≡ call questions values (answer into lent ∷ [])
+      → (firstNo questions ≡ 0) × (given ≡ values) × (now ≡ answer ++ drop (length answer) lent)
+  unfolding after
+  call-accepted e =
+      let yes-all = accepted-is questions values (call-gives questions values (answer into lent ∷ []) e) in
+      let filled = call-first questions values answer lent [] e in
+      (yes-all .0, yes-all .1, filled ∙ rw (yes-all .0))
+
+  pub call-unchanged : {found : ℕ} {given now : List ℕ} → answered (refused found given) (now ∷ []) ≡ call questions values (answer into lent ∷ [])
+      → (firstNo questions ≡ found) × (now ≡ lent)
+  call-unchanged e =
+      let stopped = refused-is questions values (call-gives questions values (answer into lent ∷ []) e) in
+      let some : firstNo questions ≡ 0 → ⊥ = λ z. stopped .1 (sym (stopped .0) ∙ z) in
+      (stopped .0, call-first questions values answer lent [] e ∙ sym (after-refused (firstNo questions) answer lent some))

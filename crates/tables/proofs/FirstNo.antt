@@ -10,7 +10,7 @@ use borrow.Author.Tests.{ltb-true}
 use Rattle.ring.proofs.Bool.{and-left, and-right}
 use Rattle.tables.specs.declared.Question.{Question}
 use Rattle.tables.specs.declared.Question.the-variants.{Letters, Route, TextLength, Room, Signs, Declared, Grammar, Bits, Solution, Records, Kinds, Numbers, Afresh, Output, Rising, Range}
-use Rattle.tables.specs.Questions.{Asked, asksGiving, number, firstNo}
+use Rattle.tables.specs.Questions.{Asked, asks, asksGiving, number, firstNo}
 use Rattle.tables.specs.Inner.Asking.{also}
 
 -- every number is above 0, which stands for 'no no'
@@ -90,6 +90,15 @@ pub also-also : (found : ℕ) (questions further : List Asked) → also (also fo
 unfolding also
 also-also zero questions further = sym (first-also questions further)
 also-also (suc found) questions further = refl
+
+-- the chain of a refusal function: each question in turn, with the answer that the code has for it
+pub ask-then : (found q r : ℕ) (question : Question) (answer truth : Bool) (rest : List Asked) → q ≡ also found (asks question answer ∷ [])
+    → answer ≡ truth → r ≡ also q rest → r ≡ also found (asks question truth ∷ rest)
+ask-then found q r question answer truth rest e a f = f ∙ rw (e, a) (also-also found (asks question truth ∷ []) rest)
+
+pub ask-last : (found r : ℕ) (question : Question) (answer truth : Bool) → r ≡ also found (asks question answer ∷ []) → answer ≡ truth
+    → r ≡ also found (asks question truth ∷ [])
+ask-last found r question answer truth e a = e ∙ rw a
 
 pub first-counts : (questions further : List Asked) → (firstNo questions ≡ 0 → ⊥) → firstNo (questions ++ further) ≡ firstNo questions
 first-counts questions further n = first-also questions further ∙ sym (also-kept (firstNo questions) further n)
