@@ -7,3 +7,10 @@ pub mod Places
 pub mod Verdicts
 pub mod Bound
 pub mod Codes
+pub mod Held
+pub mod EntryPasses
+pub mod Unique
+pub mod Canonical
+pub mod Passes
+pub mod Theorems
+pub mod Examples

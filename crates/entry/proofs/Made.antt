@@ -201,11 +201,42 @@ body-back (f ∷ fs) bs h w =
     let d : length (drop (width f) bs) ≡ widths fs = rw (length-drop (width f) bs) (omega arith) in
     ap₂ _++_ e (body-back fs (drop (width f) bs) d (drop-bytes (width f) bs w)) ∙ take-append-drop (width f) bs
 
--- a whole record is made from its kind and the values that it holds
-pub made-again : (b : ℕ) (bs : List ℕ) → IsRecord (b ∷ bs) → b ∷ bs ≡ recordOf b (valuesIn (fields b) bs)
-unfolding size kind
-made-again b bs w = ap (λ (l : List ℕ). b ∷ l) (sym (go (fields b) (w .whole)))
+-- it is made from its kind and the values that it holds
+unfoldable pub IsMade : Record → Type 0
+IsMade r = r ≡ recordOf (kind r) (valuesIn (fields (kind r)) (drop 1 r))
+
+pub whole-made : (b : ℕ) (bs : List ℕ) → IsRecord (b ∷ bs) → IsMade (b ∷ bs)
+unfolding IsMade size kind
+whole-made b bs w = ap (λ (l : List ℕ). b ∷ l) (sym (go (fields b) (w .whole)))
   where
     go : (fs : List Field) → suc (length bs) ≡ sizeWith fs → bodyOf fs (valuesIn fs bs) ≡ bs
     go [] e = absurd (omega arith)
     go (f ∷ fs) e = body-back (f ∷ fs) bs (omega arith) (λ i. w .are-bytes (suc i))
+
+-- so is one that was made
+values-body : (fs : List Field) (vs : List ℕ) → length vs ≡ length fs → valuesIn fs (bodyOf fs vs) ≡ vs
+unfolding bodyOf valuesIn
+values-body [] [] h = refl
+values-body [] (v ∷ vs) h = absurd (omega arith)
+values-body (f ∷ fs) [] h = absurd (omega arith)
+values-body (f ∷ fs) (v ∷ vs) h =
+    rw (field-back f v (bodyOf fs vs), behind-field f v (bodyOf fs vs)) (ap (λ (l : List ℕ). v ∷ l) (values-body fs vs (omega arith)))
+
+pub made-is : (k : ℕ) (vs : List ℕ) → length vs ≡ length (fields k) → IsMade (recordOf k vs)
+unfolding IsMade kind
+made-is k vs h = ap (λ (l : List ℕ). recordOf k l) (sym (values-body (fields k) vs h))
+
+-- every one of some records is made
+unfoldable pub AllMade : List Record → Type 0
+AllMade [] = Unit
+AllMade (r ∷ rs) = IsMade r × AllMade rs
+
+pub all-made-append : (rs ss : List Record) → AllMade rs → AllMade ss → AllMade (rs ++ ss)
+unfolding AllMade
+all-made-append [] ss h k = k
+all-made-append (r ∷ rs) ss h k = (h .0, all-made-append rs ss (h .1) k)
+
+-- a record of a kind, by the values that it holds
+pub of-kind : (k : ℕ) (r : Record) → IsMade r → kind r ≡ k → r ≡ recordOf k (valuesIn (fields k) (drop 1 r))
+unfolding IsMade
+of-kind k r h e = h ∙ rw e

@@ -14,7 +14,7 @@ use Rattle.ring.proofs.Bool.{both, or-cases, bool-cases, never}
 use Rattle.entry.specs.Record.{Record, unknownField, maskField, fields, kind, among, valueIn, valueOf, isEnd, isNone, isMonomial, tableIn, inBounds}
 use Rattle.entry.specs.Held.{hasMonomial}
 use Rattle.entry.specs.Inner.Codes.{monomialRecord}
-use Rattle.entry.proofs.Made.{given, allFit, made-value, made-fits, field-fits, every-kind, IsRecord, valuesIn, made-again}
+use Rattle.entry.proofs.Made.{given, allFit, made-value, made-fits, field-fits, every-kind, IsMade, AllMade, valuesIn, of-kind, made-is}
 
 -- ---- one that was made
 module _ (m : ℕ) where
@@ -75,15 +75,20 @@ mask-kinds k h = go (or-cases (eqb k 2) (eqb k 3) (both-ways (among maskField (f
     go (inl e) = inl (eqb-true k 2 e)
     go (inr e) = inr (eqb-true k 3 e)
 
--- a whole record that holds a monomial is the one that is made for it
-pub monomial-again : (r : Record) → IsRecord r → isMonomial r ≡ true → r ≡ monomialRecord (tableIn r) (valueOf maskField r)
-unfolding kind fields among valueOf valueIn valuesIn
-monomial-again [] w h = never h refl
-monomial-again (b ∷ bs) w h = go (mask-kinds b h)
+-- a record that holds a monomial is the one that is made for it
+pub monomial-again : (r : Record) → IsMade r → isMonomial r ≡ true → r ≡ monomialRecord (tableIn r) (valueOf maskField r)
+unfolding fields among valueOf valueIn valuesIn
+monomial-again r w h = go (mask-kinds (kind r) h)
   where
-    go : (b ≡ 2) ⊎ (b ≡ 3) → b ∷ bs ≡ monomialRecord (tableIn (b ∷ bs)) (valueOf maskField (b ∷ bs))
-    go (inl e) = rw e (made-again 2 bs (rw e at w))
-    go (inr e) = rw e (made-again 3 bs (rw e at w))
+    go : (kind r ≡ 2) ⊎ (kind r ≡ 3) → r ≡ monomialRecord (tableIn r) (valueOf maskField r)
+    go (inl e) = of-kind 2 r w e ∙ rw e
+    go (inr e) = of-kind 3 r w e ∙ rw e
+
+pub monomials-made : (i : ℕ) (ms : List ℕ) → AllMade (map (monomialRecord i) ms)
+unfolding AllMade fields
+monomials-made i [] = tt
+monomials-made zero (m ∷ ms) = (made-is 2 (m ∷ []) refl, monomials-made zero ms)
+monomials-made (suc j) (m ∷ ms) = (made-is 3 (j ∷ m ∷ []) refl, monomials-made (suc j) ms)
 
 -- ---- question 12
 pub mask-in-bounds : (U G : ℕ) (r : Record) → inBounds U G r ≡ true → isMonomial r ≡ true → valueOf maskField r < 2 ^ (U + G)

@@ -17,7 +17,7 @@ use Rattle.ring.proofs.Bool.{bool-cases, never}
 use Rattle.entry.specs.Record.{Record, bytes, size, kind, isEnd, fields, AreBytes}
 use Rattle.entry.specs.Held.{next, untilEnd, firstRecords, records, first}
 use Rattle.entry.specs.Questions.{hasEnd}
-use Rattle.entry.proofs.Made.{IsRecord, take-bytes, drop-bytes}
+use Rattle.entry.proofs.Made.{IsRecord, AllMade, whole-made, take-bytes, drop-bytes}
 
 -- ---- the first record
 -- there is none, or as many of the bytes as their kind says
@@ -172,28 +172,23 @@ some-bytes [] h = never h refl
 some-bytes ([] ∷ rs) h = some-bytes rs h
 some-bytes ((b ∷ r) ∷ rs) h = omega arith
 
--- ---- all of them are whole
--- every one of the records is
-abbrev pub AreRecords : List Record → Type 0
-AreRecords rs = (i : ℕ) → IsRecord (getD rs i [])
-
-until-are : (r : Record) (rs : List Record) → IsRecord r → AreRecords rs → AreRecords (untilEnd r rs)
-unfolding untilEnd
-until-are [] rs h hs i = no-record
-until-are (b ∷ r) rs h hs zero = h
-until-are (b ∷ r) rs h hs (suc i) = go (isEnd (b ∷ r))
+-- ---- all of them are made
+until-made : (r : Record) (rs : List Record) → IsRecord r → AllMade rs → AllMade (untilEnd r rs)
+unfolding untilEnd AllMade
+until-made [] rs h hs = tt
+until-made (b ∷ r) rs h hs = (whole-made b r h, go (isEnd (b ∷ r)))
   where
-    go : (e : Bool) → IsRecord (getD (cond e [] rs) i [])
-    go true = no-record
-    go false = hs i
+    go : (e : Bool) → AllMade (cond e [] rs)
+    go true = tt
+    go false = hs
 
-first-are : (k : ℕ) (bs : List ℕ) → AreBytes bs → AreRecords (firstRecords k bs)
-unfolding firstRecords
-first-are zero bs w i = no-record
-first-are (suc k) bs w i =
-    until-are (next bs) (firstRecords k (drop (length (next bs)) bs)) (next-is bs w)
-    (first-are k (drop (length (next bs)) bs) (drop-bytes (length (next bs)) bs w)) i
+first-made : (k : ℕ) (bs : List ℕ) → AreBytes bs → AllMade (firstRecords k bs)
+unfolding firstRecords AllMade
+first-made zero bs w = tt
+first-made (suc k) bs w =
+    until-made (next bs) (firstRecords k (drop (length (next bs)) bs)) (next-is bs w)
+    (first-made k (drop (length (next bs)) bs) (drop-bytes (length (next bs)) bs w))
 
-pub records-are : (bs : List ℕ) → AreBytes bs → AreRecords (records bs)
+pub records-made : (bs : List ℕ) → AreBytes bs → AllMade (records bs)
 unfolding records
-records-are bs w = first-are (length bs) bs w
+records-made bs w = first-made (length bs) bs w

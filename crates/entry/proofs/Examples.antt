@@ -1,0 +1,46 @@
+-- Records of each kind and their bytes, both ways, by computation. The mask 258 is two bytes that differ, the low byte 2 and the high byte 1.
+-- Assumes nothing.
+use mathlib.Core.Path.{_≡_, refl}
+use mathlib.Core.List.{List, [], _∷_}
+use Prim.Native.Nat.{ℕ}
+use Rattle.entry.specs.Record.{Record, fields, size, widths, kind, lowFirst, fromLowFirst, bodyOf, valueIn, valueOf, startRecord, conditionRecord, answerRecord, endRecord, noneRecord, unknownField, maskField, stateField, givensField, bytes}
+use Rattle.entry.specs.Held.{next, untilEnd, firstRecords, records}
+
+-- the start of route 7 with 2 unknowns and 8 givens, the monomials 1 and 258 of the condition, 258 for unknown 1, 'none' in state 3, the end
+unfoldable pub eachKind : List Record
+eachKind = startRecord 7 2 8 ∷ conditionRecord 1 ∷ conditionRecord 258 ∷ answerRecord 1 258 ∷ noneRecord 3 ∷ endRecord 7 ∷ []
+
+unfoldable pub eachKindBytes : List ℕ
+eachKindBytes =
+    1 ∷ 7 ∷ 2 ∷ 8
+    ∷ 2 ∷ 1 ∷ 0
+    ∷ 2 ∷ 2 ∷ 1
+    ∷ 3 ∷ 1 ∷ 2 ∷ 1
+    ∷ 5 ∷ 3
+    ∷ 4 ∷ 7
+    ∷ []
+
+pub kinds-written : bytes eachKind ≡ eachKindBytes
+unfolding eachKind eachKindBytes bytes fields bodyOf lowFirst
+kinds-written = refl
+
+pub kinds-read : records eachKindBytes ≡ eachKind
+unfolding eachKind eachKindBytes records firstRecords next untilEnd size fields widths kind bodyOf lowFirst
+kinds-read = refl
+
+-- what some of them say
+pub says-givens : valueOf givensField (1 ∷ 7 ∷ 2 ∷ 8 ∷ []) ≡ 8
+unfolding valueOf valueIn fields kind fromLowFirst
+says-givens = refl
+
+pub says-unknown : valueOf unknownField (3 ∷ 1 ∷ 2 ∷ 1 ∷ []) ≡ 1
+unfolding valueOf valueIn fields kind fromLowFirst
+says-unknown = refl
+
+pub says-mask : valueOf maskField (3 ∷ 1 ∷ 2 ∷ 1 ∷ []) ≡ 258
+unfolding valueOf valueIn fields kind fromLowFirst
+says-mask = refl
+
+pub says-state : valueOf stateField (5 ∷ 3 ∷ []) ≡ 3
+unfolding valueOf valueIn fields kind fromLowFirst
+says-state = refl

@@ -1,0 +1,142 @@
+-- The headlines: what an entry says of its condition is right; what is written reads back; what is accepted has only that one form; what
+-- passes the audit is what the writer makes; and no entry is longer than document 01 says. Each holds for any bytes behind the entry.
+-- `calls` says them of the questions as each call puts them.
+-- Assumes nothing.
+use mathlib.Core.Path.{_≡_, refl, sym, ap, ap₂, _∙_}
+use mathlib.Core.Bool.{Bool, true, false, cond}
+use mathlib.Core.List.{List, [], _∷_, _++_}
+use Prim.Native.Nat.{ℕ, _+_, _≤_}
+use lib.Dec.{eqb}
+use lib.ListN.{length, take}
+use borrow.Author.Tests.{eqb-true, eq-eqb}
+use Rattle.ring.proofs.Table.{held-answerTable}
+use Rattle.ring.proofs.Bool.{and-left, and-right, both, never}
+use Rattle.tables.specs.Questions.{lettersFit}
+use Rattle.tables.proofs.Questions.{letters-small, unknowns-small}
+use Rattle.solution.specs.Condition.{Condition, width, polynomial, IsOrder}
+use Rattle.solution.specs.Elimination.{Verdict, solved, none, solve, solvable, booleAnswers, booleTable, smallestBlocked}
+use Rattle.solution.specs.General.{RightVerdict}
+use Rattle.solution.proofs.Orders.{default-order}
+use Rattle.solution.proofs.Verdict.{AreBooles, right-solved, right-none}
+use Rattle.entry.specs.Record.{Record, AreBytes, bytes}
+use Rattle.entry.specs.Entry.{entryRecords, archivedRecords, entry, Archivable}
+use Rattle.entry.specs.Held.{records, routeOf, unknownsOf, givensOf, answersIn, says, heldCondition, heldVerdict}
+use Rattle.entry.specs.Questions.{sameBytes, sameVerdict, answersHold}
+use Rattle.entry.proofs.Records.{records-made}
+use Rattle.entry.proofs.Back.{entry-records}
+use Rattle.entry.proofs.Verdicts.{solve-fits}
+use Rattle.entry.proofs.EntryPasses.{entry-has-end, entry-kinds, entry-numbers}
+use Rattle.entry.proofs.Held.{entry-route, entry-unknowns, entry-givens, condition-back, verdict-back, answers-held, solved-unless, none-unless}
+use Rattle.entry.proofs.Canonical.{records-end, canonical}
+use Rattle.entry.proofs.Bytes.{records-bytes}
+use Rattle.entry.proofs.Bound.{entry-most}
+use Rattle.entry.proofs.Passes.{Passes}
+
+-- demand 3, of an entry, whatever stands behind it: what its kind 3 and kind 5 records say of the condition is right
+pub entry-right : (route : ℕ) (c : Condition) (behind : List ℕ) → IsOrder (c .U) (c .order) → RightVerdict c (says (records (entry route c ++ behind)))
+unfolding says solve booleTable AreBooles
+entry-right route c behind is = rw (entry-records route c behind) (go (solvable (width c) (polynomial c) (c .order)) refl)
+  where
+    go : (b : Bool) → solvable (width c) (polynomial c) (c .order) ≡ b
+        → RightVerdict c (says (entryRecords route c (cond b (solved (booleTable c)) (none (smallestBlocked (c .U) (c .G) (polynomial c))))))
+    go true e =
+        rw (solved-unless (answersIn (entryRecords route c (solved (booleTable c)))) route c (booleTable c))
+        (right-solved c is e (answersIn (entryRecords route c (solved (booleTable c))))
+        (λ j m h l. answers-held route c (booleTable c) j m h l ∙ held-answerTable (c .U) (width c) (booleAnswers (width c) (polynomial c) (c .order)) j m h l))
+    go false e =
+        rw (none-unless (answersIn (entryRecords route c (none (smallestBlocked (c .U) (c .G) (polynomial c))))) route c (smallestBlocked (c .U) (c .G) (polynomial c)))
+        (right-none c is e)
+
+-- what reading finds in records that were written
+pub record ReadsBack (route : ℕ) (c : Condition) (rs : List Record) : Type 0 where
+  pub passes : Passes rs
+  pub of-route : routeOf rs ≡ route
+  pub of-unknowns : unknownsOf rs ≡ c .U
+  pub of-givens : givensOf rs ≡ c .G
+  pub condition : heldCondition rs ≡ c
+  pub verdict : heldVerdict rs ≡ solve c
+  pub used : length (bytes rs) ≡ length (entry route c)
+
+-- the order of a condition that has an entry
+pub archived-order : (route : ℕ) (c : Condition) → Archivable route c → IsOrder (c .U) (c .order)
+archived-order route c a = rw (a .of-order) (default-order (c .U))
+
+written : (route : ℕ) (c : Condition) → Archivable route c → ReadsBack route c (archivedRecords route c)
+unfolding entry
+written route c a =
+    let u : unknownsOf (archivedRecords route c) ≡ c .U = entry-unknowns route c (solve c) in
+    let g : givensOf (archivedRecords route c) ≡ c .G = entry-givens route c (solve c) in
+    let r : routeOf (archivedRecords route c) ≡ route = entry-route route c (solve c) in
+    record {
+      passes = record {
+        whole = entry-has-end route c (solve c);
+        kinds = entry-kinds route c (solve c);
+        letters = rw (u, g) (a .letters);
+        route = rw r (a .of-route);
+        numbers = entry-numbers c (letters-small (c .U) (c .G) (a .letters)) route (solve c) (solve-fits c (archived-order route c a));
+      };
+      of-route = r;
+      of-unknowns = u;
+      of-givens = g;
+      condition = condition-back route c (solve c) (a .of-order) (a .of-table);
+      verdict = verdict-back route c (solve c) (solve-fits c (archived-order route c a));
+      used = refl;
+    }
+
+-- demand 2: a written entry, with any bytes behind it, reads back: the route, U, G, the condition, solved or 'none' and the state,
+-- the answers, and the length used
+pub reads-back : (route : ℕ) (c : Condition) (behind : List ℕ) → Archivable route c → ReadsBack route c (records (entry route c ++ behind))
+reads-back route c behind a = rw (entry-records route c behind) (written route c a)
+
+-- bytes that pass questions 10, 11, 1, 2 and 12 are, as far as they are used, the bytes of the entry of what they hold
+pub accepted-canonical : (bs : List ℕ) → AreBytes bs → Passes (records bs)
+    → take (length (bytes (records bs))) bs ≡ bytes (entryRecords (routeOf (records bs)) (heldCondition (records bs)) (heldVerdict (records bs)))
+accepted-canonical bs are p =
+    sym (records-bytes bs)
+    ∙ ap bytes (canonical (records bs) (records-made bs are) (p .kinds) (records-end bs)
+    (letters-small (unknownsOf (records bs)) (givensOf (records bs)) (p .letters)) (p .numbers))
+
+-- ---- the audit
+pub bytes-same : (xs ys : List ℕ) → sameBytes xs ys ≡ true → xs ≡ ys
+unfolding sameBytes
+bytes-same [] [] e = refl
+bytes-same [] (y ∷ ys) e = never e refl
+bytes-same (x ∷ xs) [] e = never e refl
+bytes-same (x ∷ xs) (y ∷ ys) e = ap₂ _∷_ (eqb-true x y (and-left (eqb x y) (sameBytes xs ys) e)) (bytes-same xs ys (and-right (eqb x y) (sameBytes xs ys) e))
+
+pub same-bytes : (xs : List ℕ) → sameBytes xs xs ≡ true
+unfolding sameBytes
+same-bytes [] = refl
+same-bytes (x ∷ xs) = both (eq-eqb x x refl) (same-bytes xs)
+
+pub verdict-same : (v w : Verdict (List ℕ)) → sameVerdict v w ≡ true → v ≡ w
+verdict-same (solved a) (solved b) e = ap solved (bytes-same a b e)
+verdict-same (solved a) (none state) e = never e refl
+verdict-same (none state) (solved b) e = never e refl
+verdict-same (none state) (none other) e = let q : state .0 ≡ other .0 = eqb-true _ _ e in ap (λ (i : ℕ). none (record { 0 = i })) q
+
+pub same-verdict : (v : Verdict (List ℕ)) → sameVerdict v v ≡ true
+same-verdict (solved a) = same-bytes a
+same-verdict (none state) = eq-eqb (state .0) (state .0) refl
+
+-- demand 2: 'Bytes that pass the audit are exactly those that the writer makes'. If each of 10, 11, 1, 2, 12, 13 is answered yes, the bytes, as
+-- far as they are used, are the entry of the route and condition that reading them gives ..
+pub audited-entry : (bs : List ℕ) → AreBytes bs → Passes (records bs) → answersHold (records bs) ≡ true
+    → take (length (bytes (records bs))) bs ≡ entry (routeOf (records bs)) (heldCondition (records bs))
+unfolding answersHold entry
+audited-entry bs are p h =
+    accepted-canonical bs are p
+    ∙ ap (λ (v : Verdict (List ℕ)). bytes (entryRecords (routeOf (records bs)) (heldCondition (records bs)) v))
+    (verdict-same (heldVerdict (records bs)) (solve (heldCondition (records bs))) h)
+
+-- .. and every entry that the writer makes passes, whatever stands behind it
+pub entry-holds : (route : ℕ) (c : Condition) (behind : List ℕ) → Archivable route c → answersHold (records (entry route c ++ behind)) ≡ true
+unfolding answersHold
+entry-holds route c behind a =
+    let r : ReadsBack route c (records (entry route c ++ behind)) = reads-back route c behind a in
+    rw (r .verdict, r .condition) (same-verdict (solve c))
+
+-- 'No entry exceeds 27,654 bytes'
+pub entry-bound : (route : ℕ) (c : Condition) → lettersFit (c .U) (c .G) ≡ true → length (entry route c) ≤ 27654
+unfolding entry
+entry-bound route c letters = entry-most route c (solve c) (unknowns-small (c .U) (c .G) letters) (letters-small (c .U) (c .G) letters)
