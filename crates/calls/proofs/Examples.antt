@@ -1,0 +1,73 @@
+-- Walks over the volume of document 01's sample sheet, whole, from other places and damaged, by computation.
+-- Assumes nothing.
+use mathlib.Core.Path.{_≡_, refl}
+use mathlib.Core.List.{List, [], _∷_, _++_}
+use Prim.Native.Nat.{ℕ}
+use Rattle.ring.specs.Letters.{bit, point}
+use Rattle.ring.specs.Polynomial.{count, odd, within, value, constant, letter, sum, product, restrict, monomial, substitute, everyBelow}
+use Rattle.ring.specs.Table.{present, tabulate, table, answerTable}
+use Rattle.ring.specs.Lists.{listed, has}
+use Rattle.tables.specs.Questions.{firstNo, lettersFit}
+use Rattle.tables.specs.Answered.{Reply, accepted, refused}
+use Rattle.order.specs.Order.{letters, before}
+use Rattle.solution.specs.Condition.{defaultOrder}
+use Rattle.solution.specs.Elimination.{nextCondition, remains, answerFrom, booleAnswers, smallestBelow, blocked, smallestBlocked, isZero, solvable, booleTable, solve}
+use Rattle.entry.specs.Record.{fields, widths, size, kind, fromLowFirst, bytes, among, valueIn, valueOf, bodyFits, inBounds}
+use Rattle.entry.specs.Held.{next, untilEnd, firstRecords, records, hasMonomial, conditionIn, answersIn, unlessNone, heldCondition, heldVerdict}
+use Rattle.entry.specs.Questions.{routeFits, hasEnd, mayFollow, kindsFollow, kindsFit, allInBounds, standsBefore, inOrder, allInOrder, numbersFit, sameBytes, answersHold}
+use Rattle.calls.specs.Questions.{entryQuestions, auditQuestions, routeRises, walkQuestions}
+use Rattle.calls.specs.Walk.{walkAtMost, walkBehind, walkReply}
+
+-- `u+v` with u = v and v = v, but for its end
+abbrev pub body : ℕ → List ℕ
+body route = 1 ∷ route ∷ 2 ∷ 0 ∷ 2 ∷ 1 ∷ 0 ∷ 2 ∷ 2 ∷ 0 ∷ 3 ∷ 0 ∷ 2 ∷ 0 ∷ 3 ∷ 1 ∷ 2 ∷ 0 ∷ []
+
+-- the sample sheet's entries: its first, for any route, and its second, `a` with 'none' and the state 1, for any route and state
+abbrev pub solvedEntry : ℕ → List ℕ
+solvedEntry route = body route ++ (4 ∷ route ∷ [])
+
+abbrev pub noneEntry : ℕ → ℕ → List ℕ
+noneEntry route state = 1 ∷ route ∷ 1 ∷ 1 ∷ 2 ∷ 2 ∷ 0 ∷ 5 ∷ state ∷ 4 ∷ route ∷ []
+
+-- the first with one monomial more in the answer for u
+abbrev pub moreEntry : ℕ → List ℕ
+moreEntry route = 1 ∷ route ∷ 2 ∷ 0 ∷ 2 ∷ 1 ∷ 0 ∷ 2 ∷ 2 ∷ 0 ∷ 3 ∷ 0 ∷ 1 ∷ 0 ∷ 3 ∷ 0 ∷ 2 ∷ 0 ∷ 3 ∷ 1 ∷ 2 ∷ 0 ∷ 4 ∷ route ∷ []
+
+-- some bytes, a place in them, and what the walk from there answers
+pub record Row : Type 0 where
+  pub volume : List ℕ
+  pub place : ℕ
+  pub answer : Reply
+
+infixr 20 _also_
+-- every row of a list holds
+pub data AllHold : List Row → Type 0 where
+  end : AllHold []
+  _also_ : {r : Row} {rows : List Row} → walkReply (r .volume) (r .place) ≡ r .answer → AllHold rows → AllHold (r ∷ rows)
+
+abbrev pub walks : List Row
+walks =
+    -- the whole volume, from its second entry on, from its end, from past it; and no bytes
+    record { volume = solvedEntry 7 ++ noneEntry 8 1; place = 0; answer = accepted (2 ∷ []) }
+    ∷ record { volume = solvedEntry 7 ++ noneEntry 8 1; place = 20; answer = accepted (1 ∷ []) }
+    ∷ record { volume = solvedEntry 7 ++ noneEntry 8 1; place = 31; answer = accepted (0 ∷ []) }
+    ∷ record { volume = solvedEntry 7 ++ noneEntry 8 1; place = 40; answer = accepted (0 ∷ []) }
+    ∷ record { volume = []; place = 0; answer = accepted (0 ∷ []) }
+    -- from the middle of an entry; the second without its end, the first without its end
+    ∷ record { volume = solvedEntry 7 ++ noneEntry 8 1; place = 1; answer = refused 10 (0 ∷ []) }
+    ∷ record { volume = solvedEntry 7 ++ body 8; place = 0; answer = refused 10 (1 ∷ []) }
+    ∷ record { volume = body 7 ++ noneEntry 8 1; place = 0; answer = refused 11 (0 ∷ []) }
+    -- another state, one monomial more, in the first entry and in the second
+    ∷ record { volume = solvedEntry 7 ++ noneEntry 8 0; place = 0; answer = refused 13 (1 ∷ []) }
+    ∷ record { volume = moreEntry 7 ++ noneEntry 8 1; place = 0; answer = refused 13 (0 ∷ []) }
+    ∷ record { volume = noneEntry 7 1 ++ moreEntry 8; place = 0; answer = refused 13 (1 ∷ []) }
+    -- routes that fall or are equal; 13 is asked before 15; the first entry walked always passes 15
+    ∷ record { volume = solvedEntry 8 ++ noneEntry 7 1; place = 0; answer = refused 15 (1 ∷ []) }
+    ∷ record { volume = solvedEntry 8 ++ noneEntry 8 1; place = 0; answer = refused 15 (1 ∷ []) }
+    ∷ record { volume = solvedEntry 8 ++ noneEntry 8 0; place = 0; answer = refused 13 (1 ∷ []) }
+    ∷ record { volume = solvedEntry 8 ++ noneEntry 7 1; place = 20; answer = accepted (1 ∷ []) }
+    ∷ []
+
+pub walks-hold : AllHold walks
+unfolding walkReply walkBehind walkAtMost walkQuestions routeRises firstNo lettersFit auditQuestions entryQuestions answersHold sameBytes numbersFit allInOrder inOrder standsBefore allInBounds inBounds bodyFits kindsFit kindsFollow mayFollow has hasEnd routeFits records firstRecords untilEnd next kind size fields widths valueOf valueIn fromLowFirst among bytes hasMonomial conditionIn answersIn unlessNone heldCondition heldVerdict letters before table tabulate answerTable present solve booleTable solvable isZero everyBelow remains nextCondition product restrict odd count bit defaultOrder listed booleAnswers answerFrom sum letter constant substitute monomial smallestBlocked smallestBelow blocked point value within
+walks-hold = refl also refl also refl also refl also refl also refl also refl also refl also refl also refl also refl also refl also refl also refl also refl also end
