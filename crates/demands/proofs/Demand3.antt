@@ -1,5 +1,5 @@
--- THE THEOREM: demand 3 holds of the bytes that are archived for every accepted text, every U and G, every route and every list of letters.
--- The bytes are `entry route U G t`, where t is the text's table; that the calls hand these over is `over-the-calls`.
+-- THE THEOREM: demand 3 holds of the bytes that are archived for every condition that has an entry, every route and every list of letters, and
+-- so for every accepted text. The bytes are `entry route c`; that the calls hand these over is `over-the-calls`.
 -- What the entry's records say is right (`entry-right`), and a written entry reads back (`reads-back`); both are put into the demand's own words here.
 -- Assumes nothing.
 use mathlib.Core.Path.{_≡_, refl, sym, ap, _∙_}
@@ -12,23 +12,21 @@ use lib.Dec.{ltb}
 use borrow.Author.Tests.{ltb-true}
 use Rattle.ring.specs.declared.State.{State}
 use Rattle.ring.specs.Polynomial.{Polynomial, value}
-use Rattle.ring.specs.Table.{present}
 use Rattle.ring.proofs.Points.{pointWhere-cong}
 use Rattle.solution.specs.Letters.{Letter, HoldsGivens, Valuation, valueOver}
 use Rattle.solution.specs.Substitution.{Substitution, letterAt, ownLetters, MakesZero}
-use Rattle.solution.specs.Condition.{defaultOrder}
+use Rattle.solution.specs.Condition.{Condition, polynomial, conditionOf}
 use Rattle.solution.specs.Elimination.{solved, none, solve}
-use Rattle.solution.specs.General.{RightVerdict}
+use Rattle.solution.specs.General.{Solves, RightVerdict}
 use Rattle.solution.proofs.Letters.{replacedValue, value-putIn, own-holds}
 use Rattle.grammar.specs.Text.{textTable}
-use Rattle.calls.specs.Text.{Accepted}
-use Rattle.notation.proofs.Refusal.{text-is-table}
-use Rattle.entry.specs.declared.Record.{Record}
-use Rattle.entry.specs.Record.{isNone, stateIn}
+use Rattle.entry.specs.Record.{Record, stateField, valueOf, isNone}
 use Rattle.entry.specs.Held.{records, answersIn, unlessNone, says, heldCondition, heldVerdict}
 use Rattle.entry.specs.Questions.{routeFits}
-use Rattle.entry.specs.Entry.{entry}
-use Rattle.entry.proofs.Theorems.{ReadsBack, reads-back, entry-right}
+use Rattle.entry.specs.Entry.{entry, Archivable}
+use Rattle.entry.proofs.Theorems.{ReadsBack, reads-back, archived-order, entry-right}
+use Rattle.calls.specs.Text.{Accepted}
+use Rattle.calls.proofs.Text.{text-is-table}
 use Rattle.demands.specs.Demand3.{hasNone, Demand3}
 
 -- records with kind 5 say 'none' and its state, those without it hold answers
@@ -38,8 +36,8 @@ says-none a [] h = let z : _≡_ {A = ℕ} 0 1 = cc in absurd (omega arith)
 says-none a (r ∷ rs) h = go (isNone r) (says-none a rs) h
   where
     go : (b : Bool) → (hasNone rs ≡ true → (state : State) × (unlessNone a rs ≡ none state)) → (b || hasNone rs) ≡ true
-        → (state : State) × (cond b (none (record { 0 = stateIn r })) (unlessNone a rs) ≡ none state)
-    go true ih e = (record { 0 = stateIn r }, refl)
+        → (state : State) × (cond b (none (record { 0 = valueOf stateField r })) (unlessNone a rs) ≡ none state)
+    go true ih e = (record { 0 = valueOf stateField r }, refl)
     go false ih e = ih e
 
 says-solved : {A : Type 0} (a : A) (rs : List Record) → hasNone rs ≡ false → unlessNone a rs ≡ solved a
@@ -48,7 +46,7 @@ says-solved a [] h = refl
 says-solved a (r ∷ rs) h = go (isNone r) (says-solved a rs) h
   where
     go : (b : Bool) → (hasNone rs ≡ false → unlessNone a rs ≡ solved a) → (b || hasNone rs) ≡ false
-        → cond b (none (record { 0 = stateIn r })) (unlessNone a rs) ≡ solved a
+        → cond b (none (record { 0 = valueOf stateField r })) (unlessNone a rs) ≡ solved a
     go true ih e = let z : _≡_ {A = ℕ} 0 1 = cc in absurd (omega arith)
     go false ih e = ih e
 
@@ -66,8 +64,8 @@ same-zero U G f L givens σ τ same zero-of v =
     go j false e = refl
 
 -- the demand, of records whose verdict is right
-module _ (U G : ℕ) (t e : List ℕ) (r : RightVerdict U G (defaultOrder U) (present t) (says (records e))) where
-  one-list : (L : List Letter) → HoldsGivens G L → (hasNone (records e) ≡ true) ↔ ((σ : Substitution) → ¬ MakesZero U G (present t) L σ)
+module _ (c : Condition) (e : List ℕ) (r : RightVerdict c (says (records e))) where
+  one-list : (L : List Letter) → HoldsGivens (c .G) L → (hasNone (records e) ≡ true) ↔ ((σ : Substitution) → ¬ Solves c L σ)
   unfolding says
   one-list L g = (
     λ h. r .exactly L g .0 (says-none (answersIn (records e)) (records e) h),
@@ -85,25 +83,32 @@ module _ (U G : ℕ) (t e : List ℕ) (r : RightVerdict U G (defaultOrder U) (pr
   unfolding says
   without-none h = says-solved (answersIn (records e)) (records e) h
 
-  pub right-demand : heldCondition (records e) ≡ t → heldVerdict (records e) ≡ solve U G (defaultOrder U) t → Demand3 U G t e
+  pub right-demand : heldCondition (records e) ≡ c → heldVerdict (records e) ≡ solve c → Demand3 c e
   right-demand condition verdict =
+      let own : HoldsGivens (c .G) (ownLetters (c .U) (c .G)) = own-holds (c .U) (c .G) in
       record {
-        none-exactly = (λ h L g. one-list L g .0 h, λ all. one-list (ownLetters U G) (own-holds U G) .1 (all (ownLetters U G) (own-holds U G)));
+        none-exactly = (λ h L g. one-list L g .0 h, λ all. one-list (ownLetters (c .U) (c .G)) own .1 (all (ownLetters (c .U) (c .G)) own));
         none-on-list = one-list;
         smallest-state = r .state;
         holds-booles = λ h. r .booles _ (without-none h);
         makes-zero = λ h. r .general _ (without-none h) .makes-zero;
-        each-makes-zero = λ h L g σ i v. same-zero U G (present t) L g _ σ (i .1) (r .general _ (without-none h) .each-makes-zero L g (i .0)) v;
+        each-makes-zero =
+            λ h L g σ i v. same-zero (c .U) (c .G) (polynomial c) L g _ σ (i .1) (r .general _ (without-none h) .each-makes-zero L g (i .0)) v;
         every-instance = λ h. r .general _ (without-none h) .every-instance;
         each-other = λ h. r .lowenheims _ (without-none h);
         condition-read = condition;
         verdict-read = verdict;
       }
 
--- demand 3, whole, whatever stands behind the entry
-pub demand-3 : (U G route : ℕ) (text behind : List ℕ) → Accepted U G text → routeFits route ≡ true
-    → Demand3 U G (textTable U G text) (entry route U G (textTable U G text) ++ behind)
-demand-3 U G route text behind accepted fits =
-    let t : List ℕ = textTable U G text in
-    let back : ReadsBack route U G t (records (entry route U G t ++ behind)) = reads-back route U G t behind (record { letters = accepted .letters; of-route = fits; of-table = text-is-table U G text }) in
-    right-demand U G t (entry route U G t ++ behind) (entry-right route U G t behind) (back .condition) (back .verdict)
+-- demand 3, whole: of every condition that has an entry, whatever stands behind it ..
+pub demand-3 : (route : ℕ) (c : Condition) (behind : List ℕ) → Archivable route c → Demand3 c (entry route c ++ behind)
+demand-3 route c behind fits =
+    let back : ReadsBack route c (records (entry route c ++ behind)) = reads-back route c behind fits in
+    right-demand c (entry route c ++ behind) (entry-right route c behind (archived-order route c fits)) (back .condition) (back .verdict)
+
+-- .. and so of every accepted text: 'the condition is the table that it is read into'
+pub demand-3-of-text : (U G route : ℕ) (text behind : List ℕ) → Accepted U G text → routeFits route ≡ true
+    → Demand3 (conditionOf U G (textTable U G text)) (entry route (conditionOf U G (textTable U G text)) ++ behind)
+demand-3-of-text U G route text behind accepted fits =
+    demand-3 route (conditionOf U G (textTable U G text)) behind
+    (record { letters = accepted .letters; of-route = fits; of-order = refl; of-table = text-is-table U G text })

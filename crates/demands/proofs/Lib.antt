@@ -1,7 +1,5 @@
 pub mod Demand3
-pub mod OverTheCalls
 pub mod Refuted
-pub mod StarredRows
 pub mod SignRows
 pub mod OneGiven
 pub mod Sample

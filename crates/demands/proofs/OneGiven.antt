@@ -22,7 +22,7 @@ use Rattle.ring.proofs.Substitute.{value-letter}
 use Rattle.ring.proofs.Table.{present-table}
 use Rattle.order.specs.Order.{monomials}
 use Rattle.order.proofs.Order.{monomials-same, order-once}
-use Rattle.solution.specs.Condition.{defaultOrder}
+use Rattle.solution.specs.Condition.{conditionOf, defaultOrder}
 use Rattle.solution.specs.Elimination.{none, solvable, blocked, smallestBlocked, solve}
 use Rattle.solution.specs.General.{Blocked}
 use Rattle.solution.specs.Substitution.{ownLetters}
@@ -31,8 +31,7 @@ use Rattle.solution.proofs.Orders.{default-order}
 use Rattle.solution.proofs.Smallest.{first-found}
 use Rattle.solution.proofs.Blocked.{no-true, blocked-none, is-blocked}
 use Rattle.solution.proofs.Theorems.{solvable-exactly}
-use Rattle.entry.specs.declared.Record.the-variants.{Start, Condition, End, None}
-use Rattle.entry.specs.Record.{bytes}
+use Rattle.entry.specs.Record.{startRecord, conditionRecord, endRecord, noneRecord, bytes}
 use Rattle.entry.specs.Entry.{conditionRecords, verdictRecords, entryRecords, entry}
 
 -- the table of the i-th given among U unknowns and G givens
@@ -64,7 +63,7 @@ module _ (U G i : ℕ) (h : i < G) where
       let s = solvable-exactly U G (present (oneGiven U G i)) (defaultOrder U) (default-order U) (ownLetters U G) (own-holds U G) .0 e in
       blocked-none U G (present (oneGiven U G i)) (record { 0 = 2 ^ i }) (pow-lt h) blocked-alone (ownLetters U G) (own-holds U G) (s .0) (s .1))
 
-  verdict-given : solve U G (defaultOrder U) (oneGiven U G i) ≡ none (record { 0 = 2 ^ i })
+  verdict-given : solve (conditionOf U G (oneGiven U G i)) ≡ none (record { 0 = 2 ^ i })
   unfolding solve smallestBlocked
   verdict-given =
       rw unsolvable
@@ -79,6 +78,7 @@ module _ (U G i : ℕ) (h : i < G) where
       (λ m l. present-table (U + G) (letter (U + i)) m l ∙ eqb-iff (2 ^ (U + i)) m m (2 ^ (U + i)) sym sym)
       ∙ order-once (U + G) (2 ^ (U + i)) (pow-lt fits)
 
-  pub given-entry : (route : ℕ) → entry route U G (oneGiven U G i) ≡ bytes (Start route U G ∷ Condition (2 ^ (U + i)) ∷ None (2 ^ i) ∷ End route ∷ [])
+  pub given-entry : (route : ℕ) → entry route (conditionOf U G (oneGiven U G i))
+      ≡ bytes (startRecord route U G ∷ conditionRecord (2 ^ (U + i)) ∷ noneRecord (2 ^ i) ∷ endRecord route ∷ [])
   unfolding entry entryRecords conditionRecords verdictRecords
   given-entry route = rw (verdict-given, monomials-given)

@@ -13,12 +13,13 @@ use Rattle.ring.specs.Polynomial.{count, odd, within, value, constant, letter, 
 use Rattle.ring.specs.Table.{present, tabulate, table, answerTable}
 use Rattle.ring.specs.Lists.{listed}
 use Rattle.solution.specs.Letters.{Letter, HoldsGivens, place, Valuation, pointOf, valueOver}
-use Rattle.solution.specs.Substitution.{Substitution, letterAt, ownLetters, putIn, MakesZero, InstanceOf}
-use Rattle.solution.specs.Condition.{defaultOrder}
-use Rattle.solution.specs.Elimination.{solved, nextCondition, remains, answerFrom, booleAnswers, particular, lowenheim, ownLowenheim, isZero, solvable, solve}
-use Rattle.solution.specs.General.{SmallestBlocked}
+use Rattle.solution.specs.Substitution.{Substitution, letterAt, ownLetters, putIn, InstanceOf}
+use Rattle.solution.specs.Condition.{Condition, polynomial, conditionOf, defaultOrder}
+use Rattle.solution.specs.Elimination.{solved, nextCondition, remains, answerFrom, booleAnswers, particular, lowenheim, ownLowenheim, isZero, solvable, booleTable, solve}
+use Rattle.solution.specs.General.{SmallestBlocked, Solves}
+use Rattle.entry.specs.Record.{kind, size, fields, widths, valueOf, valueIn, fromLowFirst, among}
 use Rattle.solution.proofs.Letters.{value-putIn, own-holds}
-use Rattle.entry.specs.Held.{next, firstRecords, records, hasMonomial, conditionIn, answersIn, unlessNone, says, heldCondition, heldVerdict}
+use Rattle.entry.specs.Held.{next, untilEnd, firstRecords, records, hasMonomial, conditionIn, answersIn, unlessNone, says, heldCondition, heldVerdict}
 use Rattle.demands.specs.Demand3.{hasNone, Demand3}
 
 no-givens : (L : List Letter) → HoldsGivens 0 L
@@ -27,32 +28,32 @@ no-givens L i h = absurd (omega arith)
 -- ---- the conditions
 
 -- (0,0) `1`
-abbrev the-one : List ℕ
-the-one = 1 ∷ []
+abbrev the-one : Condition
+the-one = conditionOf 0 0 (1 ∷ [])
 
 -- (0,1) `1`
-abbrev one-beside-a : List ℕ
-one-beside-a = 1 ∷ 0 ∷ []
+abbrev one-beside-a : Condition
+one-beside-a = conditionOf 0 1 (1 ∷ 0 ∷ [])
 
 -- (1,0) `0`
-abbrev the-zero : List ℕ
-the-zero = 0 ∷ 0 ∷ []
+abbrev the-zero : Condition
+the-zero = conditionOf 1 0 (0 ∷ 0 ∷ [])
 
 -- (1,0) `u`
-abbrev u : List ℕ
-u = 0 ∷ 1 ∷ []
+abbrev u : Condition
+u = conditionOf 1 0 (0 ∷ 1 ∷ [])
 
 -- (1,1) `a`
-abbrev a : List ℕ
-a = 0 ∷ 0 ∷ 1 ∷ 0 ∷ []
+abbrev a : Condition
+a = conditionOf 1 1 (0 ∷ 0 ∷ 1 ∷ 0 ∷ [])
 
 -- (2,0) `u+v`
-abbrev u+v : List ℕ
-u+v = 0 ∷ 1 ∷ 1 ∷ 0 ∷ []
+abbrev u+v : Condition
+u+v = conditionOf 2 0 (0 ∷ 1 ∷ 1 ∷ 0 ∷ [])
 
 -- (2,0) `u*v`
-abbrev u*v : List ℕ
-u*v = 0 ∷ 0 ∷ 0 ∷ 1 ∷ []
+abbrev u*v : Condition
+u*v = conditionOf 2 0 (0 ∷ 0 ∷ 0 ∷ 1 ∷ [])
 
 -- ---- solutions left out
 
@@ -67,21 +68,21 @@ particular-archived =
     ∷ 4 ∷ 7
     ∷ []
 
-one-solves : MakesZero 1 0 (present the-zero) [] one
+one-solves : Solves the-zero [] one
 unfolding valueOver putIn substitute product odd count value within constant pointOf present one
 one-solves v = refl
 
-pub particular-refuted : Demand3 1 0 the-zero particular-archived → ⊥
-unfolding hasNone records firstRecords next answersIn hasMonomial valueOver putIn substitute product odd count value within constant pointOf one
+pub particular-refuted : Demand3 the-zero particular-archived → ⊥
+unfolding hasNone records firstRecords next untilEnd kind size fields widths valueOf valueIn fromLowFirst among answersIn hasMonomial valueOver putIn substitute product odd count value within constant pointOf one
 particular-refuted h =
     let instance : InstanceOf 1 0 (answersIn (records particular-archived)) [] one = h .every-instance refl [] (no-givens []) one one-solves in
     true≢false (sym (instance .1 0 (omega arith) (λ l. true)))
 
 -- .. and Löwenheim's answer, u = u, is no instance of it (each-other)
-pub particular-no-lowenheim : Demand3 1 0 the-zero particular-archived → ⊥
-unfolding hasNone records firstRecords next answersIn hasMonomial valueOver putIn substitute monomial product odd count value within constant letter pointOf present listed ownLetters letterAt place bit sum restrict nextCondition answerFrom booleAnswers particular lowenheim ownLowenheim defaultOrder
+pub particular-no-lowenheim : Demand3 the-zero particular-archived → ⊥
+unfolding hasNone records firstRecords next untilEnd kind size fields widths valueOf valueIn fromLowFirst among answersIn hasMonomial valueOver putIn substitute monomial product odd count value within constant letter pointOf present listed ownLetters letterAt place bit sum restrict nextCondition answerFrom booleAnswers particular lowenheim ownLowenheim defaultOrder
 particular-no-lowenheim h =
-    let instance : InstanceOf 1 0 (answersIn (records particular-archived)) (ownLetters 1 0) (ownLowenheim 1 0 (defaultOrder 1) (present the-zero)) = h .each-other refl .forth in
+    let instance : InstanceOf 1 0 (answersIn (records particular-archived)) (ownLetters 1 0) (ownLowenheim 1 0 (defaultOrder 1) (polynomial the-zero)) = h .each-other refl .forth in
     true≢false (sym (instance .1 0 (omega arith) (λ l. true)))
 
 -- ---- answers that do not make the condition zero
@@ -96,15 +97,15 @@ unknowns-archived =
     ∷ []
 
 one-instance : InstanceOf 1 0 (answersIn (records unknowns-archived)) [] one
-unfolding records firstRecords next answersIn hasMonomial valueOver putIn substitute monomial product odd count value within constant pointOf bit one
+unfolding records firstRecords next untilEnd kind size fields widths valueOf valueIn fromLowFirst among answersIn hasMonomial valueOver putIn substitute monomial product odd count value within constant pointOf bit one
 one-instance = (one, same)
   where
     same : (j : ℕ) → j < 1 → (v : Valuation) → valueOver [] (putIn 1 0 [] (answersIn (records unknowns-archived) j) one) v ≡ valueOver [] (one j) v
     same zero l v = refl
     same (suc j) l v = absurd (omega arith)
 
-pub unknowns-refuted : Demand3 1 0 u unknowns-archived → ⊥
-unfolding hasNone records firstRecords next valueOver putIn substitute monomial product odd count value within constant bit pointOf present one
+pub unknowns-refuted : Demand3 u unknowns-archived → ⊥
+unfolding hasNone records firstRecords next untilEnd kind size fields widths valueOf valueIn fromLowFirst among valueOver putIn substitute monomial product odd count value within constant bit pointOf present one
 unknowns-refuted h = true≢false (h .each-makes-zero refl [] (no-givens []) one one-instance (λ l. true))
 
 -- r and s exchanged: x*(r + s + 1) + r is 1 for u (makes-zero)
@@ -116,8 +117,8 @@ exchanged-archived =
     ∷ 4 ∷ 7
     ∷ []
 
-pub exchanged-refuted : Demand3 1 0 u exchanged-archived → ⊥
-unfolding hasNone records firstRecords next answersIn hasMonomial valueOver putIn substitute monomial product odd count value within constant letter bit pointOf present ownLetters listed
+pub exchanged-refuted : Demand3 u exchanged-archived → ⊥
+unfolding hasNone records firstRecords next untilEnd kind size fields widths valueOf valueIn fromLowFirst among answersIn hasMonomial valueOver putIn substitute monomial product odd count value within constant letter bit pointOf present ownLetters listed
 exchanged-refuted h = true≢false (h .makes-zero refl (λ l. true))
 
 -- ---- 'none' and solved
@@ -131,20 +132,20 @@ none-archived =
     ∷ 4 ∷ 7
     ∷ []
 
-zero-solves : MakesZero 1 0 (present u) [] (λ j. constant false)
+zero-solves : Solves u [] (λ j. constant false)
 unfolding valueOver putIn substitute monomial product odd count value within constant pointOf present bit
 zero-solves v = refl
 
-pub none-refuted : Demand3 1 0 u none-archived → ⊥
-unfolding hasNone records firstRecords next
+pub none-refuted : Demand3 u none-archived → ⊥
+unfolding hasNone records firstRecords next untilEnd kind size fields widths valueOf valueIn fromLowFirst among
 none-refuted h =
-    let nothing-solves : (L : List Letter) → HoldsGivens 0 L → (σ : Substitution) → ¬ MakesZero 1 0 (present u) L σ = h .none-exactly .0 refl in
+    let nothing-solves : (L : List Letter) → HoldsGivens 0 L → (σ : Substitution) → ¬ Solves u L σ = h .none-exactly .0 refl in
     nothing-solves [] (no-givens []) (λ j. constant false) zero-solves
 
-pub none-refuted-on-list : Demand3 1 0 u none-archived → ⊥
-unfolding hasNone records firstRecords next
+pub none-refuted-on-list : Demand3 u none-archived → ⊥
+unfolding hasNone records firstRecords next untilEnd kind size fields widths valueOf valueIn fromLowFirst among
 none-refuted-on-list h =
-    let nothing-solves : (σ : Substitution) → ¬ MakesZero 1 0 (present u) [] σ = h .none-on-list [] (no-givens []) .0 refl in
+    let nothing-solves : (σ : Substitution) → ¬ Solves u [] σ = h .none-on-list [] (no-givens []) .0 refl in
     nothing-solves (λ j. constant false) zero-solves
 
 -- solved where there is no solution: nothing makes 1 zero, over any list (none-exactly)
@@ -155,12 +156,12 @@ solved-archived =
     ∷ 4 ∷ 7
     ∷ []
 
-one-unsolved : (L : List Letter) → HoldsGivens 0 L → (σ : Substitution) → ¬ MakesZero 0 0 (present the-one) L σ
+one-unsolved : (L : List Letter) → HoldsGivens 0 L → (σ : Substitution) → ¬ Solves the-one L σ
 unfolding value odd count within present pointWhere
-one-unsolved L g σ z = true≢false (sym (value-putIn 0 0 L g (present the-one) σ (λ l. true)) ∙ z (λ l. true))
+one-unsolved L g σ z = true≢false (sym (value-putIn 0 0 L g (polynomial the-one) σ (λ l. true)) ∙ z (λ l. true))
 
-pub solved-refuted : Demand3 0 0 the-one solved-archived → ⊥
-unfolding hasNone records firstRecords next
+pub solved-refuted : Demand3 the-one solved-archived → ⊥
+unfolding hasNone records firstRecords next untilEnd kind size fields widths valueOf valueIn fromLowFirst among
 solved-refuted h = true≢false (sym (h .none-exactly .1 one-unsolved))
 
 -- 'none' only when the condition is the polynomial 1: a is not, and no answer makes it zero (none-on-list)
@@ -171,12 +172,12 @@ not-one-archived =
     ∷ 4 ∷ 7
     ∷ []
 
-a-unsolved : (σ : Substitution) → ¬ MakesZero 1 1 (present a) (ownLetters 1 1) σ
+a-unsolved : (σ : Substitution) → ¬ Solves a (ownLetters 1 1) σ
 unfolding valueOver putIn substitute monomial product odd count value within constant letter place letterAt bit pointOf present ownLetters listed
 a-unsolved σ z = true≢false (z (λ l. true))
 
-pub not-one-refuted : Demand3 1 1 a not-one-archived → ⊥
-unfolding hasNone records firstRecords next
+pub not-one-refuted : Demand3 a not-one-archived → ⊥
+unfolding hasNone records firstRecords next untilEnd kind size fields widths valueOf valueIn fromLowFirst among
 not-one-refuted h = true≢false (sym (h .none-on-list (ownLetters 1 1) (own-holds 1 1) .1 a-unsolved))
 
 -- ---- the state
@@ -190,10 +191,10 @@ later-archived =
     ∷ 4 ∷ 7
     ∷ []
 
-pub later-refuted : Demand3 0 1 one-beside-a later-archived → ⊥
-unfolding records firstRecords next says unlessNone value odd count within present point
+pub later-refuted : Demand3 one-beside-a later-archived → ⊥
+unfolding records firstRecords next untilEnd kind size fields widths valueOf valueIn fromLowFirst among says unlessNone value odd count within present point
 later-refuted h =
-    let smallest : SmallestBlocked 0 1 (present one-beside-a) (record { 0 = 1 }) = h .smallest-state (record { 0 = 1 }) refl in
+    let smallest : SmallestBlocked 0 1 (polynomial one-beside-a) (record { 0 = 1 }) = h .smallest-state (record { 0 = 1 }) refl in
     smallest .smallest (record { 0 = 0 }) (omega arith) (λ choice l. refl)
 
 -- a state that was not examined: 0 for a, which is blocked in 1 alone (smallest-state)
@@ -205,10 +206,10 @@ open-archived =
     ∷ 4 ∷ 7
     ∷ []
 
-pub open-refuted : Demand3 1 1 a open-archived → ⊥
-unfolding records firstRecords next says unlessNone value odd count within present point
+pub open-refuted : Demand3 a open-archived → ⊥
+unfolding records firstRecords next untilEnd kind size fields widths valueOf valueIn fromLowFirst among says unlessNone value odd count within present point
 open-refuted h =
-    let smallest : SmallestBlocked 1 1 (present a) (record { 0 = 0 }) = h .smallest-state (record { 0 = 0 }) refl in
+    let smallest : SmallestBlocked 1 1 (polynomial a) (record { 0 = 0 }) = h .smallest-state (record { 0 = 0 }) refl in
     true≢false (sym (smallest .blocked (record { 0 = 0 }) (omega arith)))
 
 -- ---- to the monomial
@@ -224,8 +225,8 @@ lowenheim-archived =
     ∷ 4 ∷ 7
     ∷ []
 
-pub lowenheim-refuted : Demand3 2 0 u+v lowenheim-archived → ⊥
-unfolding hasNone records firstRecords next answersIn hasMonomial booleAnswers answerFrom nextCondition defaultOrder listed substitute monomial product restrict sum constant letter odd count bit present
+pub lowenheim-refuted : Demand3 u+v lowenheim-archived → ⊥
+unfolding hasNone records firstRecords next untilEnd kind size fields widths valueOf valueIn fromLowFirst among answersIn hasMonomial booleAnswers answerFrom nextCondition defaultOrder listed substitute monomial product restrict sum constant letter odd count bit present
 lowenheim-refuted h = true≢false (h .holds-booles refl 0 3 (omega arith) (omega arith))
 
 -- one monomial less in an answer: u = u for u*v, whose answer is u + u*v (holds-booles)
@@ -238,8 +239,8 @@ less-archived =
     ∷ 4 ∷ 7
     ∷ []
 
-pub less-refuted : Demand3 2 0 u*v less-archived → ⊥
-unfolding hasNone records firstRecords next answersIn hasMonomial booleAnswers answerFrom nextCondition defaultOrder listed substitute monomial product restrict sum constant letter odd count bit present
+pub less-refuted : Demand3 u*v less-archived → ⊥
+unfolding hasNone records firstRecords next untilEnd kind size fields widths valueOf valueIn fromLowFirst among answersIn hasMonomial booleAnswers answerFrom nextCondition defaultOrder listed substitute monomial product restrict sum constant letter odd count bit present
 less-refuted h = true≢false (sym (h .holds-booles refl 0 3 (omega arith) (omega arith)))
 
 same-tables : {x y : List ℕ} → solved x ≡ solved y → x ≡ y
@@ -257,8 +258,8 @@ more-archived =
     ∷ 4 ∷ 7
     ∷ []
 
-pub more-refuted : Demand3 2 0 u+v more-archived → ⊥
-unfolding records firstRecords next heldVerdict unlessNone answersIn hasMonomial answerTable tabulate solve solvable isZero everyBelow remains booleAnswers answerFrom nextCondition defaultOrder listed substitute monomial product restrict sum constant letter odd count bit present
+pub more-refuted : Demand3 u+v more-archived → ⊥
+unfolding records firstRecords next untilEnd kind size fields widths valueOf valueIn fromLowFirst among heldVerdict unlessNone answersIn hasMonomial answerTable tabulate solve booleTable solvable isZero everyBelow remains booleAnswers answerFrom nextCondition defaultOrder listed substitute monomial product restrict sum constant letter odd count bit present
 more-refuted h = true≢false (ap (λ (tables : List ℕ). present tables 7) (same-tables (h .verdict-read)))
 
 -- U and G exchanged in the record of kind 1: reading u+v finds no answer tables (verdict-read)
@@ -272,8 +273,8 @@ counts-exchanged-archived =
     ∷ 4 ∷ 7
     ∷ []
 
-pub counts-exchanged-refuted : Demand3 2 0 u+v counts-exchanged-archived → ⊥
-unfolding records firstRecords next heldVerdict unlessNone answersIn hasMonomial answerTable tabulate solve solvable isZero everyBelow remains booleAnswers answerFrom nextCondition defaultOrder listed substitute monomial product restrict sum constant letter odd count bit present
+pub counts-exchanged-refuted : Demand3 u+v counts-exchanged-archived → ⊥
+unfolding records firstRecords next untilEnd kind size fields widths valueOf valueIn fromLowFirst among heldVerdict unlessNone answersIn hasMonomial answerTable tabulate solve booleTable solvable isZero everyBelow remains booleAnswers answerFrom nextCondition defaultOrder listed substitute monomial product restrict sum constant letter odd count bit present
 counts-exchanged-refuted h = true≢false (sym (ap (λ (tables : List ℕ). present tables 2) (same-tables (h .verdict-read))))
 
 -- a monomial of the condition left out, v of u+v, beside the right answers (condition-read)
@@ -286,9 +287,9 @@ condition-less-archived =
     ∷ 4 ∷ 7
     ∷ []
 
-pub condition-less-refuted : Demand3 2 0 u+v condition-less-archived → ⊥
-unfolding records firstRecords next heldCondition conditionIn hasMonomial table tabulate present
-condition-less-refuted h = true≢false (sym (ap (λ (t : List ℕ). present t 2) (h .condition-read)))
+pub condition-less-refuted : Demand3 u+v condition-less-archived → ⊥
+unfolding records firstRecords next untilEnd kind size fields widths valueOf valueIn fromLowFirst among heldCondition conditionIn hasMonomial table tabulate present
+condition-less-refuted h = true≢false (sym (ap (λ (c : Condition). polynomial c 2) (h .condition-read)))
 
 -- and one more, u*v (condition-read)
 abbrev condition-more-archived : List ℕ
@@ -302,6 +303,6 @@ condition-more-archived =
     ∷ 4 ∷ 7
     ∷ []
 
-pub condition-more-refuted : Demand3 2 0 u+v condition-more-archived → ⊥
-unfolding records firstRecords next heldCondition conditionIn hasMonomial table tabulate present
-condition-more-refuted h = true≢false (ap (λ (t : List ℕ). present t 3) (h .condition-read))
+pub condition-more-refuted : Demand3 u+v condition-more-archived → ⊥
+unfolding records firstRecords next untilEnd kind size fields widths valueOf valueIn fromLowFirst among heldCondition conditionIn hasMonomial table tabulate present
+condition-more-refuted h = true≢false (ap (λ (c : Condition). polynomial c 3) (h .condition-read))
