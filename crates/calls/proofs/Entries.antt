@@ -32,7 +32,8 @@ module _ (route U G : ℕ) (condition out : List ℕ) (z : firstNo (writeQuestio
   archivable = writable-archivable route U G condition (length out) (written-exactly route U G condition (length out) .0 z)
 
   -- the output after the call
-  pub output-is : firstBuffer (writeCall route U G condition out) ≡ entry route (lentCondition U G condition) ++ drop (length (entry route (lentCondition U G condition))) out
+  pub output-is : firstBuffer (writeCall route U G condition out)
+      ≡ entry route (lentCondition U G condition) ++ drop (length (entry route (lentCondition U G condition))) out
   unfolding call after
   output-is = rw z
 
@@ -48,12 +49,14 @@ module _ (route U G : ℕ) (condition out : List ℕ) (z : firstNo (writeQuestio
 
   -- demand 3: what its kind 3 and kind 5 records say of the condition is right
   pub written-right : RightVerdict (lentCondition U G condition) (says (records (firstBuffer (writeCall route U G condition out))))
-  written-right = rw output-is (entry-right route (lentCondition U G condition) _ (archived-order route (lentCondition U G condition) archivable))
+  written-right = rw output-is
+      (entry-right route (lentCondition U G condition) _ (archived-order route (lentCondition U G condition) archivable))
 
 -- ---- reading bytes in which a written entry is found, as `reads-back` finds it whatever stands behind it
 module _ {route : ℕ} {c : Condition} (bs : List ℕ) (r : ReadsBack route c (records bs)) where
   -- only the buffers can be refused
-  pub only-room : (room answerRoom : ℕ) → 2 ^ width c ≤ room → c .U * 2 ^ width c ≤ answerRoom → firstNo (readQuestions (records bs) room answerRoom) ≡ 0
+  pub only-room : (room answerRoom : ℕ) → 2 ^ width c ≤ room → c .U * 2 ^ width c ≤ answerRoom
+      → firstNo (readQuestions (records bs) room answerRoom) ≡ 0
   only-room room answerRoom long answers-long =
       read-exactly (records bs) room answerRoom .1 (r .passes, rw (r .of-unknowns, r .of-givens) (long, answers-long))
 
@@ -70,17 +73,24 @@ module _ {route : ℕ} {c : Condition} (bs : List ℕ) (r : ReadsBack route c (r
   answers-back = ap answersOf (r .verdict)
 
 -- 'a 'none' entry leaves the answer buffer untouched'
-pub none-untouched : (rs : List Record) (state : State) (lent : List ℕ) → heldVerdict rs ≡ none state → after 0 (answersOf (heldVerdict rs)) lent ≡ lent
+pub none-untouched : (rs : List Record) (state : State) (lent : List ℕ) → heldVerdict rs ≡ none state
+    → after 0 (answersOf (heldVerdict rs)) lent ≡ lent
 unfolding after
 none-untouched rs state lent e = rw e
 
 -- ---- audit
 -- what reading gives of bytes that pass is a route and a condition of which there is an entry ..
-pub passed-archivable : (bs : List ℕ) → firstNo (auditQuestions (records bs)) ≡ 0 → Archivable (routeOf (records bs)) (heldCondition (records bs))
+pub passed-archivable : (bs : List ℕ) → firstNo (auditQuestions (records bs)) ≡ 0
+    → Archivable (routeOf (records bs)) (heldCondition (records bs))
 unfolding heldCondition table
 passed-archivable bs e =
     let p : Passes (records bs) = audit-exactly (records bs) .0 e .0 in
-    record { letters = p .letters; of-route = p .route; of-order = refl; of-table = is-table (unknownsOf (records bs) + givensOf (records bs)) (conditionIn (records bs)) }
+    record {
+      letters = p .letters;
+      of-route = p .route;
+      of-order = refl;
+      of-table = is-table (unknownsOf (records bs) + givensOf (records bs)) (conditionIn (records bs));
+    }
 
 -- .. and the bytes, as far as they are used, are this entry
 pub passed-entry : (bs : List ℕ) → AreBytes bs → firstNo (auditQuestions (records bs)) ≡ 0
@@ -92,9 +102,11 @@ module _ (route : ℕ) (c : Condition) (behind : List ℕ) (a : Archivable route
   pub entry-audited : firstNo (auditQuestions (records (entry route c ++ behind))) ≡ 0
   entry-audited = audit-exactly (records (entry route c ++ behind)) .1 (reads-back route c behind a .passes, entry-holds route c behind a)
 
-  pub entry-passes : auditCall (entry route c ++ behind) ≡ answered (accepted (route ∷ c .U ∷ c .G ∷ length (entry route c) ∷ stateOf (solve c))) []
+  pub entry-passes : auditCall (entry route c ++ behind)
+      ≡ answered (accepted (route ∷ c .U ∷ c .G ∷ length (entry route c) ∷ stateOf (solve c))) []
   entry-passes =
-      sym (call-done-none (auditQuestions (records (entry route c ++ behind))) (readValues (records (entry route c ++ behind))) entry-audited)
+      sym (call-done-none (auditQuestions (records (entry route c ++ behind)))
+          (readValues (records (entry route c ++ behind))) entry-audited)
       ∙ ap (λ (values : List ℕ). answered (accepted values) []) (values-back (entry route c ++ behind) (reads-back route c behind a))
 
 -- both ways in one: the audit passes some bytes, and gives these values, exactly if they begin with such an entry
@@ -110,11 +122,21 @@ audit-exact bs values are = (to, from)
         let c : Condition = heldCondition (records bs) in
         let behind : List ℕ = drop (length (bytes (records bs))) bs in
         let a : Archivable route c = passed-archivable bs z in
-        let m : bs ≡ entry route c ++ behind = sym (take-append-drop (length (bytes (records bs))) bs) ∙ ap (λ (l : List ℕ). l ++ behind) (passed-entry bs are z) in
-        record { route = route; condition = c; behind = behind; archivable = a; made = m; given = gives (sym e ∙ ap auditCall m ∙ entry-passes route c behind a) }
+        let m : bs ≡ entry route c ++ behind = sym (take-append-drop (length (bytes (records bs))) bs)
+        ∙ ap (λ (l : List ℕ). l ++ behind) (passed-entry bs are z) in
+        record {
+          route = route;
+          condition = c;
+          behind = behind;
+          archivable = a;
+          made = m;
+          given = gives (sym e ∙ ap auditCall m ∙ entry-passes route c behind a);
+        }
 
     to : auditCall bs ≡ answered (accepted values) [] → BeginsWithEntry bs values
-    to e = begins (accepted-is (auditQuestions (records bs)) (readValues (records bs)) (call-gives (auditQuestions (records bs)) (readValues (records bs)) [] (sym e)) .0) e
+    to e = begins (accepted-is (auditQuestions (records bs)) (readValues (records bs))
+        (call-gives (auditQuestions (records bs)) (readValues (records bs)) [] (sym e)) .0) e
 
     from : BeginsWithEntry bs values → auditCall bs ≡ answered (accepted values) []
-    from b = ap auditCall (b .made) ∙ entry-passes (b .route) (b .condition) (b .behind) (b .archivable) ∙ ap (λ (vs : List ℕ). answered (accepted vs) []) (sym (b .given))
+    from b = ap auditCall (b .made) ∙ entry-passes (b .route) (b .condition) (b .behind) (b .archivable)
+        ∙ ap (λ (vs : List ℕ). answered (accepted vs) []) (sym (b .given))

@@ -70,4 +70,5 @@ walks =
 
 pub walks-hold : AllHold walks
 unfolding walkReply walkBehind walkAtMost walkQuestions routeRises firstNo lettersFit auditQuestions entryQuestions answersHold sameBytes numbersFit allInOrder inOrder standsBefore allInBounds inBounds bodyFits kindsFit kindsFollow mayFollow has hasEnd routeFits records firstRecords untilEnd next kind size fields widths valueOf valueIn fromLowFirst among bytes hasMonomial conditionIn answersIn unlessNone heldCondition heldVerdict letters before table tabulate answerTable present solve booleTable solvable isZero everyBelow remains nextCondition product restrict odd count bit defaultOrder listed booleAnswers answerFrom sum letter constant substitute monomial smallestBlocked smallestBelow blocked point value within
-walks-hold = refl also refl also refl also refl also refl also refl also refl also refl also refl also refl also refl also refl also refl also refl also refl also end
+walks-hold = refl also refl also refl also refl also refl also refl also refl also refl also refl also refl also refl also refl also refl
+    also refl also refl also end

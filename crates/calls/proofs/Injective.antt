@@ -58,7 +58,8 @@ pub same-heading : (h k : Heading) → h .route ≡ k .route → h .unknowns ≡
 same-heading h k = go
   where
     go : {a b c d r u g n : ℕ} → a ≡ r → b ≡ u → c ≡ g → d ≡ n
-        → _≡_ {A = Heading} (record { route = a; unknowns = b; givens = c; used = d }) (record { route = r; unknowns = u; givens = g; used = n })
+        → _≡_ {A = Heading} (record { route = a; unknowns = b; givens = c; used = d })
+        (record { route = r; unknowns = u; givens = g; used = n })
     go er eu eg en = rw (er, eu, eg, en)
 
 -- a heading is its four values, and 'none' has a fifth

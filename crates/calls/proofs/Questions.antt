@@ -55,12 +55,18 @@ module _ (route U G : ℕ) (condition : List ℕ) (room : ℕ) where
 
   pub written-exactly : (firstNo (writeQuestions route U G condition room) ≡ 0) ↔ Writable route U G condition room
   written-exactly =
-      (λ z. write-yes (each-yes (writeQuestions route U G condition room) z), λ w. none-no (writeQuestions route U G condition room) (yes-write w))
+      (λ z. write-yes (each-yes (writeQuestions route U G condition room) z),
+          λ w. none-no (writeQuestions route U G condition room) (yes-write w))
 
   -- what can be written has an entry
   pub writable-archivable : Writable route U G condition room → Archivable route (lentCondition U G condition)
   writable-archivable w =
-      record { letters = w .letters; of-route = w .of-route; of-order = refl; of-table = lent-table (U + G) _ condition refl (w .long) (w .bits) }
+      record {
+        letters = w .letters;
+        of-route = w .of-route;
+        of-order = refl;
+        of-table = lent-table (U + G) _ condition refl (w .long) (w .bits);
+      }
 
 -- a buffer with the table of c at its front holds c
 pub lent-is : (c : Condition) (condition : List ℕ) → c .order ≡ defaultOrder (c .U) → take (2 ^ width c) condition ≡ c .table
@@ -68,7 +74,8 @@ pub lent-is : (c : Condition) (condition : List ℕ) → c .order ≡ defaultOrd
 lent-is c condition o front = rw (front, ← o)
 
 -- .. and c is written if the output has room for its entry
-pub written-if-room : (route : ℕ) (c : Condition) (condition : List ℕ) (room : ℕ) → Archivable route c → take (2 ^ width c) condition ≡ c .table
+pub written-if-room : (route : ℕ) (c : Condition) (condition : List ℕ) (room : ℕ) → Archivable route c
+    → take (2 ^ width c) condition ≡ c .table
     → 2 ^ width c ≤ length condition → length (entry route c) ≤ room → firstNo (writeQuestions route (c .U) (c .G) condition room) ≡ 0
 unfolding holdsBits hasRoom
 written-if-room route c condition room a front long fits =
@@ -98,13 +105,15 @@ module _ (rs : List Record) where
 
   -- then 4
   module _ (room answerRoom : ℕ) where
-    room-yes : EachYes (bufferQuestions (writes (2 ^ (unknownsOf rs + givensOf rs)) room ∷ writes (unknownsOf rs * 2 ^ (unknownsOf rs + givensOf rs)) answerRoom ∷ []))
+    room-yes : EachYes (bufferQuestions
+        (writes (2 ^ (unknownsOf rs + givensOf rs)) room ∷ writes (unknownsOf rs * 2 ^ (unknownsOf rs + givensOf rs)) answerRoom ∷ []))
         → (2 ^ (unknownsOf rs + givensOf rs) ≤ room) × (unknownsOf rs * 2 ^ (unknownsOf rs + givensOf rs) ≤ answerRoom)
     unfolding bufferQuestions roomQuestions bitQuestions hasRoom
     room-yes (long, (answers-long, _)) = (leb-true _ _ long, leb-true _ _ answers-long)
 
     yes-room : (2 ^ (unknownsOf rs + givensOf rs) ≤ room) × (unknownsOf rs * 2 ^ (unknownsOf rs + givensOf rs) ≤ answerRoom)
-        → EachYes (bufferQuestions (writes (2 ^ (unknownsOf rs + givensOf rs)) room ∷ writes (unknownsOf rs * 2 ^ (unknownsOf rs + givensOf rs)) answerRoom ∷ []))
+        → EachYes (bufferQuestions
+        (writes (2 ^ (unknownsOf rs + givensOf rs)) room ∷ writes (unknownsOf rs * 2 ^ (unknownsOf rs + givensOf rs)) answerRoom ∷ []))
     unfolding bufferQuestions roomQuestions bitQuestions hasRoom
     yes-room (long, answers-long) = (le-leb _ _ long, (le-leb _ _ answers-long, tt))
 
@@ -120,15 +129,18 @@ module _ (rs : List Record) where
   pub audit-exactly : (firstNo (auditQuestions rs) ≡ 0) ↔ (Passes rs × (answersHold rs ≡ true))
   unfolding auditQuestions
   audit-exactly = (
-    λ z. (passes-exactly .0 (asked-before (entryQuestions rs) _ z), each-yes (asks Afresh (answersHold rs) ∷ []) (asked-behind (entryQuestions rs) _ z) .0),
+    λ z. (passes-exactly .0 (asked-before (entryQuestions rs) _ z),
+        each-yes (asks Afresh (answersHold rs) ∷ []) (asked-behind (entryQuestions rs) _ z) .0),
     λ y. then-further (entryQuestions rs) _ (passes-exactly .1 (y .0)) ∙ none-no (asks Afresh (answersHold rs) ∷ []) (y .1, tt),
   )
 
   -- then 15
   module _ (before : ℕ) where
-    pub walk-exactly : (firstNo (walkQuestions before rs) ≡ 0) ↔ ((firstNo (auditQuestions rs) ≡ 0) × (routeRises before (routeOf rs) ≡ true))
+    pub walk-exactly : (firstNo (walkQuestions before rs) ≡ 0)
+        ↔ ((firstNo (auditQuestions rs) ≡ 0) × (routeRises before (routeOf rs) ≡ true))
     unfolding walkQuestions
     walk-exactly = (
-      λ z. (asked-before (auditQuestions rs) _ z, each-yes (asks Rising (routeRises before (routeOf rs)) ∷ []) (asked-behind (auditQuestions rs) _ z) .0),
+      λ z. (asked-before (auditQuestions rs) _ z,
+          each-yes (asks Rising (routeRises before (routeOf rs)) ∷ []) (asked-behind (auditQuestions rs) _ z) .0),
       λ y. then-further (auditQuestions rs) _ (y .0) ∙ none-no (asks Rising (routeRises before (routeOf rs)) ∷ []) (y .1, tt),
     )

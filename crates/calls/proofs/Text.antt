@@ -30,7 +30,8 @@ pub is-read : (U G : ℕ) (text : List ℕ) → Accepted U G text → IsRead U G
 is-read U G text a = record { declared = a .declared; reads = a .grammar }
 
 -- an accepted text has a derivation, and only of its own tree
-pub accepted-tree : (U G : ℕ) (text : List ℕ) → Accepted U G text → Sum (symbols text) (treeOf text) × ((t : Tree) → Sum (symbols text) t → t ≡ treeOf text)
+pub accepted-tree : (U G : ℕ) (text : List ℕ) → Accepted U G text
+    → Sum (symbols text) (treeOf text) × ((t : Tree) → Sum (symbols text) t → t ≡ treeOf text)
 accepted-tree U G text a =
     let d = grammar.reads-derived text (a .grammar) in
     (d, λ t e. grammar.one-tree e d)
@@ -38,7 +39,8 @@ accepted-tree U G text a =
 -- so a text is accepted exactly if it passes questions 1, 3, 5 and 6 and has a derivation
 pub accepted-exactly : (U G : ℕ) (text : List ℕ)
     → Accepted U G text
-    ↔ ((lettersFit U G ≡ true) × (hasTextLength text ≡ true) × (allSigns text ≡ true) × (allDeclared U G text ≡ true) × (t : Tree) × Sum (symbols text) t)
+    ↔ ((lettersFit U G ≡ true) × (hasTextLength text ≡ true) × (allSigns text ≡ true) × (allDeclared U G text ≡ true) × (t : Tree)
+    × Sum (symbols text) t)
 accepted-exactly U G text = (
   λ a. (a .letters, a .bytes, a .signs, a .declared, treeOf text, grammar.reads-derived text (a .grammar)),
   λ d. record { letters = d .0; bytes = d .1; signs = d .2; declared = d .3; grammar = grammar.derived-reads text (d .5) .0 },

@@ -74,15 +74,18 @@ entry-first before passed bs are z c =
       front = made ++ c .front;
       rest = c .rest;
       entries = one-more _ _ a (above before (routeOf (records bs)) (a .of-route) (y .1)) (c .entries);
-      parts = sym (take-append-drop (length (bytes (records bs))) bs) ∙ rw (passed-entry bs are (y .0), c .parts) (sym (append-assoc made (c .front) (c .rest)));
+      parts = sym (take-append-drop (length (bytes (records bs))) bs)
+          ∙ rw (passed-entry bs are (y .0), c .parts) (sym (append-assoc made (c .front) (c .rest)));
       ends = rw (← n) (c .ends);
     }
 
-course : (k before passed : ℕ) (bs : List ℕ) (answer : Reply) → length bs ≤ k → AreBytes bs → walkBehind before passed bs ≡ answer → Course before passed bs answer
+course : (k before passed : ℕ) (bs : List ℕ) (answer : Reply) → length bs ≤ k → AreBytes bs → walkBehind before passed bs ≡ answer
+    → Course before passed bs answer
 course zero before passed [] answer h are e = stopped before passed [] (ended before passed e)
 course zero before passed (b ∷ bs) answer h are e = absurd (not-suc-le-zero h)
 course (suc k) before passed [] answer h are e = stopped before passed [] (ended before passed e)
-course (suc k) before passed (b ∷ bs) answer h are e = go (walkRefusal before (b ∷ bs)) refl (sym (walk-on before passed (b ∷ bs) (omega arith)) ∙ e)
+course (suc k) before passed (b ∷ bs) answer h are e =
+    go (walkRefusal before (b ∷ bs)) refl (sym (walk-on before passed (b ∷ bs) (omega arith)) ∙ e)
     (course k (routeOf (records (b ∷ bs))) (suc passed) (onwards (b ∷ bs)) answer)
   where
     go : (q : ℕ) → walkRefusal before (b ∷ bs) ≡ q
@@ -125,7 +128,8 @@ entry-walked before passed route c behind a h =
     let l : 0 < length bs = omega (arith, entry-some route c, length-append (entry route c) behind) in
     walk-on before passed bs l ∙ rw (z, r .of-route, r .used, drop-at (entry route c) behind (length (entry route c)) refl)
 
-back : (before last count passed : ℕ) (front rest : List ℕ) (answer : Reply) → Entries before last count front → Ends last (passed + count) rest answer
+back : (before last count passed : ℕ) (front rest : List ℕ) (answer : Reply) → Entries before last count front
+    → Ends last (passed + count) rest answer
     → walkBehind before passed (front ++ rest) ≡ answer
 back before last count passed front rest answer no-entry e =
     let z : passed + 0 ≡ passed = omega arith in
@@ -138,23 +142,35 @@ back before last count passed front rest answer (one-more {count = few} {behind 
 
 -- ---- the headlines
 -- whatever the bytes, a walk answers what it comes to, and nothing else
-pub walk-exact : (volume : List ℕ) (place : ℕ) (answer : Reply) → AreBytes volume → (walkReply volume place ≡ answer) ↔ Walks (drop place volume) answer
+pub walk-exact : (volume : List ℕ) (place : ℕ) (answer : Reply) → AreBytes volume → (walkReply volume place ≡ answer)
+    ↔ Walks (drop place volume) answer
 unfolding walkReply
 walk-exact volume place answer are = (to, from)
   where
     to : walkBehind 0 0 (drop place volume) ≡ answer → Walks (drop place volume) answer
     to e =
-        let c : Course 0 0 (drop place volume) answer = course (length (drop place volume)) 0 0 (drop place volume) answer (omega arith) (drop-bytes place volume are) e in
-        record { last = c .last; count = c .count; front = c .front; rest = c .rest; entries = c .entries; parts = c .parts; ends = rw (zero-add (c .count)) at (c .ends) }
+        let c : Course 0 0 (drop place volume) answer =
+        course (length (drop place volume)) 0 0 (drop place volume) answer (omega arith) (drop-bytes place volume are) e in
+        record {
+          last = c .last;
+          count = c .count;
+          front = c .front;
+          rest = c .rest;
+          entries = c .entries;
+          parts = c .parts;
+          ends = rw (zero-add (c .count)) at (c .ends);
+        }
 
     from : Walks (drop place volume) answer → walkBehind 0 0 (drop place volume) ≡ answer
     from w = rw (w .parts) (back 0 (w .last) (w .count) 0 (w .front) (w .rest) answer (w .entries) (rw (zero-add (w .count)) (w .ends)))
 
 -- the count equals the entries passed: a walk answers a count exactly if the bytes from its place are a volume of so many entries
-pub count-exact : (volume : List ℕ) (place count : ℕ) → AreBytes volume → (walkReply volume place ≡ accepted (count ∷ [])) ↔ IsVolume count (drop place volume)
+pub count-exact : (volume : List ℕ) (place count : ℕ) → AreBytes volume → (walkReply volume place ≡ accepted (count ∷ []))
+    ↔ IsVolume count (drop place volume)
 count-exact volume place count are = (λ e. to (walk-exact volume place (accepted (count ∷ [])) are .0 e), from)
   where
-    whole : {bs front rest : List ℕ} {last n : ℕ} → Entries 0 last n front → bs ≡ front ++ rest → Ends last n rest (accepted (count ∷ [])) → IsVolume count bs
+    whole : {bs front rest : List ℕ} {last n : ℕ} → Entries 0 last n front → bs ≡ front ++ rest → Ends last n rest (accepted (count ∷ []))
+        → IsVolume count bs
     whole {front = front} {last = last} es e at-end = record { last = last; entries = rw (e ∙ append-nil front) es }
 
     to : Walks (drop place volume) (accepted (count ∷ [])) → IsVolume count (drop place volume)
@@ -163,7 +179,15 @@ count-exact volume place count are = (λ e. to (walk-exact volume place (accepte
     from : IsVolume count (drop place volume) → walkReply volume place ≡ accepted (count ∷ [])
     from v =
         walk-exact volume place (accepted (count ∷ [])) are .1
-        (record { last = v .last; count = count; front = drop place volume; rest = []; entries = v .entries; parts = sym (append-nil (drop place volume)); ends = at-end })
+        (record {
+          last = v .last;
+          count = count;
+          front = drop place volume;
+          rest = [];
+          entries = v .entries;
+          parts = sym (append-nil (drop place volume));
+          ends = at-end;
+        })
 
 -- 'A place at or past the end gives 0'
 pub past-the-end : (volume : List ℕ) (place : ℕ) → length volume ≤ place → walkReply volume place ≡ accepted (0 ∷ [])

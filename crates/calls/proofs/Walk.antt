@@ -25,7 +25,8 @@ same-onwards : (q passed : ℕ) (x y : Reply) → (q ≡ 0 → x ≡ y) → atEn
 same-onwards zero passed x y h = h refl
 same-onwards (suc q) passed x y h = refl
 
-enough : (j k before passed : ℕ) (bs : List ℕ) → length bs ≤ j → length bs ≤ k → walkAtMost j before passed bs ≡ walkAtMost k before passed bs
+enough : (j k before passed : ℕ) (bs : List ℕ) → length bs ≤ j → length bs ≤ k
+    → walkAtMost j before passed bs ≡ walkAtMost k before passed bs
 unfolding walkAtMost
 enough zero zero before passed bs h l = refl
 enough zero (suc k) before passed [] h l = refl
@@ -45,11 +46,13 @@ unfolding walkBehind walkAtMost
 walk-end before passed = refl
 
 pub walk-on : (before passed : ℕ) (bs : List ℕ) → 0 < length bs
-    → walkBehind before passed bs ≡ atEntry (walkRefusal before bs) passed (walkBehind (routeOf (records bs)) (suc passed) (drop (length (bytes (records bs))) bs))
+    → walkBehind before passed bs
+    ≡ atEntry (walkRefusal before bs) passed (walkBehind (routeOf (records bs)) (suc passed) (drop (length (bytes (records bs))) bs))
 unfolding walkBehind walkAtMost
 walk-on before passed [] h = absurd (not-suc-le-zero h)
 walk-on before passed (b ∷ bs) h =
     same-onwards (walkRefusal before (b ∷ bs)) passed _ _
-    (λ z. enough (length bs) (length (drop (length (bytes (records (b ∷ bs)))) (b ∷ bs))) (routeOf (records (b ∷ bs))) (suc passed) (drop (length (bytes (records (b ∷ bs)))) (b ∷ bs))
+    (λ z. enough (length bs) (length (drop (length (bytes (records (b ∷ bs)))) (b ∷ bs))) (routeOf (records (b ∷ bs))) (suc passed)
+        (drop (length (bytes (records (b ∷ bs)))) (b ∷ bs))
     (omega (arith, passed-some before (records (b ∷ bs)) z, length-drop (length (bytes (records (b ∷ bs)))) (b ∷ bs)))
     (omega arith))
