@@ -1,5 +1,7 @@
 pub mod Demand3
+pub mod OverTheCalls
 pub mod Refuted
+pub mod StarredRows
 pub mod SignRows
 pub mod OneGiven
 pub mod Sample
