@@ -1,14 +1,13 @@
 -- What the calls' contracts say of whole buffers, from what the inner functions give on the parts that they are lent.
 -- Assumes nothing.
 use mathlib.Core.Path.{_≡_, refl, sym, ap, ap₂, _∙_}
-use mathlib.Core.Bool.{true, cond}
+use mathlib.Core.Bool.{true}
 use mathlib.Core.List.{List, [], _∷_}
 use Prim.Native.Nat.{ℕ, _+_, _*_, _^_, _<_, _≤_}
 use native.Mathlib.Nat.{lt-of-lt-of-le}
-use native.Mathlib.Decide.{ℕ-discrete}
 use lib.Dec.{ltb}
 use lib.Pow.{pow-mono}
-use borrow.Author.Tests.{lt-ltb, le-ltb, ltb-true}
+use borrow.Author.Tests.{ltb-true}
 use lib.ListN.{length, take}
 use Rattle.ring.specs.declared.State.{State}
 use Rattle.ring.specs.declared.Choice.{Choice}
@@ -20,11 +19,13 @@ use Rattle.ring.proofs.Value.{value-cong, product-cong}
 use Rattle.ring.proofs.Substitute.{substitute-cong, forUnknowns-cong}
 use Rattle.ring.proofs.Table.{table-cong, present-take, held-take, length-table}
 use Rattle.ring.proofs.Bool.{and-left, and-right}
-use Rattle.tables.specs.Questions.{asks, firstNo, tableQuestions, reads, inRange}
+use Rattle.tables.specs.declared.Question.the-variants.{Range}
+use Rattle.tables.specs.Questions.{asks, firstNo, reads, writes, roomQuestions, bitQuestions, bufferQuestions, inRange}
 use Rattle.tables.proofs.FirstNo.{yes-to}
-use Rattle.tables.proofs.Questions.{tableRefusal, one-table, table-yes, table-no, fine}
-use Rattle.calls.specs.GONE.{valueRefusal}
+use Rattle.tables.proofs.Answered.{givesNothing}
+use Rattle.calls.specs.Questions.{valueQuestions, pairQuestions, substituteQuestions}
 use Rattle.calls.specs.Operations.{valueAt, sumTable, productTable, substituteTable}
+use Rattle.calls.proofs.Buffers.{Readable, TablesYes, tables-yes}
 
 module _ (u g k : ℕ) (a b : List ℕ) (e : k ≡ 2 ^ (u + g)) where
   -- the sum and the product of the parts that count
@@ -57,29 +58,6 @@ module _ (u g k : ℕ) (a b : List ℕ) (e : k ≡ 2 ^ (u + g)) where
   unfolding substituteTable
   length-substitute = e ∙ sym (length-table (u + g) _)
 
--- the value's questions: those of its one table, then 16; found is the number that the code has for the former
-module _ (u g : ℕ) (t : List ℕ) (state : State) (choice : Choice) (found : ℕ) (e : found ≡ tableRefusal u g t [] 0 0 0) where
-  pub value-refused : (found ≡ 0 → ⊥) → found ≡ valueRefusal u g t state choice
-  unfolding valueRefusal
-  value-refused n = table-no u g (reads 1 t ∷ []) _ found (e ∙ one-table u g t) n
-
-  module _ (z : found ≡ 0) where
-    then-16 : valueRefusal u g t state choice ≡ cond (inRange u g state choice) 0 16
-    unfolding valueRefusal firstNo
-    then-16 = table-yes u g (reads 1 t ∷ []) (asks 16 (inRange u g state choice) ∷ []) (sym (one-table u g t) ∙ sym e ∙ z)
-
-    pub state-refused : (k : ℕ) → k ≡ 2 ^ g → k ≤ state .0 → 16 ≡ valueRefusal u g t state choice
-    unfolding inRange
-    state-refused k ek h = sym (then-16 ∙ rw (le-ltb (state .0) (2 ^ g) (rw ek at h)))
-
-    pub choice-refused : (k l : ℕ) → k ≡ 2 ^ g → state .0 < k → l ≡ 2 ^ u → l ≤ choice .0 → 16 ≡ valueRefusal u g t state choice
-    unfolding inRange
-    choice-refused k l ek h el i = sym (then-16 ∙ rw (lt-ltb (state .0) (2 ^ g) (rw ek at h), le-ltb (choice .0) (2 ^ u) (rw el at i)))
-
-    pub value-yes : (k l : ℕ) → k ≡ 2 ^ g → state .0 < k → l ≡ 2 ^ u → choice .0 < l → 0 ≡ valueRefusal u g t state choice
-    unfolding inRange
-    value-yes k l ek h el i = sym (then-16 ∙ rw (lt-ltb (state .0) (2 ^ g) (rw ek at h), lt-ltb (choice .0) (2 ^ u) (rw el at i)))
-
 -- what no refusal of the value tells
 pub record Askable (u g : ℕ) (t : List ℕ) (state : State) (choice : Choice) : Type 0 where
   pub small : u + g ≤ 10
@@ -87,21 +65,54 @@ pub record Askable (u g : ℕ) (t : List ℕ) (state : State) (choice : Choice) 
   pub state-fits : state .0 < 2 ^ g
   pub choice-fits : choice .0 < 2 ^ u
 
-pub askable : (u g : ℕ) (t : List ℕ) (state : State) (choice : Choice) → valueRefusal u g t state choice ≡ 0 → Askable u g t state choice
-unfolding valueRefusal inRange
-askable u g t state choice z = go (ℕ-discrete (firstNo (tableQuestions u g (reads 1 t ∷ []))) 0)
-  where
-    go : Dec (firstNo (tableQuestions u g (reads 1 t ∷ [])) ≡ 0) → Askable u g t state choice
-    go (no n) = absurd (n (table-no u g (reads 1 t ∷ []) (asks 16 (inRange u g state choice) ∷ []) _ refl n ∙ z))
-    go (yes y) =
-        let f = fine u g t [] 0 0 0 (one-table u g t ∙ y) in
-        let r : inRange u g state choice ≡ true = yes-to _ 0 15 (sym (then-16 u g t state choice 0 (sym (one-table u g t ∙ y)) refl) ∙ z) .0 in
-        record {
-          small = f .small;
-          room = f .first-room;
-          state-fits = ltb-true _ _ (and-left (ltb (state .0) (2 ^ g)) _ r);
-          choice-fits = ltb-true _ _ (and-right (ltb (state .0) (2 ^ g)) _ r);
-        }
+pub askable : (u g : ℕ) (t : List ℕ) (state : State) (choice : Choice) → firstNo (valueQuestions u g t state choice) ≡ 0 → Askable u g t state choice
+unfolding valueQuestions inRange
+askable u g t state choice z =
+    let yes-all = tables-yes u g (reads (2 ^ (u + g)) t ∷ []) (asks Range (inRange u g state choice) ∷ []) z in
+    let r : inRange u g state choice ≡ true = yes-to Range (inRange u g state choice) [] [] (yes-all .further) .0 in
+    record {
+      small = yes-all .small;
+      room = yes-all .lent-well .0 .room;
+      state-fits = ltb-true _ _ (and-left (ltb (state .0) (2 ^ g)) _ r);
+      choice-fits = ltb-true _ _ (and-right (ltb (state .0) (2 ^ g)) _ r);
+    }
+
+-- what no refusal of a call tells that reads two buffers, k bytes of the second, and writes one table
+pub record PairYes (u g k : ℕ) (a b : List ℕ) (size : ℕ) : Type 0 where
+  pub unknowns : u ≤ 6
+  pub small : u + g ≤ 10
+  pub first : Readable (2 ^ (u + g)) a
+  pub second : Readable k b
+  pub room : 2 ^ (u + g) ≤ size
+
+buffers-yes : (u g k : ℕ) (a b : List ℕ) (size : ℕ)
+    → TablesYes u g (reads (2 ^ (u + g)) a ∷ reads k b ∷ writes (2 ^ (u + g)) size ∷ []) [] → PairYes u g k a b size
+buffers-yes u g k a b size f =
+    record { unknowns = f .unknowns; small = f .small; first = f .lent-well .0; second = f .lent-well .1 .0; room = f .lent-well .1 .1 .0 }
+
+pub pair-yes : (u g : ℕ) (a b : List ℕ) (size : ℕ) → firstNo (pairQuestions u g a b size) ≡ 0 → PairYes u g (2 ^ (u + g)) a b size
+unfolding pairQuestions bufferQuestions roomQuestions bitQuestions
+pair-yes u g a b size z = buffers-yes u g (2 ^ (u + g)) a b size (tables-yes u g (reads (2 ^ (u + g)) a ∷ reads (2 ^ (u + g)) b ∷ writes (2 ^ (u + g)) size ∷ []) [] z)
+
+pub substitute-yes : (u g : ℕ) (condition handed : List ℕ) (size : ℕ) → firstNo (substituteQuestions u g condition handed size) ≡ 0
+    → PairYes u g (u * 2 ^ (u + g)) condition handed size
+unfolding substituteQuestions bufferQuestions roomQuestions bitQuestions
+substitute-yes u g condition handed size z =
+    buffers-yes u g (u * 2 ^ (u + g)) condition handed size
+    (tables-yes u g (reads (2 ^ (u + g)) condition ∷ reads (u * 2 ^ (u + g)) handed ∷ writes (2 ^ (u + g)) size ∷ []) [] z)
+
+-- the no to each question of these calls gives its number alone
+pub value-plain : (u g : ℕ) (t : List ℕ) (state : State) (choice : Choice) → givesNothing (valueQuestions u g t state choice) ≡ true
+unfolding valueQuestions bufferQuestions roomQuestions bitQuestions
+value-plain u g t state choice = refl
+
+pub pair-plain : (u g : ℕ) (a b : List ℕ) (size : ℕ) → givesNothing (pairQuestions u g a b size) ≡ true
+unfolding pairQuestions bufferQuestions roomQuestions bitQuestions
+pair-plain u g a b size = refl
+
+pub substitute-plain : (u g : ℕ) (condition handed : List ℕ) (size : ℕ) → givesNothing (substituteQuestions u g condition handed size) ≡ true
+unfolding substituteQuestions bufferQuestions roomQuestions bitQuestions
+substitute-plain u g condition handed size = refl
 
 -- the value of the part that counts is the value of the whole, at the point that the code forms
 pub value-whole : (u g k l p : ℕ) (t : List ℕ) (state : State) (choice : Choice) → k ≡ 2 ^ (u + g) → l ≡ 2 ^ u → p ≡ state .0 * l + choice .0

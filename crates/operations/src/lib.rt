@@ -1,27 +1,24 @@
 // The calls on tables: the value of a table, the sum and the product of two, and handed polynomials put into a condition.
 // Public calls, none with a `requires`: `value`, `sum`, `product`, `substitute`. The other functions are theirs alone.
 // They ask the questions and lend the tables that have passed them; the work is `polynomials`'. Their contracts cite the polynomials' own definitions.
+use calls::Outcome;
+use calls::Valued;
 use ring::Choice;
 use ring::State;
-use calls::Outcome;
+use tables::Question;
 ghost use mathlib.Core.Path.{_≡_};
 ghost use mathlib.Core.Bool.{_&&_};
 ghost use mathlib.Core.List.{[], _∷_};
-ghost use Prim.Native.Nat.{_^_};
+ghost use Prim.Native.Nat.{_+_, _^_, _≤_};
 ghost use lib.Dec.{eqb};
 ghost use lib.ListN.{length};
 ghost use Rattle.ring.specs.Letters.{digit};
 ghost use Rattle.ring.specs.Polynomial.{value, within};
 ghost use Rattle.ring.specs.Table.{present};
-ghost use Rattle.tables.specs.Answered.{reply, after, outcome};
-ghost use Rattle.calls.specs.Operations.{valued, valueAt, sumTable, productTable, substituteTable};
-ghost use Rattle.calls.specs.GONE.{valueRefusal, pairRefusal, substituteRefusal};
-
-// What the call for a value answers: the value, 0 or 1, or the number of the first no.
-pub enum Valued {
-    Value(u8),
-    Refused(u8),
-}
+ghost use Rattle.tables.specs.Questions.{firstNo, inRange};
+ghost use Rattle.tables.specs.Answered.{answered};
+ghost use Rattle.calls.specs.Questions.{valueQuestions, pairQuestions, substituteQuestions};
+ghost use Rattle.calls.specs.Operations.{outcome, valued, valueCall, sumCall, productCall, substituteCall};
 
 // Monomial m is present, by its byte, and its letters are all 1 at the point p.
 fn counts(byte: u8, m: usize, p: usize) -> bool
@@ -42,90 +39,112 @@ fn value_of(t: &[u8], n: usize, p: usize) -> u8
     if odd { 1 } else { 0 }
 }
 
-// The first no of 1, 4, 8 and 16, or 0.
-fn value_refusal(u: usize, g: usize, t: &[u8], state: State, choice: Choice) -> u8
-    ensures { λ r. ⌜ r ≡ valueRefusal u g (now (t .entry)) state choice ⌝ }
+// Question 16, once question 1 is answered yes.
+fn in_range(u: usize, g: usize, state: State, choice: Choice) -> bool
+    requires { ⌜ u + g ≤ 10 ⌝ }
+    ensures { λ r. ⌜ r ≡ inRange u g state choice ⌝ }
 {
-    let none = [0u8; 0];
-    let q = tables::table_refusal(u, g, t, &none, 0, 0, 0);
-    if q != 0 {
-        return q;
-    }
     if tables::pow2(g) <= state.0 {
-        return tables::RANGE;
+        return false;
     }
-    if tables::pow2(u) <= choice.0 {
-        return tables::RANGE;
+    choice.0 < tables::pow2(u)
+}
+
+// The first no, or 0.
+fn value_refusal(u: usize, g: usize, t: &[u8], state: State, choice: Choice) -> u8
+    ensures { λ r. ⌜ r ≡ firstNo (valueQuestions u g (now (t .entry)) state choice) ⌝ }
+{
+    if !tables::letters_fit(u, g) {
+        return tables::number(Question::Letters);
     }
-    0
+    let k = tables::pow2(u + g);
+    let q = tables::ask(0, Question::Room, tables::has_room(k, t.len()));
+    let q = tables::ask(q, Question::Bits, tables::holds_bits(k, t));
+    tables::ask(q, Question::Range, in_range(u, g, state, choice))
+}
+
+// The first no of a call that joins two tables into a third, or 0.
+fn pair_refusal(u: usize, g: usize, a: &[u8], b: &[u8], room: usize) -> u8
+    ensures { λ r. ⌜ r ≡ firstNo (pairQuestions u g (now (a .entry)) (now (b .entry)) room) ⌝ }
+{
+    if !tables::letters_fit(u, g) {
+        return tables::number(Question::Letters);
+    }
+    let k = tables::pow2(u + g);
+    let q = tables::ask(0, Question::Room, tables::has_room(k, a.len()));
+    let q = tables::ask(q, Question::Room, tables::has_room(k, b.len()));
+    let q = tables::ask(q, Question::Room, tables::has_room(k, room));
+    let q = tables::ask(q, Question::Bits, tables::holds_bits(k, a));
+    tables::ask(q, Question::Bits, tables::holds_bits(k, b))
+}
+
+// The first no of a call that puts handed polynomials into a condition, or 0.
+fn substitute_refusal(u: usize, g: usize, condition: &[u8], handed: &[u8], room: usize) -> u8
+    ensures { λ r. ⌜ r ≡ firstNo (substituteQuestions u g (now (condition .entry)) (now (handed .entry)) room) ⌝ }
+{
+    if !tables::letters_fit(u, g) {
+        return tables::number(Question::Letters);
+    }
+    let k = tables::pow2(u + g);
+    let all = u * k;
+    let q = tables::ask(0, Question::Room, tables::has_room(k, condition.len()));
+    let q = tables::ask(q, Question::Room, tables::has_room(all, handed.len()));
+    let q = tables::ask(q, Question::Room, tables::has_room(k, room));
+    let q = tables::ask(q, Question::Bits, tables::holds_bits(k, condition));
+    tables::ask(q, Question::Bits, tables::holds_bits(all, handed))
 }
 
 // The value of a table at a state and a choice.
-pub fn value(unknowns: usize, givens: usize, t: &[u8], state: State, choice: Choice) -> Valued
-    ensures { λ r. ⌜ valued r ≡ reply (valueRefusal unknowns givens (now (t .entry)) state choice) (valueAt unknowns givens (now (t .entry)) state choice ∷ []) ⌝ }
+pub fn value(u: usize, g: usize, t: &[u8], state: State, choice: Choice) -> Valued
+    ensures { λ r. ⌜ answered (valued r) [] ≡ valueCall u g (now (t .entry)) state choice ⌝ }
 {
-    let q = value_refusal(unknowns, givens, t, state, choice);
+    let q = value_refusal(u, g, t, state, choice);
     if q != 0 {
         return Valued::Refused(q);
     }
-    let n = unknowns + givens;
+    let n = u + g;
     let k = tables::pow2(n);
-    let p = state.0 * tables::pow2(unknowns) + choice.0;
+    let p = state.0 * tables::pow2(u) + choice.0;
     Valued::Value(value_of(&t[..k], n, p))
 }
 
 // The sum of two tables, into a third.
-pub fn sum(unknowns: usize, givens: usize, a: &[u8], b: &[u8], out: &mut [u8]) -> Outcome
-    ensures { λ r. ⌜ outcome r ≡ reply (pairRefusal unknowns givens (now (a .entry)) (now (b .entry)) (now (out .entry))) [] ⌝ }
-    ensures { λ _. ⌜ now (out .exit) ≡ after (pairRefusal unknowns givens (now (a .entry)) (now (b .entry)) (now (out .entry))) (sumTable unknowns givens (now (a .entry)) (now (b .entry))) (now (out .entry)) ⌝ }
+pub fn sum(u: usize, g: usize, a: &[u8], b: &[u8], out: &mut [u8]) -> Outcome
+    ensures { λ r. ⌜ answered (outcome r) (now (out .exit) ∷ []) ≡ sumCall u g (now (a .entry)) (now (b .entry)) (now (out .entry)) ⌝ }
 {
-    let q = tables::table_refusal(unknowns, givens, a, b, 1, out.len(), 1);
+    let q = pair_refusal(u, g, a, b, out.len());
     if q != 0 {
         return Outcome::Refused(q);
     }
-    let k = tables::pow2(unknowns + givens);
-    polynomials::add(unknowns + givens, &a[..k], &b[..k], &mut out[..k]);
+    let k = tables::pow2(u + g);
+    polynomials::add(u + g, &a[..k], &b[..k], &mut out[..k]);
     Outcome::Done
 }
 
 // The product of two tables, into a third.
-pub fn product(unknowns: usize, givens: usize, a: &[u8], b: &[u8], out: &mut [u8]) -> Outcome
-    ensures { λ r. ⌜ outcome r ≡ reply (pairRefusal unknowns givens (now (a .entry)) (now (b .entry)) (now (out .entry))) [] ⌝ }
-    ensures { λ _. ⌜ now (out .exit) ≡ after (pairRefusal unknowns givens (now (a .entry)) (now (b .entry)) (now (out .entry))) (productTable unknowns givens (now (a .entry)) (now (b .entry))) (now (out .entry)) ⌝ }
+pub fn product(u: usize, g: usize, a: &[u8], b: &[u8], out: &mut [u8]) -> Outcome
+    ensures { λ r. ⌜ answered (outcome r) (now (out .exit) ∷ []) ≡ productCall u g (now (a .entry)) (now (b .entry)) (now (out .entry)) ⌝ }
 {
-    let room = out.len();
-    let q = tables::table_refusal(unknowns, givens, a, b, 1, room, 1);
+    let q = pair_refusal(u, g, a, b, out.len());
     if q != 0 {
         return Outcome::Refused(q);
     }
-    let k = tables::pow2(unknowns + givens);
-    polynomials::multiply(unknowns + givens, &a[..k], &b[..k], &mut out[..k]);
+    let k = tables::pow2(u + g);
+    polynomials::multiply(u + g, &a[..k], &b[..k], &mut out[..k]);
     Outcome::Done
 }
 
 // Handed polynomials put for the unknowns of a condition, all at once; the givens stay.
-pub fn substitute(
-    unknowns: usize,
-    givens: usize,
-    condition: &[u8],
-    handed: &[u8],
-    out: &mut [u8],
-) -> Outcome
-    ensures { λ r. ⌜ outcome r ≡ reply (substituteRefusal unknowns givens (now (condition .entry)) (now (handed .entry)) (now (out .entry))) [] ⌝ }
-    ensures { λ _. ⌜ now (out .exit) ≡ after (substituteRefusal unknowns givens (now (condition .entry)) (now (handed .entry)) (now (out .entry))) (substituteTable unknowns givens (now (condition .entry)) (now (handed .entry))) (now (out .entry)) ⌝ }
+pub fn substitute(u: usize, g: usize, condition: &[u8], handed: &[u8], out: &mut [u8]) -> Outcome
+    ensures { λ r. ⌜ answered (outcome r) (now (out .exit) ∷ [])
+        ≡ substituteCall u g (now (condition .entry)) (now (handed .entry)) (now (out .entry)) ⌝ }
 {
-    let q = tables::table_refusal(unknowns, givens, condition, handed, unknowns, out.len(), 1);
+    let q = substitute_refusal(u, g, condition, handed, out.len());
     if q != 0 {
         return Outcome::Refused(q);
     }
-    let k = tables::pow2(unknowns + givens);
-    let all = unknowns * k;
-    polynomials::substitute(
-        unknowns,
-        givens,
-        &condition[..k],
-        &handed[..all],
-        &mut out[..k],
-    );
+    let k = tables::pow2(u + g);
+    let all = u * k;
+    polynomials::substitute(u, g, &condition[..k], &handed[..all], &mut out[..k]);
     Outcome::Done
 }

@@ -1,33 +1,31 @@
 -- `operations::substitute` meets its contract: refused with nothing changed, or the handed polynomials put into the part that counts.
 -- Assumes nothing.
 use mathlib.Core.Path.{sym, _∙_}
-use Prim.Native.Nat.{_*_, _≤_}
+use Prim.Native.Nat.{_+_, _*_, _^_, _≤_}
 use native.Mathlib.Omega.{arith}
 use borrow.Author.Needs.{needs}
 use lib.ListN.{length}
 use lib.Seq.{length-take-le}
-use Rattle.tables.proofs.Questions.{Fine, fine, first-table, second-length, second-are-bits}
-use Rattle.tables.proofs.Reply.{call-refused, call-done}
-use Rattle.calls.specs.GONE.{substituteRefusal}
-use Rattle.operations.proofs.Calls.{substitute-whole, length-substitute}
+use Rattle.tables.proofs.Answered.{call-refused, call-done}
+use Rattle.calls.proofs.Buffers.{readable-table}
+use Rattle.operations.proofs.Calls.{PairYes, substitute-yes, substitute-plain, substitute-whole, length-substitute}
 use Rattle.operations.proofs.substitute.Statement.{statement}
 use Rattle.operations.proofs.substitute.Tie as tie
 
 returns : tie.Need-returns
-unfolding substituteRefusal
-returns c = call-refused _ _ (c .before .table-refusal .ensures) _ _ _ (c .if1 .taken)
+returns c = call-refused _ _ _ _ (substitute-plain _ _ _ _ _) (c .before .substitute-refusal .ensures) (c .if1 .taken)
 
 -- no question is answered no
 all-yes : (c : tie.Else1)
     → let args = c .before .before .before .before .before .args in
-    Fine (args .unknowns) (args .givens) (args .condition .now) (args .handed .now) (args .unknowns) (length (args .out .now)) 1
-all-yes c = fine _ _ _ _ _ _ _ (sym (c .before .table-refusal .ensures) ∙ c .if1 .left)
+    PairYes (args .u) (args .g) (args .u * 2 ^ (args .u + args .g)) (args .condition .now) (args .handed .now) (length (args .out .now))
+all-yes c = substitute-yes _ _ _ _ _ (sym (c .before .substitute-refusal .ensures) ∙ c .if1 .left)
 
 -- the handed tables lie within their buffer
 handed-room : (c : tie.After-pow2)
     → let args = c .before .before .before .before .before .before .args in
-    args .unknowns * c .pow2 .result ≤ length (args .handed .now)
-handed-room c = rw (c .pow2 .ensures) (all-yes (c .before) .second-room)
+    args .u * c .pow2 .result ≤ length (args .handed .now)
+handed-room c = rw (c .pow2 .ensures) (all-yes (c .before) .second .room)
 
 substitute-requires : tie.Need-substitute-requires
 substitute-requires c κs =
@@ -36,19 +34,18 @@ substitute-requires c κs =
     let e = known .pow2 .ensures in (
       f .unknowns,
       f .small,
-      first-table _ _ _ _ _ _ _ f _ e,
-      second-length _ _ _ _ _ _ _ f _ e,
-      second-are-bits _ _ _ _ _ _ _ f _ e,
-      length-take-le _ _ (omega (arith, e, f .result-room)) ∙ e,
+      readable-table _ _ _ e (f .first),
+      rw e (length-take-le _ _ (f .second .room)),
+      rw e (f .second .bits),
+      length-take-le _ _ (omega (arith, e, f .room)) ∙ e,
     )
 
 returns-2 : tie.Need-returns-2
-unfolding substituteRefusal
 returns-2 c =
     let worked = c .before .before in
     let known = worked .before .before .before .before in
     let asked = known .before .before in
-    call-done _ _ (asked .table-refusal .ensures) _ _ _ _ _ (known .before .if1 .left)
+    call-done _ _ _ _ _ _ (sym (asked .substitute-refusal .ensures) ∙ known .before .if1 .left)
     (worked .substitute .ensures ∙ substitute-whole _ _ _ _ _ (known .pow2 .ensures)) (length-substitute _ _ _ _ _ (known .pow2 .ensures))
 
 pub substitute-spec : {M : Type 1} → statement M
@@ -60,10 +57,10 @@ substitute-spec =
     (λ c. omega (arith, all-yes c .small))
     (λ c κs. all-yes c .small)
     (λ c. omega (arith, handed-room c))
-    (λ c. sym (length-take-le _ _ (omega (arith, c .before .pow2 .ensures, all-yes (c .before .before) .first-room))))
+    (λ c. sym (length-take-le _ _ (omega (arith, c .before .pow2 .ensures, all-yes (c .before .before) .first .room))))
     (λ c. sym (length-take-le _ _ (handed-room (c .before .before))))
-    (λ c. omega (arith, c .before .before .pow2 .ensures, all-yes (c .before .before .before) .result-room))
-    (λ c. sym (length-take-le _ _ (omega (arith, c .before .before .before .pow2 .ensures, all-yes (c .before .before .before .before) .result-room))))
+    (λ c. omega (arith, c .before .before .pow2 .ensures, all-yes (c .before .before .before) .room))
+    (λ c. sym (length-take-le _ _ (omega (arith, c .before .before .before .pow2 .ensures, all-yes (c .before .before .before .before) .room))))
     substitute-requires
     (λ c. search needs)
     returns-2)

@@ -6,16 +6,16 @@ use Prim.Native.Nat.{_*_, _+_, _<_}
 use native.Mathlib.Omega.{arith}
 use borrow.Author.Needs.{needs}
 use lib.Seq.{length-take-le}
-use Rattle.tables.specs.Answered.{accepted}
-use Rattle.tables.proofs.Reply.{reply-refused, reply-accepted}
-use Rattle.operations.proofs.Calls.{Askable, askable, point-small, value-whole}
+use Rattle.tables.specs.Answered.{answered, accepted}
+use Rattle.tables.proofs.Answered.{call-refused, call-done-none}
+use Rattle.operations.proofs.Calls.{Askable, askable, point-small, value-plain, value-whole}
 use Rattle.operations.proofs.value.Statement.{statement}
 use Rattle.operations.proofs.value.Tie as tie
 
 -- no question is answered no
 all-yes : (c : tie.Else1)
     → let args = c .before .before .before .args in
-    Askable (args .unknowns) (args .givens) (args .t .now) (args .state) (args .choice)
+    Askable (args .u) (args .g) (args .t .now) (args .state) (args .choice)
 all-yes c = askable _ _ _ _ _ (sym (c .before .value-refusal .ensures) ∙ c .if1 .left)
 
 -- the point is small
@@ -28,15 +28,15 @@ returns-2 : tie.Need-returns-2
 returns-2 c =
     let known = c .before .before .before .before in
     let asked = known .before .before .before in
-    ap (λ v. accepted (v ∷ [])) (c .value-of .ensures ∙ value-whole _ _ _ _ _ _ _ _ (known .before .pow2 .ensures) (known .pow22 .ensures) refl)
-    ∙ reply-accepted _ _ (asked .value-refusal .ensures) _ (known .before .before .if1 .left)
+    ap (λ v. answered (accepted (v ∷ [])) []) (c .value-of .ensures ∙ value-whole _ _ _ _ _ _ _ _ (known .before .pow2 .ensures) (known .pow22 .ensures) refl)
+    ∙ call-done-none _ _ (sym (asked .value-refusal .ensures) ∙ known .before .before .if1 .left)
 
 pub value-spec : {M : Type 1} → statement M
 value-spec =
     tie.close
     (tie.spec
     (λ c κs. search needs)
-    (λ c. reply-refused _ _ (c .before .value-refusal .ensures) _ (c .if1 .taken))
+    (λ c. call-refused _ _ _ _ (value-plain _ _ _ _ _) (c .before .value-refusal .ensures) (c .if1 .taken))
     (λ c. omega (arith, all-yes c .small))
     (λ c κs. all-yes c .small)
     (λ c κs. omega (arith, all-yes (c .before) .small))

@@ -1,45 +1,50 @@
--- `operations::value_refusal` meets its contract: the questions of the table, then the state's and the choice's range.
+-- `operations::value_refusal` meets its contract: question 1, and then the chain of those on the table, the state and the choice.
 -- Assumes nothing.
-use mathlib.Core.Path.{sym, _∙_}
-use Prim.Native.Nat.{_+_, _≤_}
+use mathlib.Core.Path.{_≡_}
+use mathlib.Core.Bool.{true}
 use native.Mathlib.Omega.{arith}
 use borrow.Author.Needs.{needs}
-use Rattle.tables.proofs.Questions.{fine}
-use Rattle.operations.proofs.Calls.{value-refused, state-refused, choice-refused, value-yes}
+use Rattle.tables.specs.Questions.{lettersFit, roomQuestions, bitQuestions, bufferQuestions}
+use Rattle.tables.proofs.FirstNo.{ask-then, ask-last}
+use Rattle.tables.proofs.Questions.{failed, passed, letters-small}
+use Rattle.calls.specs.Questions.{valueQuestions}
+use Rattle.calls.proofs.Buffers.{letters-no, letters-yes}
 use Rattle.operations.proofs.value_refusal.Statement.{statement}
 use Rattle.operations.proofs.value_refusal.Tie as tie
 
-small : (c : tie.Else1) → c .before .before .before .before .args .u + c .before .before .before .before .args .g ≤ 10
-small c = fine _ _ _ _ _ _ _ (sym (c .before .table-refusal .ensures) ∙ c .if1 .left) .small
+returns : tie.Need-returns
+unfolding valueQuestions
+returns c = letters-no _ _ _ _ (c .number .ensures) (failed (c .before .before .letters-fit .ensures) (c .before .if1 .taken))
+
+-- question 1 is passed
+letters : (c : tie.Else1) → lettersFit (c .before .before .before .args .u) (c .before .before .before .args .g) ≡ true
+letters c = passed (c .before .letters-fit .ensures) (c .if1 .left)
 
 returns-2 : tie.Need-returns-2
+unfolding valueQuestions bufferQuestions roomQuestions bitQuestions
 returns-2 c =
-    let asked = c .before .before .before in
-    state-refused _ _ _ _ _ _ (asked .before .table-refusal .ensures) (asked .if1 .left) _ (c .before .before .pow2 .ensures) (c .if2 .taken)
-
-returns-3 : tie.Need-returns-3
-returns-3 c =
-    let ranged = c .before .before .before in
-    let asked = ranged .before .before .before in
-    choice-refused _ _ _ _ _ _ (asked .before .table-refusal .ensures) (asked .if1 .left) _ _ (ranged .before .before .pow2 .ensures) (ranged .if2 .left)
-    (c .before .before .pow22 .ensures) (c .if3 .taken)
-
-returns-4 : tie.Need-returns-4
-returns-4 c =
-    let ranged = c .before .before .before in
-    let asked = ranged .before .before .before in
-    value-yes _ _ _ _ _ _ (asked .before .table-refusal .ensures) (asked .if1 .left) _ _ (ranged .before .before .pow2 .ensures) (ranged .if2 .left)
-    (c .before .before .pow22 .ensures) (c .if3 .left)
+    let second = c .before .before in
+    let first = second .before .before in
+    let powered = first .before .before in
+    rw (← powered .pow2 .ensures)
+    (letters-yes _ _ _ _ (letters (powered .before))
+    (ask-then _ _ _ _ _ _ _ (first .ask .ensures) (first .before .has-room .ensures)
+    (ask-then _ _ _ _ _ _ _ (second .ask2 .ensures) (second .before .holds-bits .ensures)
+    (ask-last _ _ _ _ _ (c .ask3 .ensures) (c .before .in-range .ensures)))))
 
 pub value-refusal-spec : {M : Type 1} → statement M
 value-refusal-spec =
     tie.close
     (tie.spec
-    (λ c. search needs)
     (λ c κs. search needs)
-    (λ c. value-refused _ _ _ _ _ _ (c .before .table-refusal .ensures) (c .if1 .taken))
-    (λ c κs. omega (arith, small c))
-    returns-2
-    (λ c κs. omega (arith, small (c .before .before .before)))
-    returns-3
-    returns-4)
+    (λ c κs. search needs)
+    returns
+    (λ c. omega (arith, letters-small _ _ (letters c)))
+    (λ c κs. letters-small _ _ (letters c))
+    (λ c κs. search needs)
+    (λ c κs. search needs)
+    (λ c κs. search needs)
+    (λ c κs. search needs)
+    (λ c κs. letters-small _ _ (letters (c .before .before .before .before .before)))
+    (λ c κs. search needs)
+    returns-2)
