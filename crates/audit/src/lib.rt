@@ -1,30 +1,25 @@
 // The audit of an archive entry: it is read, its condition is solved afresh, and the two are compared, by values that stand 64 to a word.
 // `audit` is the public call of the library; the other functions are its own, and what these require it meets.
+use calls::Heading;
+use calls::Read;
+use calls::Verdict;
+use ring::State;
+use tables::Question;
 ghost use mathlib.Core.Path.{_≡_};
-ghost use mathlib.Core.List.{List};
+ghost use mathlib.Core.List.{List, []};
 ghost use Prim.Native.Nat.{ℕ, _+_, _-_, _*_, _^_, _≤_};
 ghost use lib.ListN.{length};
 ghost use Rattle.ring.specs.Polynomial.{Polynomial, value};
-ghost use Rattle.ring.specs.Table.{present, answerTable};
-ghost use Rattle.tables.specs.Questions.{firstNo};
+ghost use Rattle.ring.specs.Table.{answerTable};
+ghost use Rattle.tables.specs.Answered.{answered};
+ghost use Rattle.words.specs.Words.{answerWords};
 ghost use Rattle.solution.specs.Condition.{defaultOrder};
 ghost use Rattle.solution.specs.Elimination.{solved, none, solve};
-ghost use Rattle.words.specs.Words.{answerWords};
-ghost use Rattle.entry.specs.Held.{records, heldVerdict};
-ghost use Rattle.entry.specs.Questions.{entryQuestions, sameBytes, sameVerdict, answersHold};
-ghost use Rattle.records.specs.Inner.Headings.{headingOf, said};
-ghost use Rattle.solver.specs.Inner.Methods.{verdict, solveWords};
-ghost use Rattle.calls.specs.GONE.{AreAnswers, auditReply, audited};
-use calls::Heading;
-use calls::Verdict;
-use ring::State;
-use calls::Verdict;
-
-// What the audit answers: what reading gives of an entry that passes, or the number of the first no.
-pub enum Audited {
-    Passed(Heading, Said),
-    Refused(u8),
-}
+ghost use Rattle.entry.specs.Held.{records};
+ghost use Rattle.entry.specs.Questions.{sameBytes, sameVerdict, answersHold};
+ghost use Rattle.calls.specs.Entries.{reading, auditCall};
+ghost use Rattle.solver.specs.Inner.Methods.{ordered, verdict, solveWords};
+ghost use Rattle.audit.specs.Inner.Answers.{AreAnswers, Audits};
 
 fn same_words(held: &[u64], fresh: &[u64]) -> bool
     requires { ⌜ length (now held) ≡ length (now fresh) ⌝ }
@@ -42,8 +37,10 @@ fn same_words(held: &[u64], fresh: &[u64]) -> bool
 
 // The answers held against those solved afresh, whose values stand in words: by values, an unknown at a time.
 fn same_values(u: usize, n: usize, held: &[u8], fresh: &[u64], own: &mut [u64]) -> bool
-    requires { ⌜ (u ≤ 6) × (n ≤ 10) × AreAnswers u n (now held) × (length (now fresh) ≡ u * 2 ^ (n - 6)) × (length (now own) ≡ 2 ^ (n - 6)) ⌝ }
-    ensures { λ r. ⌜ ((b : ℕ → Polynomial) → now (fresh .entry) ≡ answerWords u (2 ^ (n - 6)) (λ j. value n (b j)) → r ≡ sameBytes (now (held .entry)) (answerTable u n b)) ⌝ }
+    requires { ⌜ (u ≤ 6) × (n ≤ 10) × AreAnswers u n (now held)
+        × (length (now fresh) ≡ u * 2 ^ (n - 6)) × (length (now own) ≡ 2 ^ (n - 6)) ⌝ }
+    ensures { λ r. ⌜ ((b : ℕ → Polynomial) → now (fresh .entry) ≡ answerWords u (2 ^ (n - 6)) (λ j. value n (b j))
+        → r ≡ sameBytes (now (held .entry)) (answerTable u n b)) ⌝ }
 {
     let k = tables::pow2(n);
     let w = words::word_count(n);
@@ -71,8 +68,10 @@ fn same_answers(
     fresh: &[u64],
     own: &mut [u64],
 ) -> bool
-    requires { ⌜ (u ≤ 6) × (u + g ≤ 10) × AreAnswers u (u + g) (now held) × (length (now fresh) ≡ u * 2 ^ (u + g - 6)) × (length (now own) ≡ 2 ^ (u + g - 6)) ⌝ }
-    ensures { λ r. ⌜ ((order t : List ℕ) → verdict afresh (now (fresh .entry)) ≡ solveWords u g order (present t) → r ≡ sameVerdict (solved (now (held .entry))) (solve u g order t)) ⌝ }
+    requires { ⌜ (u ≤ 6) × (u + g ≤ 10) × AreAnswers u (u + g) (now held)
+        × (length (now fresh) ≡ u * 2 ^ (u + g - 6)) × (length (now own) ≡ 2 ^ (u + g - 6)) ⌝ }
+    ensures { λ r. ⌜ ((order t : List ℕ) → verdict afresh (now (fresh .entry)) ≡ solveWords (ordered u g order t)
+        → r ≡ sameVerdict (solved (now (held .entry))) (solve (ordered u g order t))) ⌝ }
 {
     match afresh {
         Verdict::Solved => same_values(u, u + g, held, fresh, own),
@@ -94,7 +93,7 @@ fn same_state(held: State, afresh: Verdict) -> bool
 fn answers_hold(
     bytes: &[u8],
     heading: Heading,
-    told: Said,
+    told: Verdict,
     order: &[usize],
     condition: &mut [u8],
     held: &mut [u8],
@@ -102,9 +101,12 @@ fn answers_hold(
     fresh: &mut [u64],
     own: &mut [u64],
 ) -> bool
-    requires { ⌜ (firstNo (entryQuestions (records (now bytes))) ≡ 0) × (heading ≡ headingOf (records (now bytes))) × (told ≡ said (heldVerdict (records (now bytes)))) × (now order ≡ defaultOrder (heading .unknowns)) ⌝ }
-    requires { ⌜ (length (now condition) ≡ 2 ^ (heading .unknowns + heading .givens)) × (length (now held) ≡ heading .unknowns * 2 ^ (heading .unknowns + heading .givens)) ⌝ }
-    requires { ⌜ (length (now values) ≡ 2 ^ (heading .unknowns + heading .givens - 6)) × (length (now fresh) ≡ heading .unknowns * 2 ^ (heading .unknowns + heading .givens - 6)) × (length (now own) ≡ 2 ^ (heading .unknowns + heading .givens - 6)) ⌝ }
+    requires { ⌜ Audits (now bytes) heading told × (now order ≡ defaultOrder (heading .unknowns)) ⌝ }
+    requires { ⌜ (length (now condition) ≡ 2 ^ (heading .unknowns + heading .givens))
+        × (length (now held) ≡ heading .unknowns * 2 ^ (heading .unknowns + heading .givens)) ⌝ }
+    requires { ⌜ (length (now values) ≡ 2 ^ (heading .unknowns + heading .givens - 6))
+        × (length (now fresh) ≡ heading .unknowns * 2 ^ (heading .unknowns + heading .givens - 6))
+        × (length (now own) ≡ 2 ^ (heading .unknowns + heading .givens - 6)) ⌝ }
     ensures { λ r. ⌜ r ≡ answersHold (records (now (bytes .entry))) ⌝ }
 {
     let u = heading.unknowns;
@@ -113,14 +115,14 @@ fn answers_hold(
     words::take_values(u + g, condition, values);
     let afresh = solver::solve_values(u, g, order, values, fresh);
     match told {
-        Said::Solved => same_answers(u, g, held, afresh, fresh, own),
-        Said::None(state) => same_state(state, afresh),
+        Verdict::Solved => same_answers(u, g, held, afresh, fresh, own),
+        Verdict::None(state) => same_state(state, afresh),
     }
 }
 
 // The scratch lives here: the tables of the entry, the condition's values, those of the answers solved afresh, and those of one answer held.
-fn holds_afresh(bytes: &[u8], heading: Heading, told: Said) -> bool
-    requires { ⌜ (firstNo (entryQuestions (records (now bytes))) ≡ 0) × (heading ≡ headingOf (records (now bytes))) × (told ≡ said (heldVerdict (records (now bytes)))) ⌝ }
+fn holds_afresh(bytes: &[u8], heading: Heading, told: Verdict) -> bool
+    requires { ⌜ Audits (now bytes) heading told ⌝ }
     ensures { λ r. ⌜ r ≡ answersHold (records (now (bytes .entry))) ⌝ }
 {
     let u = heading.unknowns;
@@ -149,17 +151,17 @@ fn holds_afresh(bytes: &[u8], heading: Heading, told: Said) -> bool
 }
 
 // Audits the entry that the bytes begin with.
-pub fn audit(bytes: &[u8]) -> Audited
-    ensures { λ r. ⌜ audited r ≡ auditReply (now (bytes .entry)) ⌝ }
+pub fn audit(bytes: &[u8]) -> Read
+    ensures { λ r. ⌜ answered (reading r) [] ≡ auditCall (now (bytes .entry)) ⌝ }
 {
     let survey = records::survey_entry(bytes);
     if survey.refusal != 0 {
-        return Audited::Refused(survey.refusal);
+        return Read::Refused(survey.refusal);
     }
     let heading = survey.heading;
-    let told = survey.said;
+    let told = survey.verdict;
     if !holds_afresh(bytes, heading, told) {
-        return Audited::Refused(tables::SOLVED);
+        return Read::Refused(tables::number(Question::Afresh));
     }
-    Audited::Passed(heading, told)
+    Read::Entry(heading, told)
 }

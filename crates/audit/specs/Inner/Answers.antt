@@ -1,8 +1,14 @@
--- An answer table as the audit compares it.
+-- What the audit's inner functions are handed.
 -- Assumes nothing.
 use mathlib.Core.Path.{_≡_}
 use mathlib.Core.List.{List}
 use Prim.Native.Nat.{ℕ}
+use Rattle.tables.specs.Questions.{firstNo}
+use Rattle.entry.specs.Held.{records, heldVerdict}
+use Rattle.calls.specs.declared.Heading.{Heading}
+use Rattle.calls.specs.declared.Verdict.{Verdict}
+use Rattle.calls.specs.Questions.{entryQuestions}
+use Rattle.records.specs.Inner.Headings.{headingOf, said}
 use Rattle.ring.specs.Polynomial.{Polynomial}
 use Rattle.ring.specs.Table.{answerTable}
 
@@ -10,3 +16,9 @@ use Rattle.ring.specs.Table.{answerTable}
 pub record AreAnswers (U n : ℕ) (t : List ℕ) : Type 0 where
   pub polynomials : ℕ → Polynomial
   pub are : t ≡ answerTable U n polynomials
+
+-- the heading of bytes that pass the questions which reading puts too, and what they say
+pub record Audits (bs : List ℕ) (heading : Heading) (told : Verdict) : Type 0 where
+  pub passed : firstNo (entryQuestions (records bs)) ≡ 0
+  pub headed : heading ≡ headingOf (records bs)
+  pub says : told ≡ said (heldVerdict (records bs))
