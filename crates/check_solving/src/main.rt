@@ -3,13 +3,20 @@
 use libc::STDIN_FILENO;
 use libc::STDOUT_FILENO;
 use calls::Solving;
+use calls::Verdict;
+
+fn show_verdict(verdict: Verdict) {
+    match verdict {
+        Verdict::Solved => {
+            io::write_all(STDOUT_FILENO, b"done");
+        }
+        Verdict::None(state) => cases::show_number(b"none", state.0),
+    }
+}
 
 fn show_solving(r: Solving, answers: &[u8]) {
     match r {
-        Solving::Solved => {
-            io::write_all(STDOUT_FILENO, b"done");
-        }
-        Solving::None(state) => cases::show_number(b"none", state.0),
+        Solving::Said(verdict) => show_verdict(verdict),
         Solving::Refused(q) => cases::show_refused(q),
     }
     cases::show_digits(answers);

@@ -1,127 +1,181 @@
--- What the calls' contracts say of whole buffers, from what the inner functions give on the parts that they are lent.
+-- The questions that the calls ask first, and what a call does that has passed them, from what it does on the front of its buffer.
 -- Assumes nothing.
 use mathlib.Core.Path.{_≡_, refl, sym, ap, _∙_}
-use mathlib.Core.Bool.{Bool, true, false, cond}
-use mathlib.Core.List.{List, [], _∷_, _++_}
-use Prim.Native.Nat.{ℕ, _+_, _*_, _^_}
+use mathlib.Core.Bool.{Bool, true, false, not}
+use mathlib.Core.List.{List, [], _∷_, _++_, append-nil}
+use Prim.Native.Nat.{ℕ, zero, suc, _+_, _*_, _^_, _≤_}
 use native.Mathlib.Omega.{arith}
+use native.Mathlib.Nat.{mul-le-mul}
 use lib.ListN.{length, take, drop, take-append-drop}
-use borrow.Author.Tests.{ne-eqb}
-use Rattle.ring.specs.declared.State.{State}
-use Rattle.ring.specs.Table.{present, held, answerTable}
-use Rattle.ring.proofs.Table.{present-take, held-take, length-answerTable}
-use Rattle.tables.specs.Questions.{firstNo, asks, lettersFit, reads, writes, haveRoom, holdBits, tableQuestions}
-use Rattle.tables.specs.Answered.{Reply, accepted, refused, reply, after}
-use Rattle.tables.proofs.Questions.{tableRefusal, one-read, table-yes, table-no}
-use Rattle.tables.proofs.Reply.{reply-refused, after-refused, after-done}
-use Rattle.solution.specs.Condition.{defaultOrder}
-use Rattle.solution.specs.Elimination.{smallestBlocked, solvable, solved, none, Verdict as Said}
-use Rattle.calls.specs.GONE.{solvingRefusal, solvingReply, booleTable, particularTable, lowenheimTable}
-use Rattle.calls.specs.Solving.{handedTable}
-use Rattle.solver.specs.Inner.Methods.{IsTableOf, AreTablesOf, answersBy, tableBy, solveBy, verdict, answersAfter}
+use lib.Seq.{length-take-le, drop-length}
+use Rattle.ring.specs.Table.{AreBits, IsTable}
+use Rattle.tables.specs.declared.Question.the-variants.{Letters, Room, Bits}
+use Rattle.tables.specs.Questions.{Asked, asks, firstNo, lettersFit, hasRoom, holdsBits, roomQuestions, bitQuestions, bufferQuestions}
+use Rattle.tables.specs.Answered.{Reply, accepted, refused, after, answered, Buffer, _into_, call}
+use Rattle.tables.specs.Inner.Asking.{also}
+use Rattle.tables.proofs.FirstNo.{no-to, yes-counts, each-yes, then-further, also-none, also-also}
+use Rattle.tables.proofs.Questions.{failed, passed as yes-said, letters-small, unknowns-small, pow-small}
+use Rattle.tables.proofs.Questions.{room-enough, held-bits, lent-table}
+use Rattle.tables.proofs.Answered.{reply-behind, call-stops, call-refused, call-done, call-gives, call-first}
+use Rattle.solution.specs.Condition.{conditionOf}
+use Rattle.calls.specs.Questions.{lentCondition, asksSolution, solvingQuestions, handedQuestions}
+use Rattle.calls.specs.Solving.{solvingCall, handedTable, handedCall}
 use Rattle.solver.specs.declared.Method.{Method}
-use Rattle.solver.specs.declared.Method.the-variants.{Boole, Particular, Lowenheim}
-use Rattle.calls.specs.declared.Verdict.{Verdict}
-use Rattle.calls.specs.declared.Verdict.the-variants.{Solved, None}
+use Rattle.solver.specs.Inner.Methods.{tableQuestions, tableBy, solveBy}
+use Rattle.solver.proofs.OnWords.{length-tableBy}
+use Rattle.solver.proofs.Written.{handed-front, length-handed}
 
--- the tables' questions are none of them the ninth
-not-nine : (u g : ℕ) (t : List ℕ) (results room : ℕ) → firstNo (tableQuestions u g (reads 1 t ∷ writes results room ∷ [])) ≡ 9 → ⊥
-unfolding firstNo tableQuestions
-not-nine u g t results room = go (lettersFit u g) (haveRoom (u + g) (reads 1 t ∷ writes results room ∷ [])) (holdBits (u + g) (reads 1 t ∷ writes results room ∷ []))
-  where
-    go : (p q r : Bool) → _≡_ {A = ℕ} (cond p (cond q (cond r 0 8) 4) 1) 9 → ⊥
-    go true true true e = omega arith
-    go true true false e = omega arith
-    go true false r e = omega arith
-    go false q r e = omega arith
+-- ---- 1, 4 and 8 of a call that solves, as the code asks them
+module _ (u g : ℕ) (t : List ℕ) (room : ℕ) where
+  pub letters-refused : {r : ℕ} {fits : Bool} → r ≡ 1 → fits ≡ lettersFit u g → not fits ≡ true → r ≡ firstNo (tableQuestions u g t room)
+  unfolding tableQuestions
+  letters-refused e f n = e ∙ sym (no-to Letters (lettersFit u g) [] _ (failed f n))
 
--- every method's table has U times 2 ^ n bytes
-length-tableBy : (method : Method) (U G : ℕ) (t : List ℕ) → length (tableBy method U G t) ≡ U * 2 ^ (U + G)
-unfolding booleTable particularTable lowenheimTable
-length-tableBy Boole U G t = length-answerTable U (U + G) _
-length-tableBy Particular U G t = length-answerTable U (U + G) _
-length-tableBy Lowenheim U G t = length-answerTable U (U + G) _
+  pub asked : {k first second r : ℕ} {fits room1 room2 bits : Bool} → r ≡ also second (asks Bits bits ∷ []) → bits ≡ holdsBits k t
+      → second ≡ also first (asks Room room2 ∷ []) → room2 ≡ hasRoom (u * k) room → first ≡ also 0 (asks Room room1 ∷ [])
+      → room1 ≡ hasRoom k (length t) → k ≡ 2 ^ (u + g) → fits ≡ lettersFit u g → not fits ≡ false → r ≡ firstNo (tableQuestions u g t room)
+  unfolding tableQuestions bufferQuestions roomQuestions bitQuestions
+  asked er eb e2 er2 e1 er1 ek ef n =
+      rw (er, eb, e2, er2, e1, er1, ek)
+      (simp also-also (sym (also-none _) ∙ sym (yes-counts Letters (lettersFit u g) [] _ (yes-said ef n))))
 
-table-by : (method : Method) (U G : ℕ) (t : List ℕ) → answerTable U (U + G) (answersBy method U G (defaultOrder U) (present t)) ≡ tableBy method U G t
-unfolding booleTable particularTable lowenheimTable
-table-by Boole U G t = refl
-table-by Particular U G t = refl
-table-by Lowenheim U G t = refl
+-- the letters fit, as the code has it
+pub small : (u g : ℕ) {fits : Bool} → fits ≡ lettersFit u g → not fits ≡ false → u + g ≤ 10
+small u g e n = letters-small u g (yes-said e n)
 
--- what a call answers and leaves in its buffer
-pub record Answered (method : Method) (U G : ℕ) (condition lent : List ℕ) (answer : Reply) (buffer : List ℕ) : Type 0 where
-  pub replied : answer ≡ solvingReply U G condition lent
-  pub left : buffer ≡ after (solvingRefusal U G condition lent) (tableBy method U G condition) lent
+-- u tables have so few bytes that the code can count them
+pub all-small : (u n k : ℕ) → u ≤ 6 → n ≤ 10 → k ≡ 2 ^ n → u * k ≤ 6144
+all-small u n k few h e = mul-le-mul few (pow-small k n e h)
 
--- q is the number that the code has found for 1, 4 and 8
-module _ (method : Method) (u g : ℕ) (t lent : List ℕ) (q : ℕ) (e : q ≡ tableRefusal u g t [] 0 (length lent) u) where
-  eq : q ≡ firstNo (tableQuestions u g (reads 1 t ∷ writes u (length lent) ∷ []))
-  eq = e ∙ one-read u g t u (length lent)
+pub all-fit : (u g k : ℕ) {fits : Bool} → fits ≡ lettersFit u g → not fits ≡ false → k ≡ 2 ^ (u + g) → u * k ≤ 6144
+all-fit u g k e n ek = all-small u (u + g) k (unknowns-small u g (yes-said e n)) (small u g e n) ek
 
-  pub refused-first : (q ≡ 0 → ⊥) → Answered method u g t lent (refused q []) lent
-  unfolding solvingRefusal solvingReply
-  refused-first n =
-      let r : q ≡ solvingRefusal u g t lent = table-no u g (reads 1 t ∷ writes u (length lent) ∷ []) _ q eq n in
-      record {
-        replied = reply-refused q _ r [] n ∙ ap (λ (b : Bool). cond b (refused 9 (smallestBlocked u g (present t) .0 ∷ [])) (reply (solvingRefusal u g t lent) []))
-            (sym (ne-eqb (solvingRefusal u g t lent) 9 (λ x. not-nine u g t u (length lent) (sym eq ∙ r ∙ x))));
-        left = after-refused q _ r _ lent n;
-      }
+-- ---- a call that has passed its first questions, on the front of its buffer
+pub call-behind : (questions further : List Asked) (values : List ℕ) (buffers : List Buffer) → firstNo questions ≡ 0
+    → call further values buffers ≡ call (questions ++ further) values buffers
+unfolding call
+call-behind questions further values buffers z = rw (← reply-behind questions further values z, then-further questions further z)
 
-  module _ (z : q ≡ 0) (k : ℕ) (ek : k ≡ 2 ^ (u + g)) where
-    then-9 : solvingRefusal u g t lent ≡ cond (solvable (u + g) (present t) (defaultOrder u)) 0 9
-    unfolding solvingRefusal firstNo
-    then-9 = table-yes u g (reads 1 t ∷ writes u (length lent) ∷ []) (asks 9 (solvable (u + g) (present t) (defaultOrder u)) ∷ []) (sym eq ∙ z)
+after-front : (found k : ℕ) (answer lent : List ℕ) → length answer ≡ k → k ≤ length lent
+    → after found answer (take k lent) ++ drop k lent ≡ after found answer lent
+unfolding after
+after-front zero k answer lent e h =
+    let none : drop (length answer) (take k lent) ≡ [] = rw (e ∙ sym (length-take-le k lent h)) (drop-length (take k lent)) in
+    rw (none, append-nil, e)
+after-front (suc found) k answer lent e h = take-append-drop k lent
 
-    -- the verdict as the inner function gives it, on the part that counts
-    module _ (v : Verdict) (front : List ℕ) (ev : verdict v front ≡ solveBy method u g (defaultOrder u) (present t))
-        (ea : front ≡ answersAfter (solveBy method u g (defaultOrder u) (present t)) (take (u * k) lent)) where
-      said : verdict v front ≡ cond (solvable (u + g) (present t) (defaultOrder u)) (solved (tableBy method u g t)) (none (smallestBlocked u g (present t)))
-      unfolding solveBy
-      said = ev ∙ ap (λ (a : List ℕ). cond (solvable (u + g) (present t) (defaultOrder u)) (solved a) (none (smallestBlocked u g (present t)))) (table-by method u g t)
+pub call-front : (questions : List Asked) (values answer lent front : List ℕ) (k : ℕ) {gives : Reply} → length answer ≡ k → k ≤ length lent
+    → answered gives (front ∷ []) ≡ call questions values (answer into take k lent ∷ [])
+    → answered gives ((front ++ drop k lent) ∷ []) ≡ call questions values (answer into lent ∷ [])
+unfolding call
+call-front questions values answer lent front k e h done =
+    rw (
+      call-gives questions values (answer into take k lent ∷ []) done,
+      call-first questions values answer (take k lent) [] done,
+      after-front (firstNo questions) k answer lent e h,
+    )
 
-      pub answered : v ≡ Solved → Answered method u g t lent (accepted []) (front ++ drop (u * k) lent)
-      unfolding solvingReply reply
-      answered told = go (solvable (u + g) (present t) (defaultOrder u)) refl (ap (λ (x : Verdict). verdict x front) (sym told) ∙ said)
-        where
-          go : (b : Bool) → solvable (u + g) (present t) (defaultOrder u) ≡ b
-              → solved front ≡ cond b (solved (tableBy method u g t)) (none (smallestBlocked u g (present t))) → Answered method u g t lent (accepted []) (front ++ drop (u * k) lent)
-          go true s x =
-              let r : 0 ≡ solvingRefusal u g t lent = sym (then-9 ∙ ap (λ (b : Bool). cond b 0 9) s) in
-              let y : front ≡ tableBy method u g t = cc in
-              record {
-                replied = rw (← r);
-                left = after-done 0 _ r _ lent (u * k) front refl y (ap (λ (m : ℕ). u * m) ek ∙ sym (length-tableBy method u g t));
-              }
-          go false s x = let y : _≡_ {A = ℕ} 0 1 = cc in absurd (omega arith)
+-- ---- solving: question 9 behind 1, 4 and 8
+-- what no refusal tells: q is the number that the code has found, k the bytes of a table
+module _ (u g : ℕ) (t lent : List ℕ) where
+  pub record Passed (k : ℕ) : Type 0 where
+    pub unknowns : u ≤ 6
+    pub small : u + g ≤ 10
+    pub condition-room : k ≤ length t
+    pub answer-room : u * k ≤ length lent
+    pub table : IsTable (u + g) (take k t)
+    pub answers : length (take (u * k) lent) ≡ u * 2 ^ (u + g)
 
-      pub without : (state : State) → v ≡ None state → Answered method u g t lent (refused 9 (state .0 ∷ [])) (front ++ drop (u * k) lent)
-      unfolding solvingReply
-      without state told = go (solvable (u + g) (present t) (defaultOrder u)) refl (ap (λ (x : Verdict). verdict x front) (sym told) ∙ said)
-        where
-          same : front ≡ take (u * k) lent
-          same = ea ∙ ap (λ (x : Said (List ℕ)). answersAfter x (take (u * k) lent)) (sym ev ∙ ap (λ (x : Verdict). verdict x front) told)
+  pub passed : {q k : ℕ} → q ≡ firstNo (tableQuestions u g t (length lent)) → q ≡ 0 → k ≡ 2 ^ (u + g) → Passed k
+  unfolding tableQuestions bufferQuestions roomQuestions bitQuestions
+  passed found z e =
+      let yes-all = each-yes _ (sym found ∙ z) in
+      let room = room-enough _ _ (yes-all .1 .1 .0) in
+      rw e
+      (record {
+        unknowns = unknowns-small u g (yes-all .0);
+        small = letters-small u g (yes-all .0);
+        condition-room = room-enough _ _ (yes-all .1 .0);
+        answer-room = room;
+        table = lent-table (u + g) _ t refl (yes-all .1 .0) (yes-all .1 .1 .1 .0);
+        answers = length-take-le _ _ room;
+      })
 
-          go : (b : Bool) → solvable (u + g) (present t) (defaultOrder u) ≡ b
-              → none state ≡ cond b (solved (tableBy method u g t)) (none (smallestBlocked u g (present t)))
-              → Answered method u g t lent (refused 9 (state .0 ∷ [])) (front ++ drop (u * k) lent)
-          go true s x = let y : _≡_ {A = ℕ} 0 1 = cc in absurd (omega arith)
-          go false s x =
-              let r : 9 ≡ solvingRefusal u g t lent = sym (then-9 ∙ ap (λ (b : Bool). cond b 0 9) s) in
-              let y : state ≡ smallestBlocked u g (present t) = cc in
-              record {
-                replied = rw (← r, y);
-                left = ap (λ (x : List ℕ). x ++ drop (u * k) lent) same ∙ take-append-drop (u * k) lent ∙ after-refused 9 _ r _ lent (λ h. omega arith);
-              }
+module _ (method : Method) (u g : ℕ) (t lent : List ℕ) (q : ℕ) (found : q ≡ firstNo (tableQuestions u g t (length lent))) where
+  pub solving-refused : (q ≡ 0 → ⊥) → answered (refused q []) (lent ∷ []) ≡ solvingCall (tableBy method) u g t lent
+  unfolding solvingQuestions tableQuestions bufferQuestions roomQuestions bitQuestions
+  solving-refused n =
+      call-stops (tableQuestions u g t (length lent)) (asksSolution (lentCondition u g t) ∷ []) []
+      (tableBy method (lentCondition u g t) into lent ∷ []) q refl found n
 
--- the handed call: the length of its answers
-pub length-handed : (u g k : ℕ) (a b : List ℕ) → k ≡ 2 ^ (u + g) → u * k ≡ length (handedTable u g a b)
-unfolding handedTable
-length-handed u g k a b e = ap (λ (m : ℕ). u * m) e ∙ sym (length-answerTable u (u + g) _)
+  pub solving-done : q ≡ 0 → (k : ℕ) → k ≡ 2 ^ (u + g) → {gives : Reply} {front : List ℕ}
+      → answered gives (front ∷ []) ≡ solveBy method (conditionOf u g (take k t)) (take (u * k) lent)
+      → answered gives ((front ++ drop (u * k) lent) ∷ []) ≡ solvingCall (tableBy method) u g t lent
+  unfolding solveBy solvingQuestions tableQuestions
+  solving-done z k e done =
+      let yes-all : firstNo (tableQuestions u g t (length lent)) ≡ 0 = sym found ∙ z in
+      rw e
+      (call-front (asksSolution (lentCondition u g t) ∷ []) [] (tableBy method (lentCondition u g t)) lent _ (u * 2 ^ (u + g))
+      (length-tableBy method (lentCondition u g t)) (passed u g t lent found z refl .answer-room) (rw e at done)
+      ∙ call-behind (tableQuestions u g t (length lent)) (asksSolution (lentCondition u g t) ∷ []) [] _ yes-all)
 
--- only the first bytes of a table count
-pub first-is : (n k : ℕ) (t : List ℕ) → k ≡ 2 ^ n → IsTableOf n (present t) (take k t)
-first-is n k t e m l = present-take k t m (omega arith)
+-- ---- handed polynomials
+module _ (u g : ℕ) (t handed : List ℕ) (room : ℕ) where
+  pub handed-letters-refused : {r : ℕ} {fits : Bool} → r ≡ 1 → fits ≡ lettersFit u g → not fits ≡ true
+      → r ≡ firstNo (handedQuestions u g t handed room)
+  unfolding handedQuestions
+  handed-letters-refused e f n = e ∙ sym (no-to Letters (lettersFit u g) [] _ (failed f n))
 
-pub first-are : (u n k : ℕ) (t : List ℕ) → k ≡ 2 ^ n → AreTablesOf u n (held n t) (take (u * k) t)
-first-are u n k t e j m hj hm = ap (λ (x : ℕ). held n (take (u * x) t) j m) e ∙ held-take n u t j m hj hm
+  pub handed-asked : {k first second third fourth r : ℕ} {fits room1 room2 room3 bits1 bits2 : Bool}
+      → r ≡ also fourth (asks Bits bits2 ∷ []) → bits2 ≡ holdsBits (u * k) handed
+      → fourth ≡ also third (asks Bits bits1 ∷ []) → bits1 ≡ holdsBits k t
+      → third ≡ also second (asks Room room3 ∷ []) → room3 ≡ hasRoom (u * k) room
+      → second ≡ also first (asks Room room2 ∷ []) → room2 ≡ hasRoom (u * k) (length handed)
+      → first ≡ also 0 (asks Room room1 ∷ []) → room1 ≡ hasRoom k (length t)
+      → k ≡ 2 ^ (u + g) → fits ≡ lettersFit u g → not fits ≡ false → r ≡ firstNo (handedQuestions u g t handed room)
+  unfolding handedQuestions bufferQuestions roomQuestions bitQuestions
+  handed-asked er eb2 e4 eb1 e3 er3 e2 er2 e1 er1 ek ef n =
+      rw (er, eb2, e4, eb1, e3, er3, e2, er2, e1, er1, ek)
+      (simp also-also (sym (also-none _) ∙ sym (yes-counts Letters (lettersFit u g) [] _ (yes-said ef n))))
+
+module _ (u g : ℕ) (t handed lent : List ℕ) where
+  pub record HandedPassed (k : ℕ) : Type 0 where
+    pub unknowns : u ≤ 6
+    pub small : u + g ≤ 10
+    pub condition-room : k ≤ length t
+    pub handed-room : u * k ≤ length handed
+    pub answer-room : u * k ≤ length lent
+    pub table : IsTable (u + g) (take k t)
+    pub polynomials : length (take (u * k) handed) ≡ u * 2 ^ (u + g)
+    pub bits : AreBits (take (u * k) handed)
+    pub answers : length (take (u * k) lent) ≡ u * 2 ^ (u + g)
+
+  pub handed-passed : {q k : ℕ} → q ≡ firstNo (handedQuestions u g t handed (length lent)) → q ≡ 0 → k ≡ 2 ^ (u + g) → HandedPassed k
+  unfolding handedQuestions bufferQuestions roomQuestions bitQuestions
+  handed-passed found z e =
+      let yes-all = each-yes _ (sym found ∙ z) in
+      let handed-room = room-enough _ _ (yes-all .1 .1 .0) in
+      let room = room-enough _ _ (yes-all .1 .1 .1 .0) in
+      rw e
+      (record {
+        unknowns = unknowns-small u g (yes-all .0);
+        small = letters-small u g (yes-all .0);
+        condition-room = room-enough _ _ (yes-all .1 .0);
+        handed-room = handed-room;
+        answer-room = room;
+        table = lent-table (u + g) _ t refl (yes-all .1 .0) (yes-all .1 .1 .1 .1 .0);
+        polynomials = length-take-le _ _ handed-room;
+        bits = held-bits _ _ (yes-all .1 .1 .1 .1 .1 .0);
+        answers = length-take-le _ _ room;
+      })
+
+module _ (u g : ℕ) (t handed lent : List ℕ) (q : ℕ) (found : q ≡ firstNo (handedQuestions u g t handed (length lent))) where
+  pub handed-refused : (q ≡ 0 → ⊥) → answered (refused q []) (lent ∷ []) ≡ handedCall u g t handed lent
+  unfolding handedQuestions bufferQuestions roomQuestions bitQuestions
+  handed-refused n = call-refused (handedQuestions u g t handed (length lent)) [] (handedTable u g t handed into lent ∷ []) q refl found n
+
+  pub handed-done : q ≡ 0 → (k : ℕ) → k ≡ 2 ^ (u + g) → {front : List ℕ} → front ≡ handedTable u g (take k t) (take (u * k) handed)
+      → answered (accepted []) ((front ++ drop (u * k) lent) ∷ []) ≡ handedCall u g t handed lent
+  handed-done z k e {front} done =
+      call-done (handedQuestions u g t handed (length lent)) [] (handedTable u g t handed) lent front (u * k) (sym found ∙ z)
+      (done ∙ handed-front u g k t handed e) (length-handed u g k t handed e)

@@ -2,4 +2,3 @@ pub mod Tables
 pub mod OnWords
 pub mod Written
 pub mod Calls
-pub mod Injective

@@ -2,22 +2,28 @@
 -- Assumes nothing.
 use mathlib.Core.Path.{_≡_, refl, sym, ap, _∙_}
 use mathlib.Core.Bool.{Bool, true, false, cond}
-use mathlib.Core.List.{List, [], _∷_}
+use mathlib.Core.List.{List, [], _∷_, _++_, append-nil}
 use Prim.Native.Nat.{ℕ, zero, suc, _+_, _-_, _*_, _^_, _≤_, _<_}
 use native.Mathlib.Omega.{arith}
 use lib.Pow.{pow-pos}
-use lib.ListN.{take}
+use lib.ListN.{length, take, drop}
+use lib.Seq.{take-at, drop-length}
 use Rattle.ring.specs.declared.State.{State}
 use Rattle.ring.specs.Letters.{bit}
 use Rattle.ring.specs.Lists.{listed, has}
 use Rattle.ring.specs.Polynomial.{Polynomial, value}
-use Rattle.ring.specs.Table.{present, answerTable}
-use Rattle.ring.proofs.Lists.{length-listed}
+use Rattle.ring.proofs.Lists.{length-listed, listed-add, listed-only}
+use Rattle.ring.proofs.Table.{length-answerTable}
+use Rattle.tables.specs.declared.Question.the-variants.{Solution}
+use Rattle.tables.specs.Questions.{firstNo}
+use Rattle.tables.specs.Answered.{answered, _into_}
+use Rattle.tables.proofs.Answered.{call-last-no, call-done}
 use Rattle.words.specs.Words.{wordsOf, bitAt, answerWords}
 use Rattle.words.proofs.Letters.{room, points}
 use Rattle.words.proofs.Words.{at-known}
-use Rattle.solution.specs.Condition.{IsOrder, defaultOrder}
-use Rattle.solution.specs.Elimination.{remains, smallestBelow, blocked, smallestBlocked, solvable, booleAnswers, solve, solved, none, Verdict as Said}
+use Rattle.solution.specs.Condition.{Condition, width, polynomial, IsOrder, defaultOrder}
+use Rattle.solution.specs.Elimination.{remains, smallestBelow, blocked, smallestBlocked, solvable, solve, solved, none}
+use Rattle.solution.specs.Elimination.{booleTable, particularTable, lowenheimTable}
 use Rattle.solution.specs.Inner.ByPoints.{remainsThrough, answeredThrough}
 use Rattle.solution.proofs.General.{in-order, remains-values}
 use Rattle.solution.proofs.Blocked.{zero-values, blocked-remains, remains-blocked, is-blocked}
@@ -28,14 +34,30 @@ use Rattle.elimination.proofs.AnyOrder.{Agree, remains-agree, answered-agree}
 use Rattle.elimination.proofs.Beyond.{value-answers-all}
 use Rattle.elimination.proofs.Slots.{answers-cong}
 use Rattle.elimination.proofs.States.{state-room}
-use Rattle.solver.specs.declared.Method.{Method}
 use Rattle.calls.specs.declared.Verdict.{Verdict}
 use Rattle.calls.specs.declared.Verdict.the-variants.{Solved, None}
-use Rattle.solver.specs.Inner.Methods.{answersBy, solveBy, verdict, answersAfter, solveWords}
+use Rattle.calls.specs.declared.Solving.the-variants.{Said}
+use Rattle.calls.specs.Questions.{asksSolution}
+use Rattle.calls.specs.Solving.{solving}
+use Rattle.solver.specs.declared.Method.{Method}
+use Rattle.solver.specs.declared.Method.the-variants.{Boole, Particular, Lowenheim}
+use Rattle.solver.specs.Inner.Methods.{tableBy, solveBy, valueWords, booleWords, solveWords, verdict}
 
-module _ (U G : ℕ) (o : List ℕ) (is : IsOrder U o) (F : Polynomial) (f : List ℕ) (ef : f ≡ wordsOf (2 ^ (U + G - 6)) (value (U + G) F)) where
+module _ (c : Condition) (is : IsOrder (c .U) (c .order)) (f : List ℕ) (ef : f ≡ valueWords c) where
+  abbrev U : ℕ
+  U = c .U
+
+  abbrev G : ℕ
+  G = c .G
+
   abbrev n : ℕ
-  n = U + G
+  n = width c
+
+  abbrev o : List ℕ
+  o = c .order
+
+  abbrev F : Polynomial
+  F = polynomial c
 
   letters : InLetters n o
   letters = in-order U G F o is
@@ -47,10 +69,12 @@ module _ (U G : ℕ) (o : List ℕ) (is : IsOrder U o) (F : Polynomial) (f : Lis
   holds p l = at-known (2 ^ (n - 6)) (value n F) f ef p (omega (arith, points n))
 
   -- the state that the code has found is the smallest blocked one
-  state-is : (r : ℕ) → r ≡ smallestBelow (2 ^ G) (λ s. remainsThrough (bitAt f) o (s * 2 ^ U)) → r ≡ smallestBelow (2 ^ G) (λ s. blocked U G F (record { 0 = s }))
+  state-is : (r : ℕ) → r ≡ smallestBelow (2 ^ G) (λ s. remainsThrough (bitAt f) o (s * 2 ^ U))
+      → r ≡ smallestBelow (2 ^ G) (λ s. blocked U G F (record { 0 = s }))
   state-is r e =
       e ∙ smallest-cong (2 ^ G) _ _ (λ s l.
-      remains-agree (6 + (n - 6)) (bitAt f) (value n F) o further-letters holds (s * 2 ^ U) (omega (arith, state-room U G s (2 ^ U) l refl, room n, points n))
+      remains-agree (6 + (n - 6)) (bitAt f) (value n F) o further-letters holds (s * 2 ^ U)
+      (omega (arith, state-room U G s (2 ^ U) l refl, room n, points n))
       ∙ sym (remains-values U G F o is (s * 2 ^ U)) ∙ sym (blocked-remains U G F o is s l))
 
   module _ (r end : ℕ) (er : r ≡ smallestBelow (2 ^ G) (λ s. remainsThrough (bitAt f) o (s * 2 ^ U))) (ee : end ≡ 2 ^ G) where
@@ -60,7 +84,8 @@ module _ (U G : ℕ) (o : List ℕ) (is : IsOrder U o) (F : Polynomial) (f : Lis
       where
         go : (b : Bool) → solvable n F o ≡ b → b ≡ false
         go true z =
-            let q : r ≡ 2 ^ G = state-is r er ∙ smallest-none (2 ^ G) _ (λ s m. blocked-remains U G F o is s m ∙ zero-values n (remains n F o) (s * 2 ^ U) z) in
+            let q : r ≡ 2 ^ G = state-is r er
+            ∙ smallest-none (2 ^ G) _ (λ s m. blocked-remains U G F o is s m ∙ zero-values n (remains n F o) (s * 2 ^ U) z) in
             absurd (omega arith)
         go false z = refl
 
@@ -74,95 +99,94 @@ module _ (U G : ℕ) (o : List ℕ) (is : IsOrder U o) (F : Polynomial) (f : Lis
             let i = smallest-is (2 ^ G) (λ s. blocked U G F (record { 0 = s })) (s .0 .0) (s .1) (is-blocked U G F (s .0) (s .2)) in
             absurd (omega (arith, i .below, state-is r er))
 
-    pub none-said : r < end → none (record { 0 = r }) ≡ solveWords U G o F
+    pub none-said : r < end → none (record { 0 = r }) ≡ solveWords c
     unfolding solveWords smallestBlocked
     none-said l = rw (nothing l) (ap (λ (x : ℕ). none (record { 0 = x })) (state-is r er))
 
-    pub solved-said : (answers : List ℕ) → end ≤ r → (2 ^ G ≤ r → answers ≡ answerWords U (2 ^ (n - 6)) (λ x p. bit (answeredThrough (bitAt f) o p) x)) → solved answers ≡ solveWords U G o F
+    pub solved-said : (answers : List ℕ) → end ≤ r
+        → (2 ^ G ≤ r → answers ≡ answerWords U (2 ^ (n - 6)) (λ x p. bit (answeredThrough (bitAt f) o p) x)) → solved answers ≡ solveWords c
     unfolding solveWords
     solved-said answers l es =
         rw (something l) (ap solved (es (omega arith) ∙ answers-cong U (2 ^ (n - 6)) _ _ (pow-pos (n - 6)) (λ j p hj hp.
         ap (λ (q : ℕ). bit q j) (answered-agree (6 + (n - 6)) (bitAt f) (value n F) o further-letters holds p (omega (arith, points n)))
         ∙ value-answers-all n F o letters j p (omega arith))))
 
--- what the verdict by values says
-module _ (U G : ℕ) (o : List ℕ) (f : Polynomial) where
-  pub solved-is : (ws : List ℕ) → solved ws ≡ solveWords U G o f
-      → (solvable (U + G) f o ≡ true) × (ws ≡ answerWords U (2 ^ (U + G - 6)) (λ j. value (U + G) (booleAnswers (U + G) f o j)))
+-- what the verdict by values says ..
+module _ (c : Condition) where
+  pub solved-is : (ws : List ℕ) → solved ws ≡ solveWords c → (solvable (width c) (polynomial c) (c .order) ≡ true) × (ws ≡ booleWords c)
   unfolding solveWords
-  solved-is ws e = go (solvable (U + G) f o) e
+  solved-is ws e = go (solvable (width c) (polynomial c) (c .order)) e
     where
-      go : (b : Bool) → solved ws ≡ cond b (solved (answerWords U (2 ^ (U + G - 6)) (λ j. value (U + G) (booleAnswers (U + G) f o j)))) (none (smallestBlocked U G f))
-          → (b ≡ true) × (ws ≡ answerWords U (2 ^ (U + G - 6)) (λ j. value (U + G) (booleAnswers (U + G) f o j)))
+      go : (b : Bool) → solved ws ≡ cond b (solved (booleWords c)) (none (smallestBlocked (c .U) (c .G) (polynomial c)))
+          → (b ≡ true) × (ws ≡ booleWords c)
       go true x = (refl, cc)
       go false x = let y : _≡_ {A = ℕ} 0 1 = cc in absurd (omega arith)
 
-  pub none-is : (state : State) → none state ≡ solveWords U G o f → (solvable (U + G) f o ≡ false) × (state ≡ smallestBlocked U G f)
+  pub none-is : (state : State) → none state ≡ solveWords c
+      → (solvable (width c) (polynomial c) (c .order) ≡ false) × (state ≡ smallestBlocked (c .U) (c .G) (polynomial c))
   unfolding solveWords
-  none-is state e = go (solvable (U + G) f o) e
+  none-is state e = go (solvable (width c) (polynomial c) (c .order)) e
     where
-      go : (b : Bool) → none state ≡ cond b (solved (answerWords U (2 ^ (U + G - 6)) (λ j. value (U + G) (booleAnswers (U + G) f o j)))) (none (smallestBlocked U G f))
-          → (b ≡ false) × (state ≡ smallestBlocked U G f)
+      go : (b : Bool) → none state ≡ cond b (solved (booleWords c)) (none (smallestBlocked (c .U) (c .G) (polynomial c)))
+          → (b ≡ false) × (state ≡ smallestBlocked (c .U) (c .G) (polynomial c))
       go true x = let y : _≡_ {A = ℕ} 0 1 = cc in absurd (omega arith)
       go false x = (refl, cc)
 
--- .. of the verdict by bytes
-module _ (U G : ℕ) (o t : List ℕ) where
-  pub solved-by-values : (ws : List ℕ) → solved ws ≡ solveWords U G o (present t)
-      → (solve U G o t ≡ solved (answerTable U (U + G) (booleAnswers (U + G) (present t) o)))
-      × (ws ≡ answerWords U (2 ^ (U + G - 6)) (λ j. value (U + G) (booleAnswers (U + G) (present t) o j)))
+  -- .. of the verdict by bytes
+  pub solved-by-values : (ws : List ℕ) → solved ws ≡ solveWords c → (solve c ≡ solved (booleTable c)) × (ws ≡ booleWords c)
   unfolding solve
-  solved-by-values ws e = let r = solved-is U G o (present t) ws e in (rw (r .0), r .1)
+  solved-by-values ws e = let r = solved-is ws e in (rw (r .0), r .1)
 
-  pub none-by-values : (state : State) → none state ≡ solveWords U G o (present t) → solve U G o t ≡ none state
+  pub none-by-values : (state : State) → none state ≡ solveWords c → solve c ≡ none state
   unfolding solve
-  none-by-values state e = let r = none-is U G o (present t) state e in rw (r .0, r .1)
+  none-by-values state e = let r = none-is state e in rw (r .0, r .1)
 
--- .. of the verdict with a method's tables
-module _ (method : Method) (U G : ℕ) (o : List ℕ) (f : Polynomial) where
-  pub none-by : (v : Verdict) (state : State) (ws lent : List ℕ) → v ≡ None state → verdict v ws ≡ solveWords U G o f → (none state ≡ solveBy method U G o f) × (lent ≡ answersAfter (solveBy method U G o f) lent)
-  unfolding solveBy
-  none-by v state ws lent told e =
-      let r = none-is U G o f state (ap (λ (x : Verdict). verdict x ws) (sym told) ∙ e) in
-      let said : none state ≡ solveBy method U G o f = rw (r .0, r .1) in
-      (said, ap (λ (x : Said (List ℕ)). answersAfter x lent) said)
+-- .. and of solving by a method
+pub length-tableBy : (method : Method) (c : Condition) → length (tableBy method c) ≡ c .U * 2 ^ width c
+unfolding booleTable particularTable lowenheimTable
+length-tableBy Boole c = length-answerTable (c .U) (width c) _
+length-tableBy Particular c = length-answerTable (c .U) (width c) _
+length-tableBy Lowenheim c = length-answerTable (c .U) (width c) _
 
-  pub solved-by : (v : Verdict) (ws answers lent : List ℕ) → v ≡ Solved → verdict v ws ≡ solveWords U G o f
-      → (ws ≡ answerWords U (2 ^ (U + G - 6)) (λ j. value (U + G) (booleAnswers (U + G) f o j)) → answers ≡ answerTable U (U + G) (answersBy method U G o f))
-      → (solved answers ≡ solveBy method U G o f) × (answers ≡ answersAfter (solveBy method U G o f) lent)
-  unfolding solveBy
-  solved-by v ws answers lent told e written =
-      let r = solved-is U G o f ws (ap (λ (x : Verdict). verdict x ws) (sym told) ∙ e) in
-      let said : solved answers ≡ solveBy method U G o f = rw (r .0) (ap solved (written (r .1))) in
-      (said, ap (λ (x : Said (List ℕ)). answersAfter x lent) said)
+-- as the code comes to it, from a copy of the condition's values
+module _ (method : Method) (c : Condition) (v : Verdict) (ws lent : List ℕ) {values used : List ℕ}
+    (copied : used ≡ values) (taken : values ≡ valueWords c) (said : used ≡ valueWords c → verdict v ws ≡ solveWords c) where
+  pub none-by : {state : State} → v ≡ None state → answered (solving (Said (None state))) (lent ∷ []) ≡ solveBy method c lent
+  unfolding solveBy firstNo
+  none-by {state} told =
+      let r = none-is c state (rw told at (said (copied ∙ taken))) in
+      rw (r .1) (call-last-no [] Solution (solvable (width c) (polynomial c) (c .order)) _ [] (tableBy method c into lent ∷ []) refl (r .0))
+
+  pub solved-by : {answers : List ℕ} → v ≡ Solved → (values ≡ valueWords c → ws ≡ booleWords c → answers ≡ tableBy method c)
+      → length lent ≡ c .U * 2 ^ width c → answered (solving (Said Solved)) (answers ∷ []) ≡ solveBy method c lent
+  unfolding solveBy firstNo
+  solved-by {answers} told written size =
+      let r = solved-is c ws (rw told at (said (copied ∙ taken))) in
+      let all : answers ++ drop (length lent) lent ≡ answers = rw drop-length (append-nil answers) in
+      rw all at
+      (call-done (asksSolution c ∷ []) [] (tableBy method c) lent answers (length lent) (rw (r .0)) (written taken (r .1))
+      (size ∙ sym (length-tableBy method c)))
 
 -- ---- the order 0, 1, 2, ..
 pub first-unknowns : (u : ℕ) → u ≤ 6 → take u (0 ∷ 1 ∷ 2 ∷ 3 ∷ 4 ∷ 5 ∷ []) ≡ defaultOrder u
 unfolding defaultOrder listed
-first-unknowns zero h = refl
-first-unknowns (suc zero) h = refl
-first-unknowns (suc (suc zero)) h = refl
-first-unknowns (suc (suc (suc zero))) h = refl
-first-unknowns (suc (suc (suc (suc zero)))) h = refl
-first-unknowns (suc (suc (suc (suc (suc zero))))) h = refl
-first-unknowns (suc (suc (suc (suc (suc (suc zero)))))) h = refl
-first-unknowns (suc (suc (suc (suc (suc (suc (suc u))))))) h = absurd (omega arith)
+first-unknowns u h =
+    let six : u + (6 - u) ≡ 6 = omega arith in
+    let parts : listed 6 (λ j. j) ≡ listed u (λ j. j) ++ listed (6 - u) (λ i. u + i) = (rw six at (listed-add u (6 - u) (λ j. j))) in
+    ap (take u) parts ∙ take-at (listed u (λ j. j)) _ u (length-listed u (λ j. j))
 
-once : (u : ℕ) → u ≤ 6 → noRepeats (defaultOrder u) ≡ true
-unfolding defaultOrder listed noRepeats has
-once zero h = refl
-once (suc zero) h = refl
-once (suc (suc zero)) h = refl
-once (suc (suc (suc zero))) h = refl
-once (suc (suc (suc (suc zero)))) h = refl
-once (suc (suc (suc (suc (suc zero))))) h = refl
-once (suc (suc (suc (suc (suc (suc zero)))))) h = refl
-once (suc (suc (suc (suc (suc (suc (suc u))))))) h = absurd (omega arith)
+-- .. has no letter twice ..
+once : (k : ℕ) (h : ℕ → ℕ) → ((i j : ℕ) → h i ≡ h j → i ≡ j) → noRepeats (listed k h) ≡ true
+unfolding listed noRepeats
+once zero h apart = refl
+once (suc k) h apart =
+    rw (first (has (h 0) (listed k (λ i. h (suc i)))) refl) (once k (λ i. h (suc i)) (λ i j e. omega (arith, apart (suc i) (suc j) e)))
+  where
+    first : (b : Bool) → has (h 0) (listed k (λ i. h (suc i))) ≡ b → b ≡ false
+    first true e = let r = listed-only k (λ i. h (suc i)) (h 0) e in absurd (omega (arith, apart (suc (r .0)) 0 (r .2)))
+    first false e = refl
 
-default-each : (u : ℕ) → u ≤ 6 → ListsEach u (defaultOrder u)
+-- .. and lists each unknown
+pub lists-each : (u : ℕ) {order : List ℕ} → order ≡ defaultOrder u → ListsEach u order
 unfolding defaultOrder
-default-each u h = (default-order u, once u h, length-listed u (λ j. j))
-
--- .. lists each unknown
-pub lists-each : (u : ℕ) {order : List ℕ} → u ≤ 6 → order ≡ defaultOrder u → ListsEach u order
-lists-each u h e = rw e (default-each u h)
+lists-each u e = rw e (default-order u, once u (λ j. j) (λ i j same. same), length-listed u (λ j. j))

@@ -8,28 +8,27 @@ use native.Mathlib.Nat.{add-zero, mul-assoc, mul-comm, pow-suc}
 use native.Mathlib.Numerals.{add-one}
 use native.Mathlib.Omega.{arith}
 use lib.Pow.{split}
-use lib.ListN.{length}
+use lib.ListN.{length, take}
 use Rattle.ring.specs.Letters.{bit, assign}
-use Rattle.ring.specs.Polynomial.{Polynomial, _⊕_, value}
+use Rattle.ring.specs.Polynomial.{Polynomial, _⊕_, value, letter, sum}
 use Rattle.ring.specs.Table.{present, held, answerTable}
 use Rattle.ring.proofs.Points.{assign-above, assign-bit, assign-clear}
-use Rattle.ring.proofs.Table.{values-back}
-use Rattle.ring.proofs.Value.{value-cong}
+use Rattle.ring.proofs.Table.{values-back, present-take, held-take, answerTable-cong, length-answerTable}
+use Rattle.ring.proofs.Value.{product-cong}
 use Rattle.words.specs.Words.{wordsOf, bitAt, IsWords, answerWords}
 use Rattle.words.proofs.Letters.{room}
 use Rattle.words.proofs.Words.{at-known, size-words, words-cong}
-use Rattle.solution.specs.Elimination.{booleAnswers, particular, lowenheim, ownLowenheim}
+use Rattle.solution.specs.Condition.{Condition, width, polynomial}
+use Rattle.solution.specs.Elimination.{booleAnswers, lowenheim, booleTable, particularTable, lowenheimTable}
 use Rattle.solution.specs.Inner.ByPoints.{zeroChoice}
 use Rattle.solution.proofs.ByPoints.{value-particular, value-own-lowenheim}
 use Rattle.solution.proofs.Values.{value-lowenheim}
 use Rattle.words.proofs.Parts.{points-in, answer-at, part-fits}
+use Rattle.calls.specs.Solving.{handedTable}
 use Rattle.solver.specs.declared.Method.{Method}
-use Rattle.solver.specs.Inner.Methods.{IsTableOf, AreTablesOf, answersBy}
+use Rattle.solver.specs.declared.Method.the-variants.{Boole, Particular, Lowenheim}
+use Rattle.solver.specs.Inner.Methods.{tableBy, valueWords, booleWords}
 use Rattle.solver.specs.Inner.Words.{partValue, mixedValue}
-
--- a table's values, by its polynomial
-pub values-of : (n : ℕ) (f : Polynomial) (t ws : List ℕ) → IsTableOf n f t → ws ≡ wordsOf (2 ^ (n - 6)) (value n (present t)) → ws ≡ wordsOf (2 ^ (n - 6)) (value n f)
-values-of n f t ws same e = e ∙ words-cong (2 ^ (n - 6)) _ _ (λ p l. value-cong n _ _ p same)
 
 -- every unknown at 0, within a word
 zero-in : (u a p : ℕ) → u ≤ 6 → zeroChoice u (64 * a + p) ≡ 64 * a + zeroChoice u p
@@ -75,56 +74,99 @@ zeros-more x ws₀ ws ws′ e e′ =
 pub zeros-end : (x u : ℕ) (ws₀ ws : List ℕ) → x ≡ u → ws ≡ wordsOf (length ws₀) (λ p. bitAt ws₀ (zeroChoice x p)) → ws ≡ wordsOf (length ws₀) (λ p. bitAt ws₀ (zeroChoice u p))
 zeros-end x u ws₀ ws ex e = e ∙ ap (λ (y : ℕ). wordsOf (length ws₀) (λ p. bitAt ws₀ (zeroChoice y p))) ex
 
-module _ (U G : ℕ) (f : Polynomial) (o values found : List ℕ) (few : U ≤ 6) (ev : values ≡ wordsOf (2 ^ (U + G - 6)) (value (U + G) f))
-    (ef : found ≡ answerWords U (2 ^ (U + G - 6)) (λ j. value (U + G) (booleAnswers (U + G) f o j))) where
+module _ (c : Condition) (values found : List ℕ) (few : c .U ≤ 6) (ev : values ≡ valueWords c) (ef : found ≡ booleWords c) where
+  abbrev U : ℕ
+  U = c .U
+
   abbrev n : ℕ
-  n = U + G
+  n = width c
+
+  abbrev f : Polynomial
+  f = polynomial c
 
   abbrev K : ℕ
-  K = 2 ^ (U + G - 6)
+  K = 2 ^ (width c - 6)
 
-  boole-at : (j p : ℕ) → j < U → p < 64 * K → partValue K found j p ≡ value n (booleAnswers n f o j) p
+  boole-at : (j p : ℕ) → j < U → p < 64 * K → partValue K found j p ≡ value n (booleAnswers n f (c .order) j) p
   unfolding partValue
   boole-at j p hj hp = answer-at U K j p _ found ef hj hp
 
-  pub boole-written : answerTable U n (λ j. value n (partValue K found j)) ≡ answerTable U n (booleAnswers n f o)
+  boole-written : answerTable U n (λ j. value n (partValue K found j)) ≡ booleTable c
+  unfolding booleTable
   boole-written = values-back U n _ (partValue K found) (λ j p hj hp. boole-at j p hj (omega (arith, room n)))
 
   module _ (zeros : List ℕ) (size : ℕ) (es : size ≡ U * K) (ez : zeros ≡ wordsOf size (λ i. bitAt found (zeroChoice U i))) where
-    zero-at : (j p : ℕ) → j < U → p < 2 ^ n → partValue K zeros j p ≡ value n (booleAnswers n f o j) (zeroChoice U p)
+    zero-at : (j p : ℕ) → j < U → p < 2 ^ n → partValue K zeros j p ≡ value n (booleAnswers n f (c .order) j) (zeroChoice U p)
     unfolding partValue
     zero-at j p hj hp =
         let m : p < 64 * K = omega (arith, room n) in
         at-known size _ zeros ez (j * (64 * K) + p) (inside j p hj m)
-        ∙ ap (bitAt found) (ap (λ (y : ℕ). zeroChoice U (y + p)) (points-in j K) ∙ zero-in U (j * K) p few ∙ ap (λ (y : ℕ). y + zeroChoice U p) (sym (points-in j K)))
+        ∙ ap (bitAt found) (ap (λ (y : ℕ). zeroChoice U (y + p)) (points-in j K) ∙ zero-in U (j * K) p few
+        ∙ ap (λ (y : ℕ). y + zeroChoice U p) (sym (points-in j K)))
         ∙ boole-at j (zeroChoice U p) hj (omega (arith, zero-le U p))
       where
         inside : (j p : ℕ) → j < U → p < 64 * K → j * (64 * K) + p < 64 * size
         inside j p hj m = omega (arith, es, points-in j K, part-fits U K j K (U * K) refl hj refl)
 
-    pub particular-written : answerTable U n (λ j. value n (partValue K zeros j)) ≡ answerTable U n (particular U G o f)
-    particular-written = values-back U n _ (partValue K zeros) (λ j p hj hp. zero-at j p hj hp ∙ sym (value-particular U G f o j p hp))
+    particular-written : answerTable U n (λ j. value n (partValue K zeros j)) ≡ particularTable c
+    unfolding particularTable
+    particular-written =
+        values-back U n _ (partValue K zeros) (λ j p hj hp. zero-at j p hj hp ∙ sym (value-particular U (c .G) f (c .order) j p hp))
 
-    pub lowenheim-written : answerTable U n (λ j. value n (mixedValue (bitAt values) (partValue K zeros j) j)) ≡ answerTable U n (ownLowenheim U G o f)
-    unfolding mixedValue
+    lowenheim-written : answerTable U n (λ j. value n (mixedValue (bitAt values) (partValue K zeros j) j)) ≡ lowenheimTable c
+    unfolding lowenheimTable mixedValue
     lowenheim-written =
         values-back U n _ (λ j. mixedValue (bitAt values) (partValue K zeros j) j) (λ j p hj hp.
         ap₂ (λ (a b : Bool). bit p j ⊕ (a && (bit p j ⊕ b))) (at-known K _ values ev p (omega (arith, room n))) (zero-at j p hj hp)
-        ∙ sym (value-own-lowenheim U G f o j p (omega arith) hp))
+        ∙ sym (value-own-lowenheim U (c .G) f (c .order) j p (omega arith) hp))
 
--- the tables of the method that is asked for
-pub by-method : (method told : Method) (U G : ℕ) (o : List ℕ) (f : Polynomial) → method ≡ told → answerTable U (U + G) (answersBy told U G o f) ≡ answerTable U (U + G) (answersBy method U G o f)
-by-method method told U G o f e = ap (λ (m : Method). answerTable U (U + G) (answersBy m U G o f)) (sym e)
+-- the tables of the method that is asked for, as the code comes to them
+module _ (c : Condition) {method : Method} {values found answers : List ℕ} where
+  pub boole-by : method ≡ Boole → answers ≡ answerTable (c .U) (width c) (λ j. value (width c) (partValue (2 ^ (width c - 6)) found j))
+      → c .U ≤ 6 → values ≡ valueWords c → found ≡ booleWords c → answers ≡ tableBy method c
+  boole-by e ea few ev ef = rw e (ea ∙ boole-written c values found few ev ef)
 
--- Löwenheim's answers from handed polynomials
-pub handed-written : (U G : ℕ) (f : Polynomial) (b : ℕ → Polynomial) (t handed values ws : List ℕ) → IsTableOf (U + G) f t → AreTablesOf U (U + G) b handed
-    → values ≡ wordsOf (2 ^ (U + G - 6)) (value (U + G) (present t)) → ws ≡ answerWords U (2 ^ (U + G - 6)) (λ j. value (U + G) (held (U + G) handed j))
-    → answerTable U (U + G) (λ j. value (U + G) (mixedValue (bitAt values) (partValue (2 ^ (U + G - 6)) ws j) j)) ≡ answerTable U (U + G) (lowenheim (U + G) f b)
-unfolding mixedValue partValue
-handed-written U G f b t handed values ws ft bt ev ew =
+  module _ {zeros : List ℕ} (size : ℕ) (es : size ≡ c .U * 2 ^ (width c - 6))
+      (ez : zeros ≡ wordsOf size (λ i. bitAt found (zeroChoice (c .U) i))) where
+    pub particular-by : method ≡ Particular
+        → answers ≡ answerTable (c .U) (width c) (λ j. value (width c) (partValue (2 ^ (width c - 6)) zeros j))
+        → c .U ≤ 6 → values ≡ valueWords c → found ≡ booleWords c → answers ≡ tableBy method c
+    particular-by e ea few ev ef = rw e (ea ∙ particular-written c values found few ev ef zeros size es ez)
+
+    pub lowenheim-by : method ≡ Lowenheim
+        → answers ≡ answerTable (c .U) (width c)
+        (λ j. value (width c) (mixedValue (bitAt values) (partValue (2 ^ (width c - 6)) zeros j) j))
+        → c .U ≤ 6 → values ≡ valueWords c → found ≡ booleWords c → answers ≡ tableBy method c
+    lowenheim-by e ea few ev ef = rw e (ea ∙ lowenheim-written c values found few ev ef zeros size es ez)
+
+-- Löwenheim's answers from handed polynomials ..
+handed-written : (U G : ℕ) (t handed values ws : List ℕ) → values ≡ wordsOf (2 ^ (U + G - 6)) (value (U + G) (present t))
+    → ws ≡ answerWords U (2 ^ (U + G - 6)) (λ j. value (U + G) (held (U + G) handed j))
+    → answerTable U (U + G) (λ j. value (U + G) (mixedValue (bitAt values) (partValue (2 ^ (U + G - 6)) ws j) j)) ≡ handedTable U G t handed
+unfolding handedTable mixedValue partValue
+handed-written U G t handed values ws ev ew =
     values-back U (U + G) _ (λ j. mixedValue (bitAt values) (partValue (2 ^ (U + G - 6)) ws j) j) (λ j p hj hp.
     let m : p < 64 * 2 ^ (U + G - 6) = omega (arith, room (U + G)) in
-    ap₂ (λ (x y : Bool). bit p j ⊕ (x && (bit p j ⊕ y)))
-    (at-known (2 ^ (U + G - 6)) _ values (values-of (U + G) f t values ft ev) p m)
-    (answer-at U (2 ^ (U + G - 6)) j p _ ws ew hj m ∙ value-cong (U + G) _ _ p (λ i l. bt j i hj l))
-    ∙ sym (value-lowenheim (U + G) f b j p (omega arith)))
+    ap₂ (λ (x y : Bool). bit p j ⊕ (x && (bit p j ⊕ y))) (at-known (2 ^ (U + G - 6)) _ values ev p m)
+    (answer-at U (2 ^ (U + G - 6)) j p _ ws ew hj m)
+    ∙ sym (value-lowenheim (U + G) (present t) (held (U + G) handed) j p (omega arith)))
+
+-- .. as the code comes to them ..
+pub handed-mixed : (U G : ℕ) (t handed : List ℕ) {answers values ws : List ℕ}
+    → answers ≡ answerTable U (U + G) (λ j. value (U + G) (mixedValue (bitAt values) (partValue (2 ^ (U + G - 6)) ws j) j))
+    → values ≡ wordsOf (2 ^ (U + G - 6)) (value (U + G) (present t))
+    → ws ≡ answerWords U (2 ^ (U + G - 6)) (λ j. value (U + G) (held (U + G) handed j)) → answers ≡ handedTable U G t handed
+handed-mixed U G t handed {answers} {values} {ws} e ev ew = e ∙ handed-written U G t handed values ws ev ew
+
+-- .. turn on the bytes that count alone
+pub handed-front : (u g k : ℕ) (t handed : List ℕ) → k ≡ 2 ^ (u + g)
+    → handedTable u g (take k t) (take (u * k) handed) ≡ handedTable u g t handed
+unfolding handedTable lowenheim sum
+handed-front u g k t handed e =
+    rw e (answerTable-cong u (u + g) _ _ (λ j m hj hm.
+    ap (λ (b : Bool). letter j m ⊕ b) (product-cong (u + g) _ _ _ _ (present-take (2 ^ (u + g)) t)
+    (λ i l. ap (λ (b : Bool). letter j i ⊕ b) (held-take (u + g) u handed j i hj l)) m)))
+
+pub length-handed : (u g k : ℕ) (t handed : List ℕ) → k ≡ 2 ^ (u + g) → u * k ≡ length (handedTable u g t handed)
+unfolding handedTable
+length-handed u g k t handed e = ap (λ (m : ℕ). u * m) e ∙ sym (length-answerTable u (u + g) _)

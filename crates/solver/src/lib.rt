@@ -1,39 +1,31 @@
-// Solving a condition: Boole's answers, the particular solution, Löwenheim's formula on the own particular solution or on handed polynomials.
+// Solving a condition: Boole's answers, the particular solution, Löwenheim's formula on that solution or on handed polynomials.
 // Public calls, none with a `requires`: `boole`, `particular`, `lowenheim`, `lowenheim_handed`. `solve_values` is Boole's method for the
 // crates above, which ask the questions first; the other functions are theirs alone.
 // The work is done on truth values, 64 points to a word (`elimination`), in any order of the unknowns; the calls fix 0, 1, 2, ..
 // It comes back to polynomials, and the contracts cite the polynomials' own definitions.
-use ring::State;
 use calls::Outcome;
+use calls::Solving;
+use calls::Verdict;
+use ring::State;
+use tables::Question;
 ghost use mathlib.Core.Path.{_≡_};
-ghost use mathlib.Core.List.{List, []};
+ghost use mathlib.Core.List.{List, [], _∷_};
 ghost use Prim.Native.Nat.{ℕ, _+_, _-_, _*_, _^_, _≤_, _<_};
 ghost use lib.ListN.{length};
-ghost use Rattle.ring.specs.Polynomial.{Polynomial, value};
+ghost use Rattle.ring.specs.Polynomial.{value};
 ghost use Rattle.ring.specs.Table.{IsTable, AreBits, held, answerTable};
-ghost use Rattle.tables.specs.Answered.{reply, after, outcome};
+ghost use Rattle.tables.specs.Questions.{firstNo};
+ghost use Rattle.tables.specs.Answered.{answered};
 ghost use Rattle.words.specs.Words.{wordsOf, bitAt, answerWords};
-ghost use Rattle.solution.specs.Condition.{defaultOrder};
-ghost use Rattle.solution.specs.Elimination.{booleAnswers, lowenheim};
+ghost use Rattle.solution.specs.Condition.{conditionOf};
 ghost use Rattle.solution.specs.Inner.ByPoints.{zeroChoice};
 ghost use Rattle.elimination.specs.Inner.Stages.{ListsEach};
-ghost use Rattle.calls.specs.GONE.{solvingRefusal, solvingReply, booleTable, particularTable, lowenheimTable, handedRefusal};
-ghost use Rattle.calls.specs.Solving.{solving, handedTable};
-ghost use Rattle.solver.specs.Inner.Methods.{IsTableOf, AreTablesOf, answersBy, tableBy, solveBy, verdict, answersAfter, solveWords};
+ghost use Rattle.calls.specs.declared.Solving.the-variants.{Said};
+ghost use Rattle.calls.specs.Questions.{handedQuestions};
+ghost use Rattle.calls.specs.Operations.{outcome};
+ghost use Rattle.calls.specs.Solving.{solving, solvingCall, booleCall, particularCall, lowenheimCall, handedTable, handedCall};
+ghost use Rattle.solver.specs.Inner.Methods.{tableQuestions, ordered, tableBy, solveBy, valueWords, booleWords, solveWords, verdict};
 ghost use Rattle.solver.specs.Inner.Words.{partValue, mixedValue};
-
-// What a solving call answers: the answers stand in the buffer, or there is none and every choice fails in this state, or the first no.
-pub enum Solving {
-    Solved,
-    None(State),
-    Refused(u8),
-}
-
-// What is said of a condition that has passed the other questions.
-pub enum Verdict {
-    Solved,
-    None(State),
-}
 
 // Which answers are asked for.
 pub enum Method {
@@ -43,27 +35,27 @@ pub enum Method {
 }
 
 // Boole's answers.
-pub fn boole(unknowns: usize, givens: usize, condition: &[u8], answers: &mut [u8]) -> Solving
-    ensures { λ r. ⌜ solving r ≡ solvingReply unknowns givens (now (condition .entry)) (now (answers .entry)) ⌝ }
-    ensures { λ _. ⌜ now (answers .exit) ≡ after (solvingRefusal unknowns givens (now (condition .entry)) (now (answers .entry))) (booleTable unknowns givens (now (condition .entry))) (now (answers .entry)) ⌝ }
+pub fn boole(u: usize, g: usize, condition: &[u8], answers: &mut [u8]) -> Solving
+    ensures { λ r. ⌜ answered (solving r) (now (answers .exit) ∷ [])
+        ≡ booleCall u g (now (condition .entry)) (now (answers .entry)) ⌝ }
 {
-    ask_and_solve(Method::Boole, unknowns, givens, condition, answers)
+    ask_and_solve(Method::Boole, u, g, condition, answers)
 }
 
 // The particular solution.
-pub fn particular(unknowns: usize, givens: usize, condition: &[u8], answers: &mut [u8]) -> Solving
-    ensures { λ r. ⌜ solving r ≡ solvingReply unknowns givens (now (condition .entry)) (now (answers .entry)) ⌝ }
-    ensures { λ _. ⌜ now (answers .exit) ≡ after (solvingRefusal unknowns givens (now (condition .entry)) (now (answers .entry))) (particularTable unknowns givens (now (condition .entry))) (now (answers .entry)) ⌝ }
+pub fn particular(u: usize, g: usize, condition: &[u8], answers: &mut [u8]) -> Solving
+    ensures { λ r. ⌜ answered (solving r) (now (answers .exit) ∷ [])
+        ≡ particularCall u g (now (condition .entry)) (now (answers .entry)) ⌝ }
 {
-    ask_and_solve(Method::Particular, unknowns, givens, condition, answers)
+    ask_and_solve(Method::Particular, u, g, condition, answers)
 }
 
 // Löwenheim's answers from the particular solution.
-pub fn lowenheim(unknowns: usize, givens: usize, condition: &[u8], answers: &mut [u8]) -> Solving
-    ensures { λ r. ⌜ solving r ≡ solvingReply unknowns givens (now (condition .entry)) (now (answers .entry)) ⌝ }
-    ensures { λ _. ⌜ now (answers .exit) ≡ after (solvingRefusal unknowns givens (now (condition .entry)) (now (answers .entry))) (lowenheimTable unknowns givens (now (condition .entry))) (now (answers .entry)) ⌝ }
+pub fn lowenheim(u: usize, g: usize, condition: &[u8], answers: &mut [u8]) -> Solving
+    ensures { λ r. ⌜ answered (solving r) (now (answers .exit) ∷ [])
+        ≡ lowenheimCall u g (now (condition .entry)) (now (answers .entry)) ⌝ }
 {
-    ask_and_solve(Method::Lowenheim, unknowns, givens, condition, answers)
+    ask_and_solve(Method::Lowenheim, u, g, condition, answers)
 }
 
 // The verdict by the values of a condition that has passed the questions, eliminating in any order: if there is a solution, the values of
@@ -76,8 +68,10 @@ pub fn solve_values(
     values: &mut [u64],
     answers: &mut [u64],
 ) -> Verdict
-    requires { ⌜ (u ≤ 6) × (u + g ≤ 10) × ListsEach u (now order) × (length (now values) ≡ 2 ^ (u + g - 6)) × (length (now answers) ≡ u * 2 ^ (u + g - 6)) ⌝ }
-    ensures { λ r. ⌜ ((f : Polynomial) → now (values .entry) ≡ wordsOf (2 ^ (u + g - 6)) (value (u + g) f) → verdict r (now (answers .exit)) ≡ solveWords u g (now (order .entry)) f) ⌝ }
+    requires { ⌜ (u ≤ 6) × (u + g ≤ 10) × ListsEach u (now order)
+        × (length (now values) ≡ 2 ^ (u + g - 6)) × (length (now answers) ≡ u * 2 ^ (u + g - 6)) ⌝ }
+    ensures { λ r. ⌜ ((t : List ℕ) → now (values .entry) ≡ valueWords (ordered u g (now (order .entry)) t)
+        → verdict r (now (answers .exit)) ≡ solveWords (ordered u g (now (order .entry)) t)) ⌝ }
 {
     let state = elimination::solve_words(u, g, order, values, answers);
     let end = tables::pow2(g);
@@ -85,6 +79,20 @@ pub fn solve_values(
         return Verdict::None(State(state));
     }
     Verdict::Solved
+}
+
+// Questions 1, 4 and 8 of a call that solves: the first no, or 0.
+fn solving_refusal(u: usize, g: usize, condition: &[u8], room: usize) -> u8
+    ensures { λ r. ⌜ r ≡ firstNo (tableQuestions u g (now (condition .entry)) room) ⌝ }
+{
+    if !tables::letters_fit(u, g) {
+        return tables::number(Question::Letters);
+    }
+    let k = tables::pow2(u + g);
+    let all = u * k;
+    let first = tables::ask(0, Question::Room, tables::has_room(k, condition.len()));
+    let second = tables::ask(first, Question::Room, tables::has_room(all, room));
+    tables::ask(second, Question::Bits, tables::holds_bits(k, condition))
 }
 
 // Questions 1, 4 and 8, then solving, which answers question 9.
@@ -95,21 +103,16 @@ fn ask_and_solve(
     condition: &[u8],
     answers: &mut [u8],
 ) -> Solving
-    ensures { λ r. ⌜ solving r ≡ solvingReply u g (now (condition .entry)) (now (answers .entry)) ⌝ }
-    ensures { λ _. ⌜ now (answers .exit) ≡ after (solvingRefusal u g (now (condition .entry)) (now (answers .entry))) (tableBy method u g (now (condition .entry))) (now (answers .entry)) ⌝ }
+    ensures { λ r. ⌜ answered (solving r) (now (answers .exit) ∷ [])
+        ≡ solvingCall (tableBy method) u g (now (condition .entry)) (now (answers .entry)) ⌝ }
 {
-    let none = [0u8; 0];
-    let q = tables::table_refusal(u, g, condition, &none, 0, answers.len(), u);
+    let q = solving_refusal(u, g, condition, answers.len());
     if q != 0 {
         return Solving::Refused(q);
     }
     let k = tables::pow2(u + g);
     let all = u * k;
-    let verdict = solve_default(method, u, g, &condition[..k], &mut answers[..all]);
-    match verdict {
-        Verdict::Solved => Solving::Solved,
-        Verdict::None(state) => Solving::None(state),
-    }
+    Solving::Said(solve_default(method, u, g, &condition[..k], &mut answers[..all]))
 }
 
 // Unknown 0 goes first, then 1, and so on.
@@ -121,8 +124,8 @@ fn solve_default(
     answers: &mut [u8],
 ) -> Verdict
     requires { ⌜ (u ≤ 6) × (u + g ≤ 10) × IsTable (u + g) (now condition) × (length (now answers) ≡ u * 2 ^ (u + g)) ⌝ }
-    ensures { λ r. ⌜ ((f : Polynomial) → IsTableOf (u + g) f (now (condition .entry)) → verdict r (now (answers .exit)) ≡ solveBy method u g (defaultOrder u) f) ⌝ }
-    ensures { λ _. ⌜ ((f : Polynomial) → IsTableOf (u + g) f (now (condition .entry)) → now (answers .exit) ≡ answersAfter (solveBy method u g (defaultOrder u) f) (now (answers .entry))) ⌝ }
+    ensures { λ r. ⌜ answered (solving (Said r)) (now (answers .exit) ∷ [])
+        ≡ solveBy method (conditionOf u g (now (condition .entry))) (now (answers .entry)) ⌝ }
 {
     let order = [0usize, 1, 2, 3, 4, 5];
     solve_by(method, u, g, &order[..u], condition, answers)
@@ -137,9 +140,10 @@ fn solve_by(
     condition: &[u8],
     answers: &mut [u8],
 ) -> Verdict
-    requires { ⌜ (u ≤ 6) × (u + g ≤ 10) × ListsEach u (now order) × IsTable (u + g) (now condition) × (length (now answers) ≡ u * 2 ^ (u + g)) ⌝ }
-    ensures { λ r. ⌜ ((f : Polynomial) → IsTableOf (u + g) f (now (condition .entry)) → verdict r (now (answers .exit)) ≡ solveBy method u g (now (order .entry)) f) ⌝ }
-    ensures { λ _. ⌜ ((f : Polynomial) → IsTableOf (u + g) f (now (condition .entry)) → now (answers .exit) ≡ answersAfter (solveBy method u g (now (order .entry)) f) (now (answers .entry))) ⌝ }
+    requires { ⌜ (u ≤ 6) × (u + g ≤ 10) × ListsEach u (now order)
+        × IsTable (u + g) (now condition) × (length (now answers) ≡ u * 2 ^ (u + g)) ⌝ }
+    ensures { λ r. ⌜ answered (solving (Said r)) (now (answers .exit) ∷ [])
+        ≡ solveBy method (ordered u g (now (order .entry)) (now (condition .entry))) (now (answers .entry)) ⌝ }
 {
     let k = words::word_count(u + g);
     let all = u * k;
@@ -170,10 +174,12 @@ fn solve_with(
     used: &mut [u64],
     found: &mut [u64],
 ) -> Verdict
-    requires { ⌜ (u ≤ 6) × (u + g ≤ 10) × ListsEach u (now order) × IsTable (u + g) (now condition) × (length (now answers) ≡ u * 2 ^ (u + g)) ⌝ }
-    requires { ⌜ (length (now values) ≡ 2 ^ (u + g - 6)) × (length (now used) ≡ 2 ^ (u + g - 6)) × (length (now found) ≡ u * 2 ^ (u + g - 6)) ⌝ }
-    ensures { λ r. ⌜ ((f : Polynomial) → IsTableOf (u + g) f (now (condition .entry)) → verdict r (now (answers .exit)) ≡ solveBy method u g (now (order .entry)) f) ⌝ }
-    ensures { λ _. ⌜ ((f : Polynomial) → IsTableOf (u + g) f (now (condition .entry)) → now (answers .exit) ≡ answersAfter (solveBy method u g (now (order .entry)) f) (now (answers .entry))) ⌝ }
+    requires { ⌜ (u ≤ 6) × (u + g ≤ 10) × ListsEach u (now order)
+        × IsTable (u + g) (now condition) × (length (now answers) ≡ u * 2 ^ (u + g)) ⌝ }
+    requires { ⌜ (length (now values) ≡ 2 ^ (u + g - 6)) × (length (now used) ≡ 2 ^ (u + g - 6))
+        × (length (now found) ≡ u * 2 ^ (u + g - 6)) ⌝ }
+    ensures { λ r. ⌜ answered (solving (Said r)) (now (answers .exit) ∷ [])
+        ≡ solveBy method (ordered u g (now (order .entry)) (now (condition .entry))) (now (answers .entry)) ⌝ }
 {
     words::take_values(u + g, condition, values);
     words::copy(used, values);
@@ -197,8 +203,10 @@ fn write_by(
     own: &mut [u64],
     answers: &mut [u8],
 )
-    requires { ⌜ (u ≤ 6) × (u + g ≤ 10) × (length (now values) ≡ 2 ^ (u + g - 6)) × (length (now found) ≡ u * 2 ^ (u + g - 6)) × (length (now own) ≡ 2 ^ (u + g - 6)) × (length (now answers) ≡ u * 2 ^ (u + g)) ⌝ }
-    ensures { λ _. ⌜ ((f : Polynomial) (order : List ℕ) → now (values .entry) ≡ wordsOf (2 ^ (u + g - 6)) (value (u + g) f) → now (found .entry) ≡ answerWords u (2 ^ (u + g - 6)) (λ j. value (u + g) (booleAnswers (u + g) f order j)) → now (answers .exit) ≡ answerTable u (u + g) (answersBy method u g order f)) ⌝ }
+    requires { ⌜ (u ≤ 6) × (u + g ≤ 10) × (length (now values) ≡ 2 ^ (u + g - 6)) × (length (now found) ≡ u * 2 ^ (u + g - 6))
+        × (length (now own) ≡ 2 ^ (u + g - 6)) × (length (now answers) ≡ u * 2 ^ (u + g)) ⌝ }
+    ensures { λ _. ⌜ ((order t : List ℕ) → now (values .entry) ≡ valueWords (ordered u g order t)
+        → now (found .entry) ≡ booleWords (ordered u g order t) → now (answers .exit) ≡ tableBy method (ordered u g order t)) ⌝ }
 {
     match method {
         Method::Boole => write_tables(u, u + g, found, answers),
@@ -241,8 +249,10 @@ fn put_zeros(u: usize, words: &mut [u64])
 
 // Löwenheim's answers from the values of the condition and of the polynomials b.
 fn write_mixed(u: usize, n: usize, values: &[u64], b: &[u64], own: &mut [u64], answers: &mut [u8])
-    requires { ⌜ (u ≤ 6) × (n ≤ 10) × (length (now values) ≡ 2 ^ (n - 6)) × (length (now b) ≡ u * 2 ^ (n - 6)) × (length (now own) ≡ 2 ^ (n - 6)) × (length (now answers) ≡ u * 2 ^ n) ⌝ }
-    ensures { λ _. ⌜ now (answers .exit) ≡ answerTable u n (λ j. value n (mixedValue (bitAt (now (values .entry))) (partValue (2 ^ (n - 6)) (now (b .entry)) j) j)) ⌝ }
+    requires { ⌜ (u ≤ 6) × (n ≤ 10) × (length (now values) ≡ 2 ^ (n - 6)) × (length (now b) ≡ u * 2 ^ (n - 6))
+        × (length (now own) ≡ 2 ^ (n - 6)) × (length (now answers) ≡ u * 2 ^ n) ⌝ }
+    ensures { λ _. ⌜ now (answers .exit)
+        ≡ answerTable u n (λ j. value n (mixedValue (bitAt (now (values .entry))) (partValue (2 ^ (n - 6)) (now (b .entry)) j) j)) ⌝ }
 {
     let k = words::word_count(n);
     let size = tables::pow2(n);
@@ -256,45 +266,48 @@ fn write_mixed(u: usize, n: usize, values: &[u64], b: &[u64], own: &mut [u64], a
     }
 }
 
+// Questions 1, 4 and 8 of handed polynomials: the first no, or 0.
+fn handed_refusal(u: usize, g: usize, condition: &[u8], handed: &[u8], room: usize) -> u8
+    ensures { λ r. ⌜ r ≡ firstNo (handedQuestions u g (now (condition .entry)) (now (handed .entry)) room) ⌝ }
+{
+    if !tables::letters_fit(u, g) {
+        return tables::number(Question::Letters);
+    }
+    let k = tables::pow2(u + g);
+    let all = u * k;
+    let first = tables::ask(0, Question::Room, tables::has_room(k, condition.len()));
+    let second = tables::ask(first, Question::Room, tables::has_room(all, handed.len()));
+    let third = tables::ask(second, Question::Room, tables::has_room(all, room));
+    let fourth = tables::ask(third, Question::Bits, tables::holds_bits(k, condition));
+    tables::ask(fourth, Question::Bits, tables::holds_bits(all, handed))
+}
+
 // Löwenheim's answers from handed polynomials, whether or not they solve the condition.
 pub fn lowenheim_handed(
-    unknowns: usize,
-    givens: usize,
+    u: usize,
+    g: usize,
     condition: &[u8],
     handed: &[u8],
     answers: &mut [u8],
 ) -> Outcome
-    ensures { λ r. ⌜ outcome r ≡ reply (handedRefusal unknowns givens (now (condition .entry)) (now (handed .entry)) (now (answers .entry))) [] ⌝ }
-    ensures { λ _. ⌜ now (answers .exit) ≡ after (handedRefusal unknowns givens (now (condition .entry)) (now (handed .entry)) (now (answers .entry))) (handedTable unknowns givens (now (condition .entry)) (now (handed .entry))) (now (answers .entry)) ⌝ }
+    ensures { λ r. ⌜ answered (outcome r) (now (answers .exit) ∷ [])
+        ≡ handedCall u g (now (condition .entry)) (now (handed .entry)) (now (answers .entry)) ⌝ }
 {
-    let q = tables::table_refusal(
-        unknowns,
-        givens,
-        condition,
-        handed,
-        unknowns,
-        answers.len(),
-        unknowns,
-    );
+    let q = handed_refusal(u, g, condition, handed, answers.len());
     if q != 0 {
         return Outcome::Refused(q);
     }
-    let k = tables::pow2(unknowns + givens);
-    let all = unknowns * k;
-    mix_handed(
-        unknowns,
-        givens,
-        &condition[..k],
-        &handed[..all],
-        &mut answers[..all],
-    );
+    let k = tables::pow2(u + g);
+    let all = u * k;
+    mix_handed(u, g, &condition[..k], &handed[..all], &mut answers[..all]);
     Outcome::Done
 }
 
 // The scratch words live here.
 fn mix_handed(u: usize, g: usize, condition: &[u8], handed: &[u8], answers: &mut [u8])
-    requires { ⌜ (u ≤ 6) × (u + g ≤ 10) × IsTable (u + g) (now condition) × (length (now handed) ≡ u * 2 ^ (u + g)) × AreBits (now handed) × (length (now answers) ≡ u * 2 ^ (u + g)) ⌝ }
-    ensures { λ _. ⌜ ((f : Polynomial) (b : ℕ → Polynomial) → IsTableOf (u + g) f (now (condition .entry)) → AreTablesOf u (u + g) b (now (handed .entry)) → now (answers .exit) ≡ answerTable u (u + g) (lowenheim (u + g) f b)) ⌝ }
+    requires { ⌜ (u ≤ 6) × (u + g ≤ 10) × IsTable (u + g) (now condition)
+        × (length (now handed) ≡ u * 2 ^ (u + g)) × AreBits (now handed) × (length (now answers) ≡ u * 2 ^ (u + g)) ⌝ }
+    ensures { λ _. ⌜ now (answers .exit) ≡ handedTable u g (now (condition .entry)) (now (handed .entry)) ⌝ }
 {
     let k = words::word_count(u + g);
     let all = u * k;
@@ -323,9 +336,11 @@ fn mix_handed_with(
     own: &mut [u64],
     b: &mut [u64],
 )
-    requires { ⌜ (u ≤ 6) × (u + g ≤ 10) × IsTable (u + g) (now condition) × (length (now handed) ≡ u * 2 ^ (u + g)) × AreBits (now handed) × (length (now answers) ≡ u * 2 ^ (u + g)) ⌝ }
-    requires { ⌜ (length (now values) ≡ 2 ^ (u + g - 6)) × (length (now own) ≡ 2 ^ (u + g - 6)) × (length (now b) ≡ u * 2 ^ (u + g - 6)) ⌝ }
-    ensures { λ _. ⌜ ((f : Polynomial) (b : ℕ → Polynomial) → IsTableOf (u + g) f (now (condition .entry)) → AreTablesOf u (u + g) b (now (handed .entry)) → now (answers .exit) ≡ answerTable u (u + g) (lowenheim (u + g) f b)) ⌝ }
+    requires { ⌜ (u ≤ 6) × (u + g ≤ 10) × IsTable (u + g) (now condition)
+        × (length (now handed) ≡ u * 2 ^ (u + g)) × AreBits (now handed) × (length (now answers) ≡ u * 2 ^ (u + g)) ⌝ }
+    requires { ⌜ (length (now values) ≡ 2 ^ (u + g - 6)) × (length (now own) ≡ 2 ^ (u + g - 6))
+        × (length (now b) ≡ u * 2 ^ (u + g - 6)) ⌝ }
+    ensures { λ _. ⌜ now (answers .exit) ≡ handedTable u g (now (condition .entry)) (now (handed .entry)) ⌝ }
 {
     words::take_values(u + g, condition, values);
     take_all(u, u + g, handed, b);

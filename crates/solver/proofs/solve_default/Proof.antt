@@ -1,7 +1,6 @@
 -- `solver::solve_default` meets its contract: the order is 0, 1, 2, ..
 -- Assumes nothing.
 use mathlib.Core.Path.{sym}
-use Prim.Native.Nat.{_-_}
 use borrow.Author.Needs.{needs}
 use lib.Seq.{length-take-le}
 use Rattle.solver.proofs.OnWords.{first-unknowns, lists-each}
@@ -16,20 +15,12 @@ slice-aggregate-solve-by c =
 solve-by-requires : tie.Need-solve-by-requires
 solve-by-requires c κs =
     let start = c .before .before .before .before in
-    (start .pre .0, start .pre .1, lists-each _ (start .pre .0) (first-unknowns _ (start .pre .0)), start .pre .2, start .pre .3)
+    (start .pre .0, start .pre .1, lists-each _ (first-unknowns _ (start .pre .0)), start .pre .2, start .pre .3)
 
 returns : tie.Need-returns
 returns c =
     let start = c .before .before .before .before .before .before .before in
-    let after-solve-by = c .before .before in
-    rw (first-unknowns _ (start .pre .0)) at (after-solve-by .solve-by .ensures)
+    rw (first-unknowns _ (start .pre .0)) at (c .before .before .solve-by .ensures)
 
 pub solve-default-spec : {M : Type 1} → statement M
-solve-default-spec =
-    tie.close
-    (tie.spec
-    (λ c. search needs)
-    slice-aggregate-solve-by
-    solve-by-requires
-    (λ c. search needs)
-    returns)
+solve-default-spec = tie.close (tie.spec (λ c. search needs) slice-aggregate-solve-by solve-by-requires (λ c. search needs) returns)

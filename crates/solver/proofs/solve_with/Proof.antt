@@ -1,30 +1,28 @@
 -- `solver::solve_with` meets its contract: the verdict by values, and a method's tables if there is a solution.
 -- Assumes nothing.
-use mathlib.Core.Path.{_∙_}
-use Prim.Native.Nat.{_-_}
 use borrow.Author.Needs.{needs}
 use Rattle.solver.proofs.OnWords.{none-by, solved-by}
-use Rattle.solver.proofs.Written.{values-of}
 use Rattle.solver.proofs.solve_with.Statement.{statement}
 use Rattle.solver.proofs.solve_with.Tie as tie
 
 returns : tie.Need-returns
 returns c =
-    let start = c .before .before .before .before .before .before .before .before .before .before .before .before .before .before .before .before .before .before .before .before .before .before .before .before .before .before .before .before .before .before .before .before .before .before .before in
-    let after-take-values = c .before .before .before .before .before .before .before .before .before .before .before .before .before .before .before .before .before .before .before .before .before .before .before .before .before .before .before in
-    let after-copy = c .before .before .before .before .before .before .before .before .before .before .before .before .before .before .before .before .before .before .before .before .before .before in
-    let after-solve-values = c .before .before .before .before .before .before .before .before .before .before .before .before .before .before .before .before .before in
-    let told = c .before .before .before .before .before .before .before .before .before .before .before in
-    let after-write-by = c .before .before .before .before .before .before in
-    ((λ f ft. (solved-by (start .args .method) _ _ (start .args .order .now) f _ _ _ (start .args .answers .now) (told .enum-told .given .1) (after-solve-values .solve-values .ensures f (after-copy .copy .ensures ∙ values-of _ f (start .args .condition .now) _ ft (after-take-values .take-values .ensures))) (after-write-by .write-by .ensures f (start .args .order .now) (values-of _ f (start .args .condition .now) _ ft (after-take-values .take-values .ensures)))) .0), (λ f ft. (solved-by (start .args .method) _ _ (start .args .order .now) f _ _ _ (start .args .answers .now) (told .enum-told .given .1) (after-solve-values .solve-values .ensures f (after-copy .copy .ensures ∙ values-of _ f (start .args .condition .now) _ ft (after-take-values .take-values .ensures))) (after-write-by .write-by .ensures f (start .args .order .now) (values-of _ f (start .args .condition .now) _ ft (after-take-values .take-values .ensures)))) .1))
+    let written = c .before .before .before .before .before .before in
+    let case = written .before .before .before .before .before in
+    let solving = case .before .before .before .before .before .before in
+    let copying = solving .before .before .before .before .before in
+    let taking = copying .before .before .before .before .before in
+    let start = taking .before .before .before .before .before .before .before .before in
+    solved-by _ _ _ _ (start .args .answers .now) (copying .copy .ensures) (taking .take-values .ensures) (solving .solve-values .ensures _)
+    (case .enum-told .given .1) (written .write-by .ensures _ _) (start .pre .0 .4)
 
 returns-2 : tie.Need-returns-2
 returns-2 c =
-    let start = c .before .before .before .before .before .before .before .before .before .before .before .before .before .before .before .before .before .before .before .before .before .before .before .before .before in
-    let after-take-values = c .before .before .before .before .before .before .before .before .before .before .before .before .before .before .before .before .before in
-    let after-copy = c .before .before .before .before .before .before .before .before .before .before .before .before in
-    let after-solve-values = c .before .before .before .before .before .before .before in
-    ((λ f ft. (none-by (start .args .method) _ _ (start .args .order .now) f _ _ _ (start .args .answers .now) (c .before .verdict .given .1) (after-solve-values .solve-values .ensures f (after-copy .copy .ensures ∙ values-of _ f (start .args .condition .now) _ ft (after-take-values .take-values .ensures)))) .0), (λ f ft. (none-by (start .args .method) _ _ (start .args .order .now) f _ _ _ (start .args .answers .now) (c .before .verdict .given .1) (after-solve-values .solve-values .ensures f (after-copy .copy .ensures ∙ values-of _ f (start .args .condition .now) _ ft (after-take-values .take-values .ensures)))) .1))
+    let solving = c .before .before .before .before .before .before .before in
+    let copying = solving .before .before .before .before .before in
+    let taking = copying .before .before .before .before .before in
+    none-by _ _ _ _ _ (copying .copy .ensures) (taking .take-values .ensures) (solving .solve-values .ensures _)
+    (c .before .verdict .given .1)
 
 pub solve-with-spec : {M : Type 1} → statement M
 solve-with-spec =
