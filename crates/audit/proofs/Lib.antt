@@ -1,4 +1,2 @@
 pub mod Same
 pub mod Passing
-pub mod Theorems
-pub mod Injective

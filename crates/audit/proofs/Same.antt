@@ -28,22 +28,21 @@ use Rattle.words.specs.Words.{wordsOf, bitAt, answerWords}
 use Rattle.words.proofs.Letters.{room, count-small}
 use Rattle.words.proofs.Parts.{part-fits}
 use Rattle.words.proofs.Words.{words-cong, at-words}
-use Rattle.solution.specs.Condition.{defaultOrder}
-use Rattle.solution.specs.Elimination.{Verdict, solved, none, booleAnswers, solve}
+use Rattle.solution.specs.Condition.{Condition, defaultOrder}
+use Rattle.solution.specs.Elimination.{Verdict, solved, none, booleAnswers, booleTable, solve}
 use Rattle.elimination.proofs.Slots.{part-listed, answer-part}
-use Rattle.entry.specs.declared.Record.{Record}
+use Rattle.entry.specs.Record.{Record}
 use Rattle.entry.specs.Held.{conditionIn, answersIn, heldCondition, heldVerdict}
-use Rattle.entry.specs.Questions.{sameBytes, sameVerdict, solvedAfresh, answersHold}
+use Rattle.entry.specs.Questions.{sameBytes, sameVerdict, answersHold}
 use Rattle.entry.proofs.Theorems.{bytes-same, same-bytes}
 use Rattle.calls.specs.declared.Heading.{Heading}
 use Rattle.calls.specs.declared.Verdict.the-variants.{Solved, None}
 use Rattle.records.specs.Inner.Headings.{headingOf, said}
 use Rattle.records.proofs.Headings.{heading-u, heading-g, said-none, said-solved}
 use Rattle.calls.specs.declared.Verdict.{Verdict as Afresh}
-use Rattle.calls.specs.declared.Verdict.the-variants as fresh-variants
-use Rattle.solver.specs.Inner.Methods.{verdict, solveWords}
+use Rattle.solver.specs.Inner.Methods.{ordered, verdict, solveWords}
 use Rattle.solver.proofs.OnWords.{solved-by-values, none-by-values}
-use Rattle.calls.specs.GONE.{AreAnswers}
+use Rattle.audit.specs.Inner.Answers.{AreAnswers}
 
 -- ---- two lists of words, from place i on
 module _ (xs ys : List ℕ) (i : ℕ) (b : Bool) (inv : b ≡ sameBytes (drop i xs) (drop i ys)) (e : length xs ≡ length ys) where
@@ -154,19 +153,21 @@ module _ (u n : ℕ) (hs fresh : List ℕ) (is : AreAnswers u n hs) (j : ℕ) (i
             never (rw (← c) (same-bytes own)) s
 
 -- ---- against the verdict solved afresh
-module _ (u g : ℕ) (o t hs fresh : List ℕ) {v : Afresh} (e : verdict v fresh ≡ solveWords u g o (present t)) where
-  pub against-solved : {b : Bool} → v ≡ fresh-variants.Solved
-      → ((p : ℕ → Polynomial) → fresh ≡ answerWords u (2 ^ (u + g - 6)) (λ j. value (u + g) (p j)) → b ≡ sameBytes hs (answerTable u (u + g) p)) → b ≡ sameVerdict (solved hs) (solve u g o t)
+module _ (u g : ℕ) (o t hs fresh : List ℕ) {v : Afresh} (e : verdict v fresh ≡ solveWords (ordered u g o t)) where
+  pub against-solved : {b : Bool} → v ≡ Solved
+      → ((p : ℕ → Polynomial) → fresh ≡ answerWords u (2 ^ (u + g - 6)) (λ j. value (u + g) (p j)) → b ≡ sameBytes hs (answerTable u (u + g) p))
+      → b ≡ sameVerdict (solved hs) (solve (ordered u g o t))
+  unfolding booleTable
   against-solved told same =
-      let w = solved-by-values u g o t fresh (rw told at e) in
+      let w = solved-by-values (ordered u g o t) fresh (rw told at e) in
       same (booleAnswers (u + g) (present t) o) (w .1) ∙ rw (w .0)
 
-  pub against-none : {state : State} → v ≡ fresh-variants.None state → false ≡ sameVerdict (solved hs) (solve u g o t)
-  against-none {state} told = rw (none-by-values u g o t state (rw told at e))
+  pub against-none : {state : State} → v ≡ None state → false ≡ sameVerdict (solved hs) (solve (ordered u g o t))
+  against-none {state} told = rw (none-by-values (ordered u g o t) state (rw told at e))
 
-against-state : (u g : ℕ) (o t : List ℕ) (held : State) (w : Verdict (List ℕ)) → w ≡ solveWords u g o (present t) → sameVerdict (none held) w ≡ sameVerdict (none held) (solve u g o t)
-against-state u g o t held (solved ws) e = rw (solved-by-values u g o t ws e .0)
-against-state u g o t held (none state) e = rw (none-by-values u g o t state e)
+against-state : (c : Condition) (held : State) (w : Verdict (List ℕ)) → w ≡ solveWords c → sameVerdict (none held) w ≡ sameVerdict (none held) (solve c)
+against-state c held (solved ws) e = rw (solved-by-values c ws e .0)
+against-state c held (none state) e = rw (none-by-values c state e)
 
 -- ---- question 13, of an entry whose condition t was read, and solved afresh by its values
 module _ (rs : List Record) (h : Heading) (eh : h ≡ headingOf rs) (t : List ℕ) (et : t ≡ table (h .unknowns + h .givens) (conditionIn rs)) where
@@ -175,16 +176,20 @@ module _ (rs : List Record) (h : Heading) (eh : h ≡ headingOf rs) (t : List �
   condition-table = rw et (is-table (h .unknowns + h .givens) (conditionIn rs))
 
   module _ (o : List ℕ) (eo : o ≡ defaultOrder (h .unknowns)) where
-    afresh : solve (h .unknowns) (h .givens) o t ≡ solvedAfresh rs
-    unfolding solvedAfresh heldCondition
-    afresh = rw (eo, et, heading-u rs eh, heading-g rs eh)
+    read-back : ordered (h .unknowns) (h .givens) o t ≡ heldCondition rs
+    unfolding heldCondition
+    read-back = rw (eo, et, heading-u rs eh, heading-g rs eh)
 
-    pub hold-none : (state : State) (b : Bool) (w : Verdict (List ℕ)) → w ≡ solveWords (h .unknowns) (h .givens) o (present t) → said (heldVerdict rs) ≡ None state → b ≡ sameVerdict (none state) w → b ≡ answersHold rs
+    pub hold-none : (state : State) (b : Bool) (w : Verdict (List ℕ)) → w ≡ solveWords (ordered (h .unknowns) (h .givens) o t)
+        → said (heldVerdict rs) ≡ None state → b ≡ sameVerdict (none state) w → b ≡ answersHold rs
     unfolding answersHold
     hold-none state b w ew es eb =
-        eb ∙ against-state (h .unknowns) (h .givens) o t state w ew ∙ ap₂ sameVerdict (sym (said-none (heldVerdict rs) state es)) afresh
+        eb ∙ against-state (ordered (h .unknowns) (h .givens) o t) state w ew
+        ∙ ap₂ sameVerdict (sym (said-none (heldVerdict rs) state es)) (ap solve read-back)
 
-    pub hold-solved : (a : List ℕ) (b : Bool) → said (heldVerdict rs) ≡ Solved → a ≡ answerTable (h .unknowns) (h .unknowns + h .givens) (answersIn rs) → b ≡ sameVerdict (solved a) (solve (h .unknowns) (h .givens) o t) → b ≡ answersHold rs
+    pub hold-solved : (a : List ℕ) (b : Bool) → said (heldVerdict rs) ≡ Solved
+        → a ≡ answerTable (h .unknowns) (h .unknowns + h .givens) (answersIn rs)
+        → b ≡ sameVerdict (solved a) (solve (ordered (h .unknowns) (h .givens) o t)) → b ≡ answersHold rs
     unfolding answersHold heldVerdict
     hold-solved a b es ea eb =
-        eb ∙ ap₂ sameVerdict (ap solved (ea ∙ rw (heading-u rs eh, heading-g rs eh)) ∙ sym (said-solved _ rs es)) afresh
+        eb ∙ ap₂ sameVerdict (ap solved (ea ∙ rw (heading-u rs eh, heading-g rs eh)) ∙ sym (said-solved _ rs es)) (ap solve read-back)

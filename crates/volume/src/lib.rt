@@ -1,21 +1,17 @@
 // The walk over a volume. Public calls: `walk_volume`, and over the struct `Walk` the two functions `walk_from`, which makes one, and `answer`.
 // `walk_at` does the work on the slice and the number; the functions over the struct only take it apart.
+use calls::Read;
+use calls::Walked;
+use tables::Question;
 ghost use mathlib.Core.Path.{_≡_};
+ghost use mathlib.Core.List.{[]};
 ghost use Prim.Native.Nat.{_≤_};
 ghost use lib.ListN.{length, drop};
-ghost use Rattle.tables.specs.Answered.{reply};
+ghost use Rattle.tables.specs.Answered.{answered, call};
 ghost use Rattle.entry.specs.Held.{records};
-ghost use Rattle.calls.specs.Entries.{readValues};
-ghost use Rattle.calls.specs.GONE.{audited};
-ghost use Rattle.calls.specs.Questions.{routeRises};
-ghost use Rattle.calls.specs.Walk.{walkRefusal, walkReply, walked};
-use calls::Read;
-
-// What a walk answers: the count of entries, or the number of the first no and the count of entries that passed before it.
-pub enum Walked {
-    Count(usize),
-    Refused(u8, usize),
-}
+ghost use Rattle.calls.specs.Questions.{routeRises, walkQuestions};
+ghost use Rattle.calls.specs.Entries.{reading, readValues};
+ghost use Rattle.calls.specs.Walk.{walked, walkCall};
 
 // 'A walk is made from a lent volume and a place in it'
 pub struct Walk<'a> {
@@ -34,36 +30,37 @@ fn route_rises(before: u8, route: u8) -> bool
 }
 
 // The audit's questions, then 15, of the entry that stands at a place.
-fn audit_at(volume: &[u8], at: usize, before: u8) -> Audited
+fn audit_at(volume: &[u8], at: usize, before: u8) -> Read
     requires { ⌜ at ≤ length (now volume) ⌝ }
-    ensures { λ r. ⌜ audited r ≡ reply (walkRefusal before (drop at (now (volume .entry)))) (readValues (records (drop at (now (volume .entry))))) ⌝ }
+    ensures { λ r. ⌜ answered (reading r) []
+        ≡ call (walkQuestions before (records (drop at (now (volume .entry))))) (readValues (records (drop at (now (volume .entry))))) [] ⌝ }
 {
     match audit::audit(&volume[at..]) {
-        Audited::Passed(heading, said) => {
+        Read::Entry(heading, verdict) => {
             if !route_rises(before, heading.route) {
-                return Audited::Refused(tables::RISING);
+                return Read::Refused(tables::number(Question::Rising));
             }
-            Audited::Passed(heading, said)
+            Read::Entry(heading, verdict)
         }
-        Audited::Refused(number) => Audited::Refused(number),
+        Read::Refused(number) => Read::Refused(number),
     }
 }
 
 // The walk, on the slice and the number.
 fn walk_at(volume: &[u8], place: usize) -> Walked
-    ensures { λ r. ⌜ walked r ≡ walkReply (now (volume .entry)) place ⌝ }
+    ensures { λ r. ⌜ answered (walked r) [] ≡ walkCall (now (volume .entry)) place ⌝ }
 {
     let mut at = place;
     let mut before = 0;
     let mut passed = 0;
     while at < volume.len() {
         match audit_at(volume, at, before) {
-            Audited::Passed(heading, _) => {
+            Read::Entry(heading, _) => {
                 before = heading.route;
                 passed += 1;
                 at += heading.used;
             }
-            Audited::Refused(number) => {
+            Read::Refused(number) => {
                 return Walked::Refused(number, passed);
             }
         }
@@ -78,14 +75,14 @@ pub fn walk_from<'a>(volume: &'a [u8], place: usize) -> Walk<'a>
 }
 
 pub fn answer<'a>(walk: Walk<'a>) -> Walked
-    ensures { λ r. ⌜ walked r ≡ walkReply (now (walk .entry .volume)) (walk .entry .place) ⌝ }
+    ensures { λ r. ⌜ answered (walked r) [] ≡ walkCall (now (walk .entry .volume)) (walk .entry .place) ⌝ }
 {
     walk_at(walk.volume, walk.place)
 }
 
 // The walk, for callers that hold no `Walk`.
 pub fn walk_volume(volume: &[u8], place: usize) -> Walked
-    ensures { λ r. ⌜ walked r ≡ walkReply (now (volume .entry)) place ⌝ }
+    ensures { λ r. ⌜ answered (walked r) [] ≡ walkCall (now (volume .entry)) place ⌝ }
 {
     answer(walk_from(volume, place))
 }

@@ -3,7 +3,7 @@ use mathlib.Core.Path.{sym, ap, _∙_}
 use borrow.Author.Needs.{needs}
 use Rattle.tables.proofs.Questions.{failed, passed}
 use Rattle.records.specs.declared.Survey.{Survey}
-use Rattle.audit.proofs.Passing.{refused-before, refused-13, passed-all}
+use Rattle.audit.proofs.Passing.{refused-before, refused-afresh, passed-all}
 use Rattle.audit.proofs.audit.Statement.{statement}
 use Rattle.audit.proofs.audit.Tie as tie
 
@@ -13,17 +13,13 @@ returns c = refused-before _ (ap (λ (x : Survey). x .refusal) (c .before .befor
 holds-afresh-requires : tie.Need-holds-afresh-requires
 holds-afresh-requires c κs =
     let e = c .before .before .before .survey-entry .ensures in
-    (sym (ap (λ (x : Survey). x .refusal) e) ∙ c .before .if1 .left, ap (λ (x : Survey). x .heading) e, ap (λ (x : Survey). x .said) e)
+    record { passed = sym (ap (λ (x : Survey). x .refusal) e) ∙ c .before .if1 .left; headed = ap (λ (x : Survey). x .heading) e; says = ap (λ (x : Survey). x .verdict) e }
 
 returns-2 : tie.Need-returns-2
-returns-2 c =
-    refused-13 _ (ap (λ (x : Survey). x .refusal) (c .before .before .before .before .before .survey-entry .ensures)) (c .before .before .before .if1 .left) (failed (c .before .holds-afresh .ensures) (c .if2 .taken))
+returns-2 c = search (refused-afresh, failed)
 
 returns-3 : tie.Need-returns-3
-returns-3 c =
-    let e = c .before .before .before .before .before .survey-entry .ensures in
-    passed-all _ (ap (λ (x : Survey). x .refusal) e) (c .before .before .before .if1 .left) (passed (c .before .holds-afresh .ensures) (c .if2 .left))
-    (ap (λ (x : Survey). x .heading) e) (ap (λ (x : Survey). x .said) e)
+returns-3 c = search (passed-all, passed)
 
 pub audit-spec : {M : Type 1} → statement M
 audit-spec =

@@ -13,16 +13,16 @@ use Rattle.audit.proofs.holds_afresh.Statement.{statement}
 use Rattle.audit.proofs.holds_afresh.Tie as tie
 
 small : (c : tie.After-struct-known) → c .before .before .args .heading .unknowns + c .before .before .args .heading .givens ≤ 10
-small c = heading-small _ (c .before .before .pre .0) (c .before .before .pre .1)
+small c = heading-small _ (c .before .before .pre .passed) (c .before .before .pre .headed)
 
 few : (c : tie.After-word-count) → c .before .before .before .before .args .heading .unknowns ≤ 6
-few c = heading-unknowns _ (c .before .before .before .before .pre .0) (c .before .before .before .before .pre .1)
+few c = heading-unknowns _ (c .before .before .before .before .pre .passed) (c .before .before .before .before .pre .headed)
 
 fits : (c : tie.After-word-count) → c .before .pow2 .result ≤ 1024
 fits c = pow-small _ _ (c .before .pow2 .ensures) (small (c .before .before))
 
 all-fit : (c : tie.After-word-count) → c .before .before .before .before .args .heading .unknowns * c .before .pow2 .result ≤ 6144
-all-fit c = size-small _ (c .before .before .before .before .pre .0) (c .before .before .before .before .pre .1) (c .before .pow2 .ensures)
+all-fit c = size-small _ (c .before .before .before .before .pre .passed) (c .before .before .before .before .pre .headed) (c .before .pow2 .ensures)
 
 words-fit : (c : tie.After-word-count) → c .word-count .result ≤ 16
 words-fit c = count-small _ _ (c .word-count .ensures) (small (c .before .before))
@@ -36,7 +36,7 @@ answers-hold-requires c κs =
     let start = c .before .before .before .before .before .before .before .before .before .before in
     let e = c .before .before .before .before .before .before .before .pow2 .ensures in
     let f = known .word-count .ensures in (
-      (start .pre .0, start .pre .1, start .pre .2, first-unknowns _ (few known)),
+      (start .pre, first-unknowns _ (few known)),
       (
         (length-take-le _ _ (fits known) ∙ e, length-take-le _ _ (all-fit known) ∙ ap (λ k. start .args .heading .unknowns * k) e),
         (length-take-le _ _ (words-fit known) ∙ f, length-take-le _ _ (every-fit known) ∙ ap (λ k. start .args .heading .unknowns * k) f, length-take-le _ _ (words-fit known) ∙ f),

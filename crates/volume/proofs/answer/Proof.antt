@@ -43,9 +43,9 @@ use denote.Triple.Table.{entered, cited}
 use denote.Triple.Walked.{says, Stays, stay-none, walkOf, goes-none, Walks, ends-at, walked, walk-meets}
 use denote.Exit.{yes}
 use denote.Triple.Clauses.{ensured, lasts}
-use Rattle.tables.specs.Answered.{Reply}
-use Rattle.calls.specs.Walk.{walkReply}
-use Rattle.calls.specs.GONE.{walked as answerOf}
+use Rattle.tables.specs.Answered.{Reply, Answered, answered}
+use Rattle.calls.specs.Walk.{walkCall}
+use Rattle.calls.specs.Walk.{walked as answerOf}
 use Rattle.volume.specs.declared.Walk.{Walk}
 use Rattle.calls.specs.declared.Walked.{Walked}
 use Rattle.volume.proofs.Walk as T
@@ -81,8 +81,8 @@ module _ {M : Type 1} (𝓤 : URA M) (H : Heap 𝓤) (A : Atoms 𝓤) (W : Given
   abbrev v : Val
   v = sliceVal (d .volume .ptr) (length (d .volume .now))
 
-  abbrev found : Reply
-  found = walkReply (now (d .volume)) (d .place)
+  abbrev found : Answered Reply
+  found = walkCall (now (d .volume)) (d .place)
 
   abbrev Post : Val → SProp 𝓤
   Post = walkOf 𝓤 H A answer.ended stayed (answer.clauses 𝓤 H A mem run) .post (((κ, tt), (q, tt), tt, (d, tt), (mach ∷ [], tt)), tt)
@@ -121,10 +121,10 @@ module _ {M : Type 1} (𝓤 : URA M) (H : Heap 𝓤) (A : Atoms 𝓤) (W : Given
       move ! (2 ∷ 0 ∷ []) $ use2 W (raw (WalkAt 𝓤 H A mem run .pre to)) asked $ frame ! $ done !)
 
   -- of the callee's `ensured`, the clause alone: it has no `&mut`, so what is said of last values is dropped
-  said : (r : Walked) → ent 𝓤 (ensured 𝓤 H A walk-at.ended (walk-at.clauses 𝓤 H A mem run) (κ, tt) (d .volume, (d .place, tt)) tt r) (fact 𝓤 (answerOf r ≡ found))
-  said r = exE 𝓤 _ (λ ws. snd∗ 𝓤 (sem 𝓤 H A (lasts walk-at.ended (κ, tt) (d .volume, (d .place, tt)) ws)) (fact 𝓤 (answerOf r ≡ found)))
+  said : (r : Walked) → ent 𝓤 (ensured 𝓤 H A walk-at.ended (walk-at.clauses 𝓤 H A mem run) (κ, tt) (d .volume, (d .place, tt)) tt r) (fact 𝓤 (answered (answerOf r) [] ≡ found))
+  said r = exE 𝓤 _ (λ ws. snd∗ 𝓤 (sem 𝓤 H A (lasts walk-at.ended (κ, tt) (d .volume, (d .place, tt)) ws)) (fact 𝓤 (answered (answerOf r) [] ≡ found)))
 
-  exits : (r : Walked) (u : Val) → answerOf r ≡ found → ent 𝓤 (⋆ 𝓤 H A (‵ (S.the-row .own r (u ∷ [])) ∷ (‵ (flft κ q) ⊛ ‵ ftrue) ∷ ‵ Own ∷ [])) (Post u)
+  exits : (r : Walked) (u : Val) → answered (answerOf r) [] ≡ found → ent 𝓤 (⋆ 𝓤 H A (‵ (S.the-row .own r (u ∷ [])) ∷ (‵ (flft κ q) ⊛ ‵ ftrue) ∷ ‵ Own ∷ [])) (Post u)
   exits r u e =
       qed W (‵ (S.the-row .own r (u ∷ [])) ∷ (‵ (flft κ q) ⊛ ‵ ftrue) ∷ ‵ Own ∷ []) ∵
       suffices ! _ (ends-at 𝓤 H A answer.ended stayed (answer.clauses 𝓤 H A mem run) W (((κ, tt), (q, tt), tt, (d, tt), (mach ∷ [], tt)), tt) u r (tt, tt) (tt, tt)) $ says ! e $
@@ -140,7 +140,7 @@ module _ {M : Type 1} (𝓤 : URA M) (H : Heap 𝓤) (A : Atoms 𝓤) (W : Given
         move ! (8 ∷ []) $ use1 W (raw (WalkAt 𝓤 H A mem run .pre to) ⊛ ‵ Own) (apart (wt .1 .1 .0 .fits)) $ split ! $
         calls-at ! fm (WalkAt 𝓤 H A mem run) known to (and-then ! (load ! (from ! (stop !)) (look ! 4 refl)) (and-then ! (load ! (from ! (stop !)) (look ! 2 refl)) (no-more !))) (λ u.
         use1 W (later (some (λ (r : Walked). ((‵ (flft κ q) ⊛ ‵ ftrue) ⊛ ‵ (S.the-row .own r (u ∷ []))) ⊛ raw (ensured 𝓤 H A walk-at.ended (walk-at.clauses 𝓤 H A mem run) (κ, tt) (d .volume, (d .place, tt)) tt r)))) (id⊢ 𝓤 _) $ await ! tt $ pick ! (λ r.
-        split ! $ move ! (1 ∷ []) $ use1 W (raw (fact 𝓤 (answerOf r ≡ found))) (said r) $ heard ! (answerOf r ≡ found) (λ e. split ! $ move ! (1 ∷ []) $
+        split ! $ move ! (1 ∷ []) $ use1 W (raw (fact 𝓤 (answered (answerOf r) [] ≡ found))) (said r) $ heard ! (answered (answerOf r) [] ≡ found) (λ e. split ! $ move ! (1 ∷ []) $
         -- [the result; the token; what the struct owns; _3; …; _2; …; _1; …; room for _0; …]
         peeks ! S.the-row (Is S.the-row) (shows 𝓤 H A S.the-row) r (u ∷ []) (λ is.
         land ! (from ! (stop !)) (init ! 9 refl (EL.lawful S.the-type S′.the-laws 𝓤 H A W tt .typed r _ is .0)) $

@@ -1,24 +1,26 @@
 -- What is left of the volume is all that stands from the place on; the audit's answer there, then 15. Assumes nothing.
 use mathlib.Core.Path.{_≡_, ap, _∙_}
+use mathlib.Core.List.{[]}
 use lib.ListN.{drop}
 use borrow.Author.Needs.{needs}
 use Rattle.tables.proofs.Questions.{failed, passed}
 use Rattle.tables.proofs.Slices.{rest-of}
-use Rattle.calls.specs.GONE.{auditReply, audited}
-use Rattle.volume.proofs.Turns.{refused-first, refused-15, passed-all}
+use Rattle.tables.specs.Answered.{answered}
+use Rattle.calls.specs.Entries.{reading, auditCall}
+use Rattle.volume.proofs.Turns.{refused-first, refused-rising, passed-all}
 use Rattle.volume.proofs.audit_at.Statement.{statement}
 use Rattle.volume.proofs.audit_at.Tie as tie
 
 -- the audit's answer, from the place on
-answer : (c : tie.After-audit) → audited (c .audit .result) ≡ auditReply (drop (c .before .before .before .args .at) (c .before .before .before .args .volume .now))
+answer : (c : tie.After-audit) → answered (reading (c .audit .result)) [] ≡ auditCall (drop (c .before .before .before .args .at) (c .before .before .before .args .volume .now))
 answer c =
     let a = c .before .before .before .args in
-    c .audit .ensures ∙ ap auditReply (rest-of (a .at) (a .volume .now))
+    c .audit .ensures ∙ ap auditCall (rest-of (a .at) (a .volume .now))
 
 returns : tie.Need-returns
 returns c =
     let told = c .before .before .before in
-    refused-15 _ _ _ (answer (told .before .before)) (told .heading .given .1) (failed (c .before .route-rises .ensures) (c .if1 .taken))
+    refused-rising _ _ _ (answer (told .before .before)) (told .heading .given .1) (c .number .ensures) (failed (c .before .route-rises .ensures) (c .if1 .taken))
 
 returns-2 : tie.Need-returns-2
 returns-2 c =

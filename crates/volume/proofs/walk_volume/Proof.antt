@@ -38,9 +38,9 @@ use denote.Triple.Table.{entered, cited}
 use denote.Triple.Walked.{says, Stays, stay-none, stay-none-slice, walkOf, goes-none, goes-none-slice, Walks, ends-at, walked, walk-meets}
 use denote.Exit.{yes}
 use denote.Triple.Clauses.{ensured, lasts}
-use Rattle.tables.specs.Answered.{Reply}
-use Rattle.calls.specs.Walk.{walkReply}
-use Rattle.calls.specs.GONE.{walked as answerOf}
+use Rattle.tables.specs.Answered.{Reply, Answered, answered}
+use Rattle.calls.specs.Walk.{walkCall}
+use Rattle.calls.specs.Walk.{walked as answerOf}
 use Rattle.volume.specs.declared.Walk.{Walk}
 use Rattle.calls.specs.declared.Walked.{Walked}
 use Rattle.volume.proofs.Walk as T
@@ -84,8 +84,8 @@ module _ {M : Type 1} (𝓤 : URA M) (H : Heap 𝓤) (A : Atoms 𝓤) (W : Given
   abbrev at : Vals walk-volume.signature (κ, tt)
   at = (v ∷ [], (vint w64 n ∷ [], tt))
 
-  abbrev found : Reply
-  found = walkReply (now s) n
+  abbrev found : Answered Reply
+  found = walkCall (now s) n
 
   -- the struct's type as a local of a body has it
   abbrev αᵉ : NamedLft
@@ -117,10 +117,10 @@ module _ {M : Type 1} (𝓤 : URA M) (H : Heap 𝓤) (A : Atoms 𝓤) (W : Given
   goes-answer : (r : Walk) (u : Val) → ent 𝓤 (⋆ 𝓤 H A (‵ (B (κ, tt) .own r (u ∷ [])) ∷ (‵ (flft κ q) ⊛ ‵ ftrue) ∷ [])) (Answer 𝓤 H A mem run .pre (to-answer r u))
   goes-answer r u = qed W (‵ (B (κ, tt) .own r (u ∷ [])) ∷ (‵ (flft κ q) ⊛ ‵ ftrue) ∷ []) ∵ nothing ! $ move ! (1 ∷ 0 ∷ []) $ fjoin ! $ move ! (1 ∷ 0 ∷ []) $ join ! $ frame ! $ done !
 
-  answer-said : (r : Walk) (t : Walked) → ent 𝓤 (ensured 𝓤 H A answer.ended (answer.clauses 𝓤 H A mem run) (κ, tt) (r, tt) tt t) (fact 𝓤 (answerOf t ≡ walkReply (now (r .volume)) (r .place)))
-  answer-said r t = exE 𝓤 _ (λ ws. snd∗ 𝓤 (sem 𝓤 H A (lasts answer.ended (κ, tt) (r, tt) ws)) (fact 𝓤 (answerOf t ≡ walkReply (now (r .volume)) (r .place))))
+  answer-said : (r : Walk) (t : Walked) → ent 𝓤 (ensured 𝓤 H A answer.ended (answer.clauses 𝓤 H A mem run) (κ, tt) (r, tt) tt t) (fact 𝓤 (answered (answerOf t) [] ≡ walkCall (now (r .volume)) (r .place)))
+  answer-said r t = exE 𝓤 _ (λ ws. snd∗ 𝓤 (sem 𝓤 H A (lasts answer.ended (κ, tt) (r, tt) ws)) (fact 𝓤 (answered (answerOf t) [] ≡ walkCall (now (r .volume)) (r .place))))
 
-  exits : (t : Walked) (u : Val) → answerOf t ≡ found → ent 𝓤 (⋆ 𝓤 H A (‵ (S.the-row .own t (u ∷ [])) ∷ (‵ (flft κ q) ⊛ ‵ ftrue) ∷ ‵ Own ∷ [])) (Post u)
+  exits : (t : Walked) (u : Val) → answered (answerOf t) [] ≡ found → ent 𝓤 (⋆ 𝓤 H A (‵ (S.the-row .own t (u ∷ [])) ∷ (‵ (flft κ q) ⊛ ‵ ftrue) ∷ ‵ Own ∷ [])) (Post u)
   exits t u e =
       qed W (‵ (S.the-row .own t (u ∷ [])) ∷ (‵ (flft κ q) ⊛ ‵ ftrue) ∷ ‵ Own ∷ []) ∵
       suffices ! _ (ends-at 𝓤 H A walk-volume.ended stayed (walk-volume.clauses 𝓤 H A mem run) W (((κ, tt), (q, tt), tt, (s, (n, tt)), at), tt) u t (tt, (tt, tt)) (tt, (tt, tt))) $ says ! e $
@@ -141,12 +141,12 @@ module _ {M : Type 1} (𝓤 : URA M) (H : Heap 𝓤) (A : Atoms 𝓤) (W : Given
         use2 W (raw (Answer 𝓤 H A mem run .pre (to-answer r u))) (goes-answer r u) $
         calls-at ! fm (Answer 𝓤 H A mem run) known-answer (to-answer r u) (and-then ! (load ! (from ! (stop !)) (look ! 2 refl)) (no-more !)) (λ u′.
         use1 W (later (some (λ (t : Walked). ((‵ (flft κ q) ⊛ ‵ ftrue) ⊛ ‵ (S.the-row .own t (u′ ∷ []))) ⊛ raw (ensured 𝓤 H A answer.ended (answer.clauses 𝓤 H A mem run) (κ, tt) (r, tt) tt t)))) (id⊢ 𝓤 _) $ await ! tt $ pick ! (λ t.
-        split ! $ move ! (1 ∷ []) $ use1 W (raw (fact 𝓤 (answerOf t ≡ walkReply (now (r .volume)) (r .place)))) (answer-said r t) $ heard ! (answerOf t ≡ walkReply (now (r .volume)) (r .place)) (λ e′. split ! $ move ! (1 ∷ []) $
+        split ! $ move ! (1 ∷ []) $ use1 W (raw (fact 𝓤 (answered (answerOf t) [] ≡ walkCall (now (r .volume)) (r .place)))) (answer-said r t) $ heard ! (answered (answerOf t) [] ≡ walkCall (now (r .volume)) (r .place)) (λ e′. split ! $ move ! (1 ∷ []) $
         -- [the result; the token; what s owns; _3; …; _2; …; _1; …; room for _0; …]
         peeks ! S.the-row (Is S.the-row) (shows 𝓤 H A S.the-row) t (u′ ∷ []) (λ is′.
         land ! (from ! (stop !)) (init ! 9 refl (EL.lawful S.the-type S′.the-laws 𝓤 H A W tt .typed t _ is′ .0)) $
         returns ! (look ! 9 refl) $ forget ! 3 refl $ forget ! 5 refl $ forget ! 7 refl $ forget ! 9 refl $ move ! (9 ∷ 10 ∷ []) $ free1 ! $ move ! (7 ∷ 8 ∷ []) $ free1 ! $ move ! (5 ∷ 6 ∷ []) $ free1 ! $ move ! (3 ∷ 4 ∷ []) $ free1 ! $ free0 ! $
-        by ! (exits t u′ (e′ ∙ (ap (λ (x : RefT (List ℕ)). walkReply (now x) (r .place)) (e .0) ∙ ap (walkReply (now s)) (e .1))))))))))))))))
+        by ! (exits t u′ (e′ ∙ (ap (λ (x : RefT (List ℕ)). walkCall (now x) (r .place)) (e .0) ∙ ap (walkCall (now s)) (e .1))))))))))))))))
 
 module _ {M : Type 1} (𝓤 : URA M) (H : Heap 𝓤) (A : Atoms 𝓤) (W : Given 𝓤 H A) (mem : Memory → SProp 𝓤) (run : Routine → Fun 𝓤) where
   walk-volume-walks : (C : Calls 𝓤 H) (Λ : Loops 𝓤 H) → FmC 𝓤 H (W .laws) C → Triple 𝓤 (C #volume·walk-from) (Make 𝓤 H A mem run) → Triple 𝓤 (C #volume·answer) (Answer 𝓤 H A mem run)
