@@ -4,7 +4,7 @@
 use super::calls::ask_bits;
 use super::solving::boole;
 use super::table::Table;
-use super::written::Written;
+use super::written::{Written, LETTERS};
 use super::{for_blocks, Block};
 use crate::entry::{Contents, Count, Reading, Walk};
 use crate::questions::{
@@ -193,9 +193,10 @@ fn examine(bytes: &[u8]) -> Result<(Reading, Letters), Refusal> {
     Ok((reading, letters))
 }
 
-/// One rising number: the table, then the written order. No place is 0.
+/// One rising number, for a mask of at most ten letters: the table, then the written order. No
+/// place is 0.
 fn place_of(table: u64, mask: u64) -> u64 {
-    table << 32 | (1 + mask.count_ones() as u64) << 16 | mask
+    table << 32 | (1 + LETTERS[mask as usize % 1024] as u64) << 16 | mask
 }
 
 /// The masks of the condition, and the unknowns and masks of the answers, of an entry that has

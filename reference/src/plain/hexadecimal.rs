@@ -48,17 +48,20 @@ impl Format for Hexadecimal {
     }
 
     fn put_condition<const K: usize>(masks: &Written<K>, room: &mut &mut [u8]) {
-        put_each(masks, room, |mask| {
-            let [a, b, c, d] = MASKS[mask];
-            [b'0', b'2', a, b, c, d, b'\n']
-        });
+        put_each(masks, room, |mask| line::<2, 7>(*b"02", &MASKS[mask]));
     }
 
     fn put_answer<const K: usize>(unknown: u8, masks: &Written<K>, room: &mut &mut [u8]) {
         let [j, k] = DIGITS[unknown as usize];
-        put_each(masks, room, |mask| {
-            let [a, b, c, d] = MASKS[mask];
-            [b'0', b'3', j, k, a, b, c, d, b'\n']
-        });
+        put_each(masks, room, |mask| line::<4, 9>([b'0', b'3', j, k], &MASKS[mask]));
     }
+}
+
+/// The digits of a monomial's record.
+#[inline(always)]
+fn line<const N: usize, const L: usize>(start: [u8; N], mask: &[u8; 4]) -> [u8; L] {
+    let mut line = [b'\n'; L];
+    line[..N].copy_from_slice(&start);
+    line[N..N + 4].copy_from_slice(mask);
+    line
 }

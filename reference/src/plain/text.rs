@@ -13,13 +13,15 @@ struct Sign {
     symbol: u8,
     /// All ones for a given: the number of unknowns is to be added.
     is_given: u8,
-    /// 0 for a space, which is dropped, else 1.
+    /// 1 for `!`, which is counted onto the symbol behind it.
+    negation: u8,
+    /// 0 for `!` and for a space, which leave no symbol of their own, else 1.
     length: u8,
     /// The bit of a letter, or that of a byte that is no sign.
     seen: u16,
 }
 
-/// Behind every sign that is its own byte.
+/// No sign's own byte.
 const END: u8 = 255;
 /// In `seen` the unknowns begin at bit 0, the givens here.
 const GIVENS: usize = 6;
@@ -28,7 +30,7 @@ const FOREIGN: u16 = 1 << 15;
 static SIGNS: [Sign; 256] = signs();
 
 const fn signs() -> [Sign; 256] {
-    let foreign = Sign { symbol: END, is_given: 0, length: 1, seen: FOREIGN };
+    let foreign = Sign { symbol: END, is_given: 0, negation: 0, length: 1, seen: FOREIGN };
     let mut signs = [foreign; 256];
     let mut byte = 0;
     while byte < 256 {
@@ -44,7 +46,8 @@ const fn signs() -> [Sign; 256] {
             }
             b'0' => Sign { symbol: OPERAND_ZERO as u8, ..own },
             b'1' => Sign { symbol: OPERAND_ONE as u8, ..own },
-            b'+' | b'|' | b'*' | b'!' | b'(' | b')' => own,
+            b'+' | b'|' | b'*' | b'(' | b')' => own,
+            b'!' => Sign { negation: 1, length: 0, ..own },
             b' ' => Sign { length: 0, ..own },
             _ => foreign,
         };
@@ -59,41 +62,52 @@ pub fn text_values<B: Block, const K: usize>(
     text: &[u8],
 ) -> Result<Table<B, K>, Refusal> {
     // as long as an index of eight bits reaches
-    let mut symbols = [END; 256];
-    let (mut count, mut seen) = (0u8, 0);
+    let mut symbols = [Symbol { symbol: END, negations: 0 }; 256];
+    let (mut count, mut negations, mut seen) = (0u8, 0, 0);
     for &byte in text {
         let sign = SIGNS[byte as usize];
-        symbols[count as usize] = sign.symbol + (sign.is_given & letters.unknowns as u8);
+        let symbol = sign.symbol + (sign.is_given & letters.unknowns as u8);
+        symbols[count as usize] = Symbol { symbol, negations };
         count += sign.length;
+        // none is left behind a symbol
+        negations = (negations + sign.negation) & sign.length.wrapping_sub(1);
         seen |= sign.seen;
     }
-    symbols[count as usize] = END;
+    symbols[count as usize] = Symbol { symbol: END, negations };
     let declared = (1 << letters.unknowns) - 1 | ((1 << letters.givens) - 1) << GIVENS;
     ask(5, seen & FOREIGN == 0)?;
     ask(6, seen & !declared == 0)?;
     let mut reader = Reader { symbols, at: 0 };
     match reader.read_sum() {
-        Some(values) if reader.next() == END => Ok(values),
+        Some(values) if reader.is_next(END) => Ok(values),
         _ => Err(Refusal(7)),
     }
 }
 
+/// A symbol and how many `!` stand before it.
+#[derive(Clone, Copy, PartialEq)]
+struct Symbol {
+    symbol: u8,
+    negations: u8,
+}
+
 /// The symbols, and the place of the next. Readers answer nothing where the grammar fails.
 struct Reader {
-    symbols: [u8; 256],
+    symbols: [Symbol; 256],
     at: u8,
 }
 
 impl Reader {
+    /// Whether the next symbol is the one asked for, with no `!` before it.
     #[inline(always)]
-    fn next(&self) -> u8 {
-        self.symbols[self.at as usize]
+    fn is_next(&self, symbol: u8) -> bool {
+        self.symbols[self.at as usize] == Symbol { symbol, negations: 0 }
     }
 
     /// Goes past the next symbol if it is the one asked for.
     #[inline(always)]
     fn skips(&mut self, symbol: u8) -> bool {
-        let is_next = self.next() == symbol;
+        let is_next = self.is_next(symbol);
         if is_next {
             self.at += 1;
         }
@@ -128,11 +142,8 @@ impl Reader {
         &mut self,
         product: &mut Table<B, K>,
     ) -> Option<()> {
-        let mut is_negated = self.skips(b'!');
-        while self.skips(b'!') {
-            is_negated = !is_negated;
-        }
-        let symbol = self.next();
+        let Symbol { symbol, negations } = self.symbols[self.at as usize];
+        let is_negated = negations % 2 == 1;
         self.at += 1;
         if let Some(operand) = B::OPERANDS.get(symbol as usize) {
             product.multiply_by(operand, is_negated);

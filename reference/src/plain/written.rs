@@ -6,7 +6,7 @@ use super::table::Table;
 use super::Block;
 
 /// The number of letters of each mask: plain x86-64 has no instruction that counts bits.
-static LETTERS: [u8; 1024] = letters();
+pub static LETTERS: [u8; 1024] = letters();
 
 const fn letters() -> [u8; 1024] {
     let mut letters = [0; 1024];
@@ -49,15 +49,18 @@ impl<const K: usize> Written<K> {
 
     pub fn of<B: Block>(table: &Table<B, K>) -> Self {
         let masks = table.0.map(B::bits);
-        // a byte for each number of letters: at most 252 masks of ten letters have the same
-        let mut counts = 0u128;
+        // a byte for each number of letters, of a block and of blocks with the same number
+        let mut counts = [0; 5];
         for (k, bits) in masks.iter().enumerate() {
-            let mut of_block = 0;
-            for (i, byte) in bits.to_le_bytes().into_iter().enumerate() {
-                of_block += COUNTS[byte as usize] << (8 * i.count_ones());
-            }
-            counts += (of_block as u128) << (8 * k.count_ones());
+            let of = |i: usize| COUNTS[(bits >> (8 * i)) as usize & 255];
+            counts[k.count_ones() as usize] += of(0)
+                + (of(1) + of(2) + of(4) << 8)
+                + (of(3) + of(5) + of(6) << 16)
+                + (of(7) << 24);
         }
+        // at most 252 masks of ten letters have the same number
+        let counts =
+            counts.into_iter().rev().fold(0u128, |all, counts| (all << 8) + counts as u128);
         let (mut starts, mut count) = ([0; 16], 0);
         for (start, masks) in starts.iter_mut().zip(counts.to_le_bytes()) {
             *start = count;
