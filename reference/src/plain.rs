@@ -14,6 +14,7 @@ mod solving;
 mod table;
 mod text;
 mod words;
+mod written;
 
 pub use block::Block;
 pub use bytes::{transform, Bytes};

@@ -30,7 +30,7 @@ pub fn sheet(input: &[u8]) -> Vec<u8> {
 }
 
 /// The last line may lack its line feed, and no line follows a last line feed.
-pub fn lines(input: &[u8]) -> Vec<&[u8]> {
+fn lines(input: &[u8]) -> Vec<&[u8]> {
     let mut lines: Vec<&[u8]> = input.split(|&byte| byte == b'\n').collect();
     if lines.last().is_some_and(|line| line.is_empty()) {
         lines.pop();

@@ -9,11 +9,11 @@ use tables::Question;
 ghost use mathlib.Core.Path.{_≡_};
 ghost use mathlib.Core.Bool.{_&&_};
 ghost use mathlib.Core.List.{[], _∷_};
-ghost use Prim.Native.Nat.{_+_, _^_, _≤_};
+ghost use Prim.Native.Nat.{_+_, _*_, _^_, _≤_};
 ghost use lib.Dec.{eqb};
 ghost use lib.ListN.{length};
 ghost use Rattle.ring.specs.Letters.{digit};
-ghost use Rattle.ring.specs.Polynomial.{value, within};
+ghost use Rattle.ring.specs.Polynomial.{odd, value, within};
 ghost use Rattle.ring.specs.Table.{present};
 ghost use Rattle.tables.specs.Questions.{firstNo, inRange};
 ghost use Rattle.tables.specs.Answered.{answered};
@@ -21,10 +21,44 @@ ghost use Rattle.calls.specs.Questions.{valueQuestions, pairQuestions, substitu
 ghost use Rattle.calls.specs.Operations.{outcome, valued, valueCall, sumCall, productCall, substituteCall};
 
 // Monomial m is present, by its byte, and its letters are all 1 at the point p.
-fn counts(byte: u8, m: usize, p: usize) -> bool
+fn counts(byte: u8, m: u8, p: u8) -> bool
     ensures { λ r. ⌜ r ≡ (eqb byte 1 && within m p) ⌝ }
 {
     (byte == 1) & ((m & p) == m)
+}
+
+// The parity of the monomials that count, in six letters or fewer. Masks are bytes, so that the loop is one of whole vectors.
+fn odd_below(t: &[u8], p: u8) -> bool
+    requires { ⌜ length (now t) ≤ 64 ⌝ }
+    ensures { λ r. ⌜ r ≡ odd (length (now (t .entry))) (λ m. present (now (t .entry)) m && within m p) ⌝ }
+{
+    let mut odd = false;
+    for m in 0..t.len() {
+        odd = odd ^ counts(t[m], m as u8, p);
+    }
+    odd
+}
+
+// The same in more letters, a block of 64 masks at a time: all have the same further letters.
+fn odd_in_blocks(t: &[u8], blocks: usize, p: usize) -> bool
+    requires { ⌜ length (now t) ≡ blocks * 64 ⌝ }
+    ensures { λ r. ⌜ r ≡ odd (length (now (t .entry))) (λ m. present (now (t .entry)) m && within m p) ⌝ }
+{
+    let low = (p & 63) as u8;
+    let high = p >> 6;
+    let mut odd = false;
+    for w in 0..blocks {
+        let start = w * 64;
+        let end = start + 64;
+        odd = odd ^ (odd_below(&t[start..end], low) & ((w & high) == w));
+    }
+    odd
+}
+
+fn as_byte(b: bool) -> u8
+    ensures { λ r. ⌜ r ≡ digit b ⌝ }
+{
+    if b { 1 } else { 0 }
 }
 
 // The parity of the monomials that count.
@@ -32,11 +66,10 @@ fn value_of(t: &[u8], n: usize, p: usize) -> u8
     requires { ⌜ length (now t) ≡ 2 ^ n ⌝ }
     ensures { λ r. ⌜ r ≡ digit (value n (present (now (t .entry))) p) ⌝ }
 {
-    let mut odd = false;
-    for m in 0..t.len() {
-        odd = odd ^ counts(t[m], m, p);
+    if n < 6 {
+        return as_byte(odd_below(t, (p & 63) as u8));
     }
-    if odd { 1 } else { 0 }
+    as_byte(odd_in_blocks(t, t.len() / 64, p))
 }
 
 // Question 16, once question 1 is answered yes.

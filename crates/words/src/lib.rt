@@ -4,12 +4,13 @@
 // and then lend slices of exactly the length that is needed.
 ghost use mathlib.Core.Path.{_≡_};
 ghost use mathlib.Core.Bool.{true, false, _&&_, cond};
-ghost use Prim.Native.Nat.{_+_, _-_, _*_, _^_, _≤_, _<_};
+ghost use Prim.Native.Nat.{_+_, _-_, _*_, _/_, _%_, _^_, _≤_, _<_};
 ghost use lib.ListN.{length, getD};
+ghost use Rattle.ring.specs.Lists.{listed};
 ghost use Rattle.ring.specs.Letters.{digit, bit, assign};
 ghost use Rattle.ring.specs.Polynomial.{_⊕_, count, value};
 ghost use Rattle.ring.specs.Table.{AreBits, IsTable, present, tabulate, table};
-ghost use Rattle.words.specs.Words.{wordOf, wordsOf, bitAt, First, lowLetters, stepped, steppedBelow, xorRun, turned, spreadOf};
+ghost use Rattle.words.specs.Words.{wordOf, wordsOf, bitAt, First, lowLetters, stepped, steppedBelow, xorRun, turned, crossed, eightOf};
 
 // The number of words of n letters.
 pub fn word_count(n: usize) -> usize
@@ -33,7 +34,7 @@ pub fn further(n: usize) -> usize
 }
 
 fn wide(byte: u8) -> u64
-    ensures { λ r. ⌜ r ≡ byte ⌝ }
+    ensures { λ r. ⌜ (r ≡ byte) × (r < 256) ⌝ }
 {
     byte as u64
 }
@@ -52,15 +53,56 @@ fn pack_word(t: &[u8]) -> u64
     word
 }
 
-// A word for each 64 bytes.
-fn pack_all(t: &[u8], words: &mut [u64])
+// Eight bytes as the bytes of a word. In one function by itself, so that it is one load.
+fn eight(t: &[u8], at: usize) -> u64
+    requires { ⌜ (at + 8 ≤ length (now t)) × AreBits (now t) ⌝ }
+    ensures { λ r. ⌜ (r ≡ eightOf (present (now (t .entry))) at) × (r ≤ 0x0101_0101_0101_0101) ⌝ }
+{
+    let high = ((wide(t[at + 7]) * 256 + wide(t[at + 6])) * 256 + wide(t[at + 5])) * 256
+        + wide(t[at + 4]);
+    (((high * 256 + wide(t[at + 3])) * 256 + wide(t[at + 2])) * 256 + wide(t[at + 1])) * 256
+        + wide(t[at])
+}
+
+// 64 bytes as a word that is crossed: eight at a time they stand in its bytes, those behind them a bit higher.
+fn gather(t: &[u8]) -> u64
+    requires { ⌜ (length (now t) ≡ 64) × AreBits (now t) ⌝ }
+    ensures { λ r. ⌜ r ≡ wordOf (λ i. present (now (t .entry)) (crossed i)) ⌝ }
+{
+    let high = ((eight(t, 56) * 2 + eight(t, 48)) * 2 + eight(t, 40)) * 2 + eight(t, 32);
+    (((high * 2 + eight(t, 24)) * 2 + eight(t, 16)) * 2 + eight(t, 8)) * 2 + eight(t, 0)
+}
+
+// A word, crossed, for each 64 bytes.
+fn gather_all(t: &[u8], words: &mut [u64])
     requires { ⌜ (length (now t) ≡ 64 * length (now words)) × AreBits (now t) ⌝ }
-    ensures { λ _. ⌜ now (words .exit) ≡ wordsOf (length (now (words .entry))) (present (now (t .entry))) ⌝ }
+    ensures { λ _. ⌜ now (words .exit) ≡ wordsOf (length (now (words .entry))) (λ p. present (now (t .entry)) (crossed p)) ⌝ }
 {
     for w in 0..words.len() {
-        let start = 64 * w;
+        let start = w * 64;
         let end = start + 64;
-        words[w] = pack_word(&t[start..end]);
+        words[w] = gather(&t[start..end]);
+    }
+}
+
+// The word crossed, by three exchanges of one letter with one.
+fn cross(word: u64) -> u64
+    ensures { λ r. ⌜ r ≡ wordOf (λ i. bit word (crossed i)) ⌝ }
+{
+    let a = (word ^ (word >> 7)) & 0x00aa_00aa_00aa_00aa;
+    let first = word ^ a ^ (a << 7);
+    let b = (first ^ (first >> 14)) & 0x0000_cccc_0000_cccc;
+    let second = first ^ b ^ (b << 14);
+    let c = (second ^ (second >> 28)) & 0x0000_0000_f0f0_f0f0;
+    second ^ c ^ (c << 28)
+}
+
+// Each word crossed. A loop by itself, so that it is one of whole vectors.
+fn cross_all(words: &mut [u64])
+    ensures { λ _. ⌜ now (words .exit) ≡ wordsOf (length (now (words .entry))) (λ p. bitAt (now (words .entry)) (crossed p)) ⌝ }
+{
+    for i in 0..words.len() {
+        words[i] = cross(words[i]);
     }
 }
 
@@ -73,7 +115,8 @@ pub fn pack(n: usize, t: &[u8], words: &mut [u64])
         words[0] = pack_word(t);
         return;
     }
-    pack_all(t, words);
+    gather_all(t, words);
+    cross_all(words);
 }
 
 fn bit_of(word: u64, i: usize) -> u8
@@ -83,35 +126,48 @@ fn bit_of(word: u64, i: usize) -> u8
     ((word >> i) & 1) as u8
 }
 
-// The eight bits of a byte as eight bytes of a word. The seventh goes apart, so that no sum carries.
-fn spread(byte: u64) -> u64
-    requires { ⌜ byte < 256 ⌝ }
-    ensures { λ r. ⌜ r ≡ spreadOf byte ⌝ }
+fn low_byte(word: u64) -> u8
+    ensures { λ r. ⌜ r ≡ word % 256 ⌝ }
 {
-    (((byte & 127) * 0x0002_0408_1020_4081) & 0x0101_0101_0101_0101) | ((byte >> 7) << 56)
+    (word & 255) as u8
 }
 
-// The bits of a byte, a byte each.
-fn unpack_byte(byte: u64, out: &mut [u8])
-    requires { ⌜ (byte < 256) × (length (now out) ≡ 8) ⌝ }
-    ensures { λ _. ⌜ now (out .exit) ≡ tabulate 8 (bit byte) ⌝ }
+// The bytes of a word. In one function by itself, so that it is one store.
+fn put_eight(word: u64, out: &mut [u8])
+    requires { ⌜ length (now out) ≡ 8 ⌝ }
+    ensures { λ _. ⌜ now (out .exit) ≡ listed 8 (λ i. word / 2 ^ (8 * i) % 256) ⌝ }
 {
-    let s = spread(byte);
-    for i in 0..8 {
-        out[i] = ((s >> (8 * i)) & 255) as u8;
+    out[0] = low_byte(word);
+    out[1] = low_byte(word >> 8);
+    out[2] = low_byte(word >> 16);
+    out[3] = low_byte(word >> 24);
+    out[4] = low_byte(word >> 32);
+    out[5] = low_byte(word >> 40);
+    out[6] = low_byte(word >> 48);
+    out[7] = low_byte(word >> 56);
+}
+
+// The bits of a crossed word, a byte each, eight at a time.
+fn unpack_word(word: u64, out: &mut [u8], eights: usize)
+    requires { ⌜ (eights ≤ 8) × (length (now out) ≡ eights * 8) ⌝ }
+    ensures { λ _. ⌜ now (out .exit) ≡ tabulate (length (now (out .entry))) (λ p. bit word (crossed p)) ⌝ }
+{
+    for j in 0..eights {
+        let start = j * 8;
+        let end = start + 8;
+        put_eight((word >> j) & 0x0101_0101_0101_0101, &mut out[start..end]);
     }
 }
 
-// The values that words hold, a byte each, eight at a time.
-fn unpack_eights(words: &[u64], out: &mut [u8], eights: usize)
-    requires { ⌜ (length (now out) ≡ eights * 8) × (length (now out) ≤ 64 * length (now words)) ⌝ }
-    ensures { λ _. ⌜ now (out .exit) ≡ tabulate (length (now (out .entry))) (bitAt (now (words .entry))) ⌝ }
+// The values that crossed words hold, a byte each.
+fn unpack_all(words: &[u64], out: &mut [u8])
+    requires { ⌜ length (now out) ≡ 64 * length (now words) ⌝ }
+    ensures { λ _. ⌜ now (out .exit) ≡ tabulate (length (now (out .entry))) (λ p. bitAt (now (words .entry)) (crossed p)) ⌝ }
 {
-    for q in 0..eights {
-        let start = q * 8;
-        let end = start + 8;
-        let word = words[start >> 6];
-        unpack_byte((word >> (start & 63)) & 255, &mut out[start..end]);
+    for w in 0..words.len() {
+        let start = w * 64;
+        let end = start + 64;
+        unpack_word(words[w], &mut out[start..end], 8);
     }
 }
 
@@ -125,17 +181,21 @@ fn unpack_each(words: &[u64], out: &mut [u8])
     }
 }
 
-// The values that words hold, a byte each.
-pub fn unpack(words: &[u64], out: &mut [u8])
-    requires { ⌜ length (now out) ≤ 64 * length (now words) ⌝ }
-    ensures { λ _. ⌜ now (out .exit) ≡ tabulate (length (now (out .entry))) (bitAt (now (words .entry))) ⌝ }
+// The values that words hold, which it uses up, as a table.
+pub fn unpack(n: usize, words: &mut [u64], out: &mut [u8])
+    requires { ⌜ (n ≤ 10) × (length (now words) ≡ 2 ^ (n - 6)) × (length (now out) ≡ 2 ^ n) ⌝ }
+    ensures { λ _. ⌜ now (out .exit) ≡ table n (bitAt (now (words .entry))) ⌝ }
 {
-    let eights = out.len() / 8;
-    if eights * 8 == out.len() {
-        unpack_eights(words, out, eights);
-    } else {
+    if n < 3 {
         unpack_each(words, out);
+        return;
     }
+    cross_all(words);
+    if n < 6 {
+        unpack_word(words[0], out, tables::pow2(n - 3));
+        return;
+    }
+    unpack_all(words, out);
 }
 
 // The value that words hold at a point.
@@ -260,7 +320,7 @@ pub fn put_table(n: usize, words: &mut [u64], out: &mut [u8])
     ensures { λ _. ⌜ now (out .exit) ≡ table n (value n (bitAt (now (words .entry)))) ⌝ }
 {
     to_values(words, further(n));
-    unpack(words, out);
+    unpack(n, words, out);
 }
 
 fn put_copy_with(n: usize, slot: &[u64], out: &mut [u8], own: &mut [u64])

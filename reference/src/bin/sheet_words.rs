@@ -1,9 +1,7 @@
 //! The program `sheet` in plain Rust, 64 values to a word: the same output as the engine's.
 
-use std::io::{self, Read};
+use std::io;
 
 fn main() -> io::Result<()> {
-    let mut input = Vec::new();
-    io::stdin().read_to_end(&mut input)?;
-    reference::plain::print_sheet::<u64>(&input, &mut io::stdout().lock())
+    reference::plain::print_sheet::<u64>(io::stdin().lock(), io::stdout().lock())
 }

@@ -1,6 +1,6 @@
 //! One byte a value, eight bytes to a number.
 
-use super::block::{Block, LOW_LETTERS, MOST_BLOCKS, POINTS};
+use super::block::{operands, Block, Operands, LOW_LETTERS, MOST_BLOCKS, OPERAND_ONE, POINTS};
 use super::table::Table;
 use std::ops::{BitAnd, BitOr, BitXor};
 
@@ -62,25 +62,7 @@ impl BitOr for Bytes {
     }
 }
 
-static LETTERS: [[Bytes; MOST_BLOCKS]; 10] = letters();
-
-const fn letters() -> [[Bytes; MOST_BLOCKS]; 10] {
-    let mut letters = [[<Bytes as Block>::ZERO; MOST_BLOCKS]; 10];
-    let mut j = 0;
-    while j < 10 {
-        let mut k = 0;
-        while k < MOST_BLOCKS {
-            if j < LOW_LETTERS {
-                letters[j][k] = <Bytes as Block>::LOW[j];
-            } else if k >> (j - LOW_LETTERS) & 1 == 1 {
-                letters[j][k] = <Bytes as Block>::ONE;
-            }
-            k += 1;
-        }
-        j += 1;
-    }
-    letters
-}
+static OPERANDS: Operands<Bytes> = operands!(Bytes);
 
 impl Block for Bytes {
     const ZERO: Bytes = Bytes([0; 8]);
@@ -94,7 +76,7 @@ impl Block for Bytes {
         Bytes([0, 0, 0, 0, ONES, ONES, ONES, ONES]),
     ];
 
-    const LETTERS: &'static [[Bytes; MOST_BLOCKS]; 10] = &LETTERS;
+    const OPERANDS: &'static Operands<Bytes> = &OPERANDS;
 
     #[inline(always)]
     fn turned(self, j: usize) -> Bytes {
@@ -139,20 +121,11 @@ impl Block for Bytes {
         self.0[point / 8] |= 1 << (8 * (point % 8));
     }
 
-    fn first_one(self) -> Option<usize> {
-        let e = self.0.iter().position(|&eight| eight != 0)?;
-        Some(8 * e + self.0[e].trailing_zeros() as usize / 8)
-    }
-
+    /// A product puts the lowest bits of eight bytes side by side.
     #[inline(always)]
-    fn each_one(self, mut see: impl FnMut(usize)) {
-        for (e, &eight) in self.0.iter().enumerate() {
-            let mut rest = eight;
-            while rest != 0 {
-                see(8 * e + rest.trailing_zeros() as usize / 8);
-                rest &= rest - 1;
-            }
-        }
+    fn bits(self) -> u64 {
+        let byte = |eight: u64| (eight.wrapping_mul(0x0102_0408_1020_4080) >> 56) as u8;
+        u64::from_le_bytes(self.0.map(byte))
     }
 
     /// Point by point.

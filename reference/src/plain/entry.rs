@@ -1,57 +1,107 @@
 //! The archive entry: records are written from tables in the written order, looked at in one pass
 //! over the bytes for all questions, and read into tables in a second.
 
-use super::block::Room;
 use super::calls::ask_bits;
 use super::solving::boole;
 use super::table::Table;
+use super::written::{Written, LETTERS};
 use super::{for_blocks, Block};
 use crate::entry::{Contents, Count, Reading, Walk};
 use crate::questions::{
     ask, ask_length, ask_letters, ask_route, Letters, Refusal, State, MOST_UNKNOWNS,
 };
 
-/// Where records go.
-pub trait Output {
-    fn put<const N: usize>(&mut self, record: [u8; N]);
-    /// For each mask, a record that begins in the same way and ends in the mask.
-    fn put_monomials<const N: usize>(&mut self, start: [u8; N], masks: &[u16]);
-}
-
-/// The records of an entry, from the coefficients and the values of its condition.
-pub fn put_records<B: Block, const K: usize>(
+/// An entry whose answers are found, and whose masks are counted.
+pub struct Entry<const K: usize> {
     route: u8,
     letters: Letters,
-    condition: &Table<B, K>,
-    values: &Table<B, K>,
-    room: &mut Room,
-    output: &mut impl Output,
-) {
-    output.put([1, route, letters.unknowns as u8, letters.givens as u8]);
-    output.put_monomials([2], condition.written(room));
-    match boole(letters, *values) {
-        Err(state) => output.put([5, state.0 as u8]),
-        Ok(answers) => {
-            for (j, answer) in answers[..letters.unknowns].iter().enumerate() {
-                output.put_monomials([3, j as u8], answer.transformed().written(room));
-            }
-        }
-    }
-    output.put([4, route]);
+    condition: Written<K>,
+    answers: Result<[Written<K>; MOST_UNKNOWNS as usize], State>,
 }
 
-impl Output for Vec<u8> {
-    fn put<const N: usize>(&mut self, record: [u8; N]) {
-        self.extend_from_slice(&record);
+impl<const K: usize> Entry<K> {
+    /// From the coefficients and the values of a condition.
+    pub fn new<B: Block>(
+        route: u8,
+        letters: Letters,
+        condition: &Table<B, K>,
+        values: Table<B, K>,
+    ) -> Self {
+        let answers = boole(letters, values).map(|values| {
+            let mut answers = [Written::NONE; MOST_UNKNOWNS as usize];
+            for (answer, values) in answers.iter_mut().zip(&values[..letters.unknowns]) {
+                *answer = Written::of(&values.transformed());
+            }
+            answers
+        });
+        Entry { route, letters, condition: Written::of(condition), answers }
     }
 
-    fn put_monomials<const N: usize>(&mut self, start: [u8; N], masks: &[u16]) {
-        let end = self.len();
-        self.resize(end + (N + 2) * masks.len(), 0);
-        for (record, mask) in self[end..].chunks_exact_mut(N + 2).zip(masks) {
-            record[..N].copy_from_slice(&start);
-            record[N..].copy_from_slice(&mask.to_le_bytes());
+    pub fn length<F: Format>(&self) -> usize {
+        let found = match &self.answers {
+            Ok(answers) => F::length(4) * answers.iter().map(|answer| answer.count).sum::<usize>(),
+            Err(_) => F::length(2),
+        };
+        F::length(4) + F::length(3) * self.condition.count + found + F::length(2)
+    }
+
+    /// Puts the records into room of their length.
+    pub fn put<F: Format>(&self, mut room: &mut [u8]) {
+        let Letters { unknowns, givens } = self.letters;
+        F::put([1, self.route, unknowns as u8, givens as u8], &mut room);
+        F::put_condition(&self.condition, &mut room);
+        match &self.answers {
+            Err(state) => F::put([5, state.0 as u8], &mut room),
+            Ok(answers) => {
+                for (answer, unknown) in answers.iter().zip(0..unknowns as u8) {
+                    F::put_answer(unknown, answer, &mut room);
+                }
+            }
         }
+        F::put([4, self.route], &mut room);
+    }
+}
+
+/// What records look like.
+pub trait Format {
+    /// The length of a record of so many bytes.
+    fn length(record: usize) -> usize;
+    /// Puts a record at the front of the room, and leaves the rest of it.
+    fn put<const N: usize>(record: [u8; N], room: &mut &mut [u8]);
+    fn put_condition<const K: usize>(masks: &Written<K>, room: &mut &mut [u8]);
+    fn put_answer<const K: usize>(unknown: u8, masks: &Written<K>, room: &mut &mut [u8]);
+}
+
+/// Puts a record for each mask, in the written order.
+#[inline(always)]
+pub fn put_each<const K: usize, const L: usize>(
+    masks: &Written<K>,
+    room: &mut &mut [u8],
+    record: impl Fn(usize) -> [u8; L],
+) {
+    let records = room.split_off_mut(..L * masks.count).expect("room for the records");
+    let (records, _) = records.as_chunks_mut();
+    masks.each(|mask, place| records[place] = record(mask));
+}
+
+/// Records as they are archived.
+struct Archived;
+
+impl Format for Archived {
+    fn length(record: usize) -> usize {
+        record
+    }
+
+    fn put<const N: usize>(record: [u8; N], room: &mut &mut [u8]) {
+        room.split_off_mut(..N).expect("room for the record").copy_from_slice(&record);
+    }
+
+    fn put_condition<const K: usize>(masks: &Written<K>, room: &mut &mut [u8]) {
+        put_each(masks, room, |mask| [2, mask as u8, (mask >> 8) as u8]);
+    }
+
+    fn put_answer<const K: usize>(unknown: u8, masks: &Written<K>, room: &mut &mut [u8]) {
+        put_each(masks, room, |mask| [3, unknown, mask as u8, (mask >> 8) as u8]);
     }
 }
 
@@ -68,22 +118,21 @@ pub fn write_entry<B: Block>(
     ask_length(condition, letters.table_length())?;
     let condition = &condition[..letters.table_length()];
     ask_bits(condition)?;
-    let mut bytes = Vec::with_capacity(4096);
-    for_blocks!(B, letters.count(), put_entry(route as u8, letters, condition, &mut bytes));
-    ask(14, output.len() >= bytes.len())?;
-    output[..bytes.len()].copy_from_slice(&bytes);
-    Ok(bytes.len())
+    for_blocks!(B, letters.count(), put_entry(route as u8, letters, condition, output))
 }
 
 fn put_entry<B: Block, const K: usize>(
     route: u8,
     letters: Letters,
     condition: &[u8],
-    bytes: &mut Vec<u8>,
-) {
+    output: &mut [u8],
+) -> Result<usize, Refusal> {
     let condition = Table::<B, K>::from_bytes(condition);
-    let values = condition.transformed();
-    put_records(route, letters, &condition, &values, &mut Room::new(), bytes);
+    let entry = Entry::new(route, letters, &condition, condition.transformed());
+    let length = entry.length::<Archived>();
+    ask(14, output.len() >= length)?;
+    entry.put::<Archived>(&mut output[..length]);
+    Ok(length)
 }
 
 /// Asks 10, 11, 1, 2 and 12 in one pass over the records.
@@ -144,9 +193,10 @@ fn examine(bytes: &[u8]) -> Result<(Reading, Letters), Refusal> {
     Ok((reading, letters))
 }
 
-/// One rising number: the table, then the written order. No place is 0.
+/// One rising number, for a mask of at most ten letters: the table, then the written order. No
+/// place is 0.
 fn place_of(table: u64, mask: u64) -> u64 {
-    table << 32 | (1 + mask.count_ones() as u64) << 16 | mask
+    table << 32 | (1 + LETTERS[mask as usize % 1024] as u64) << 16 | mask
 }
 
 /// The masks of the condition, and the unknowns and masks of the answers, of an entry that has

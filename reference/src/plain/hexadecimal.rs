@@ -1,10 +1,13 @@
 //! Records in hexadecimal, two lower-case digits a byte, one record on a line.
 
-use super::entry::Output;
+use super::entry::{put_each, Format};
+use super::written::Written;
+
+pub struct Hexadecimal;
 
 static DIGITS: [[u8; 2]; 256] = digits();
-/// The two bytes of each mask, low byte first, and the line feed.
-static MASKS: [[u8; 5]; 1024] = masks();
+/// The two bytes of each mask, low byte first.
+static MASKS: [[u8; 4]; 1024] = masks();
 
 const fn digits() -> [[u8; 2]; 256] {
     let mut digits = [[0; 2]; 256];
@@ -20,36 +23,45 @@ const fn digit(value: usize) -> u8 {
     b"0123456789abcdef"[value]
 }
 
-const fn masks() -> [[u8; 5]; 1024] {
-    let mut masks = [[0; 5]; 1024];
+const fn masks() -> [[u8; 4]; 1024] {
+    let mut masks = [[0; 4]; 1024];
     let mut mask = 0;
     while mask < 1024 {
         let (low, high) = (digits()[mask & 255], digits()[mask >> 8]);
-        masks[mask] = [low[0], low[1], high[0], high[1], b'\n'];
+        masks[mask] = [low[0], low[1], high[0], high[1]];
         mask += 1;
     }
     masks
 }
 
-/// Lines of records.
-pub struct Lines(pub Vec<u8>);
-
-impl Output for Lines {
-    fn put<const N: usize>(&mut self, record: [u8; N]) {
-        record.iter().for_each(|&byte| self.0.extend_from_slice(&DIGITS[byte as usize]));
-        self.0.push(b'\n');
+impl Format for Hexadecimal {
+    fn length(record: usize) -> usize {
+        2 * record + 1
     }
 
-    fn put_monomials<const N: usize>(&mut self, start: [u8; N], masks: &[u16]) {
-        let mut digits = [[0; 2]; N];
-        for (digits, byte) in digits.iter_mut().zip(start) {
-            *digits = DIGITS[byte as usize];
+    fn put<const N: usize>(record: [u8; N], room: &mut &mut [u8]) {
+        let line = room.split_off_mut(..Self::length(N)).expect("room for the line");
+        for (digits, byte) in line.chunks_exact_mut(2).zip(record) {
+            digits.copy_from_slice(&DIGITS[byte as usize]);
         }
-        let end = self.0.len();
-        self.0.resize(end + (2 * N + 5) * masks.len(), 0);
-        for (line, &mask) in self.0[end..].chunks_exact_mut(2 * N + 5).zip(masks) {
-            line[..2 * N].copy_from_slice(digits.as_flattened());
-            line[2 * N..].copy_from_slice(&MASKS[mask as usize]);
-        }
+        line[2 * N] = b'\n';
     }
+
+    fn put_condition<const K: usize>(masks: &Written<K>, room: &mut &mut [u8]) {
+        put_each(masks, room, |mask| line::<2, 7>(*b"02", &MASKS[mask]));
+    }
+
+    fn put_answer<const K: usize>(unknown: u8, masks: &Written<K>, room: &mut &mut [u8]) {
+        let [j, k] = DIGITS[unknown as usize];
+        put_each(masks, room, |mask| line::<4, 9>([b'0', b'3', j, k], &MASKS[mask]));
+    }
+}
+
+/// The digits of a monomial's record.
+#[inline(always)]
+fn line<const N: usize, const L: usize>(start: [u8; N], mask: &[u8; 4]) -> [u8; L] {
+    let mut line = [b'\n'; L];
+    line[..N].copy_from_slice(&start);
+    line[N..N + 4].copy_from_slice(mask);
+    line
 }

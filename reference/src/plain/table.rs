@@ -1,6 +1,6 @@
 //! Tables of a number of blocks that the compiler knows, in either form.
 
-use super::block::{Block, Room, LOW_LETTERS, POINTS};
+use super::block::{Block, LOW_LETTERS, POINTS};
 
 /// Values at all points, or coefficients of all masks.
 #[derive(Clone, Copy, PartialEq)]
@@ -27,29 +27,8 @@ impl<B: Block, const K: usize> Table<B, K> {
     }
 
     pub fn first_one(&self) -> Option<usize> {
-        let mut blocks = self.0.iter().enumerate();
-        blocks.find_map(|(k, block)| block.first_one().map(|point| k * POINTS + point))
-    }
-
-    /// The masks present, in the written order.
-    pub fn written<'a>(&self, room: &'a mut Room) -> &'a [u16] {
-        room.clear();
-        for (k, block) in self.0.iter().enumerate() {
-            block.each_one(|point| room.push(k * POINTS + point));
-        }
-        room.written()
-    }
-
-    /// Letter j, at the points of the table's blocks.
-    #[inline(always)]
-    fn letter_blocks(j: usize) -> &'static [B] {
-        &B::LETTERS[j][..K]
-    }
-
-    pub fn letter(j: usize) -> Self {
-        let mut table = Table::ZERO;
-        table.0.copy_from_slice(Self::letter_blocks(j));
-        table
+        let k = self.0.iter().position(|block| *block != B::ZERO)?;
+        Some(k * POINTS + self.0[k].bits().trailing_zeros() as usize)
     }
 
     #[inline(always)]
@@ -65,22 +44,21 @@ impl<B: Block, const K: usize> Table<B, K> {
         self.change(|block, k| block & other.0[k]);
     }
 
+    /// Multiplies by the front of other blocks, or by its negation, without a branch.
+    #[inline(always)]
+    pub fn multiply_by(&mut self, blocks: &[B], is_negated: bool) {
+        let negation = if is_negated { B::ONE } else { B::ZERO };
+        let blocks = &blocks[..K];
+        self.change(|block, k| block & (blocks[k] ^ negation));
+    }
+
     pub fn join(&mut self, other: &Self) {
         self.change(|block, k| block | other.0[k]);
     }
 
-    pub fn negate(&mut self) {
-        self.change(|block, _| block ^ B::ONE);
-    }
-
     pub fn add_letter(&mut self, j: usize) {
-        let letter = Self::letter_blocks(j);
+        let letter = &B::OPERANDS[j];
         self.change(|block, k| block ^ letter[k]);
-    }
-
-    pub fn multiply_letter(&mut self, j: usize) {
-        let letter = Self::letter_blocks(j);
-        self.change(|block, k| block & letter[k]);
     }
 
     /// Coefficients to values, or values to coefficients: per letter, the half without it is added
@@ -104,7 +82,7 @@ impl<B: Block, const K: usize> Table<B, K> {
 
     /// With `values` put for letter j.
     pub fn put_for(&self, j: usize, values: &Self) -> Self {
-        let letter = Self::letter_blocks(j);
+        let letter = &B::OPERANDS[j];
         self.with_turned(j, |block, turned, k| {
             block ^ ((values.0[k] ^ letter[k]) & (block ^ turned))
         })

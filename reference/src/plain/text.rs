@@ -1,50 +1,59 @@
-//! Reading a text: decoded once, then the three readers work the signs out at all points at once.
+//! Reading a text: decoded once, then the readers work the signs out at all points at once. No
+//! branch hangs on which letter it is, nor on whether a factor is negated.
 
+use super::block::{OPERAND_ONE, OPERAND_ZERO};
 use super::table::Table;
 use super::Block;
-use crate::questions::{ask, Letters, Refusal, LONGEST_TEXT};
-
-/// Unknown j is j and given i is GIVEN + i; every other sign is its own byte.
-const GIVEN: u8 = 8;
-const END_OF_LETTERS: u8 = 16;
+use crate::questions::{ask, Letters, Refusal};
 
 /// What a byte of a text says.
 #[derive(Clone, Copy)]
 struct Sign {
+    /// An operand is its number, a given without the unknowns before it; others are their own byte.
     symbol: u8,
-    /// 0 for a space, which is dropped, else 1.
+    /// All ones for a given: the number of unknowns is to be added.
+    is_given: u8,
+    /// 1 for `!`, which is counted onto the symbol behind it.
+    negation: u8,
+    /// 0 for `!` and for a space, which leave no symbol of their own, else 1.
     length: u8,
-    /// 1 for an opening bracket, less 1 for a closing one.
-    depth: i8,
-    is_none: bool,
-    /// The bit of the letter, by its symbol.
-    letter: u16,
+    /// The bit of a letter, or that of a byte that is no sign.
+    seen: u16,
 }
+
+/// No sign's own byte.
+const END: u8 = 255;
+/// In `seen` the unknowns begin at bit 0, the givens here.
+const GIVENS: usize = 6;
+const FOREIGN: u16 = 1 << 15;
 
 static SIGNS: [Sign; 256] = signs();
 
 const fn signs() -> [Sign; 256] {
-    let none = Sign { symbol: 0, length: 1, depth: 0, is_none: true, letter: 0 };
-    let mut signs = [none; 256];
+    let foreign = Sign { symbol: END, is_given: 0, negation: 0, length: 1, seen: FOREIGN };
+    let mut signs = [foreign; 256];
     let mut byte = 0;
     while byte < 256 {
-        let own = Sign { symbol: byte as u8, is_none: false, ..none };
+        let own = Sign { symbol: byte as u8, seen: 0, ..foreign };
         signs[byte] = match byte as u8 {
-            letter @ b'u'..=b'z' => letter_sign(letter - b'u', own),
-            letter @ b'a'..=b'h' => letter_sign(GIVEN + letter - b'a', own),
-            b'0' | b'1' | b'+' | b'|' | b'*' | b'!' => own,
-            b'(' => Sign { depth: 1, ..own },
-            b')' => Sign { depth: -1, ..own },
+            b'u'..=b'z' => {
+                let j = byte - b'u' as usize;
+                Sign { symbol: j as u8, seen: 1 << j, ..own }
+            }
+            b'a'..=b'h' => {
+                let i = byte - b'a' as usize;
+                Sign { symbol: i as u8, is_given: !0, seen: 1 << (GIVENS + i), ..own }
+            }
+            b'0' => Sign { symbol: OPERAND_ZERO as u8, ..own },
+            b'1' => Sign { symbol: OPERAND_ONE as u8, ..own },
+            b'+' | b'|' | b'*' | b'(' | b')' => own,
+            b'!' => Sign { negation: 1, length: 0, ..own },
             b' ' => Sign { length: 0, ..own },
-            _ => none,
+            _ => foreign,
         };
         byte += 1;
     }
     signs
-}
-
-const fn letter_sign(symbol: u8, own: Sign) -> Sign {
-    Sign { symbol, letter: 1 << symbol, ..own }
 }
 
 /// The values of a text of at most 200 bytes, or the first no of questions 5, 6 and 7.
@@ -52,104 +61,98 @@ pub fn text_values<B: Block, const K: usize>(
     letters: Letters,
     text: &[u8],
 ) -> Result<Table<B, K>, Refusal> {
-    let mut symbols = [0; LONGEST_TEXT];
-    let (mut count, mut is_foreign, mut seen) = (0, false, 0);
-    let (mut depth, mut deepest) = (0i16, 0);
+    // as long as an index of eight bits reaches
+    let mut symbols = [Symbol { symbol: END, negations: 0 }; 256];
+    let (mut count, mut negations, mut seen) = (0u8, 0, 0);
     for &byte in text {
         let sign = SIGNS[byte as usize];
-        symbols[count] = sign.symbol;
-        count += sign.length as usize;
-        is_foreign |= sign.is_none;
-        seen |= sign.letter;
-        depth += sign.depth as i16;
-        deepest = deepest.max(depth);
+        let symbol = sign.symbol + (sign.is_given & letters.unknowns as u8);
+        symbols[count as usize] = Symbol { symbol, negations };
+        count += sign.length;
+        // none is left behind a symbol
+        negations = (negations + sign.negation) & sign.length.wrapping_sub(1);
+        seen |= sign.seen;
     }
-    let declared = (1 << letters.unknowns) - 1 | ((1 << letters.givens) - 1) << GIVEN;
-    ask(5, !is_foreign)?;
+    symbols[count as usize] = Symbol { symbol: END, negations };
+    let declared = (1 << letters.unknowns) - 1 | ((1 << letters.givens) - 1) << GIVENS;
+    ask(5, seen & FOREIGN == 0)?;
     ask(6, seen & !declared == 0)?;
-    let mut reader = Reader { unknowns: letters.unknowns as u8, symbols: &symbols[..count], at: 0 };
-    // a sum and a product have each another operand waiting, at each depth of brackets
-    let mut values = vec![Table::ZERO; 3 + 2 * deepest as usize];
-    let read = reader.read_sum(&mut values);
-    ask(7, read.is_some() && reader.at == count)?;
-    Ok(values[0])
+    let mut reader = Reader { symbols, at: 0 };
+    match reader.read_sum() {
+        Some(values) if reader.is_next(END) => Ok(values),
+        _ => Err(Refusal(7)),
+    }
 }
 
-/// The symbols, and the place of the next. Each reader puts its values first among those that it is
-/// lent, uses the others for what stands inside, and answers nothing where the grammar fails.
-struct Reader<'a> {
-    unknowns: u8,
-    symbols: &'a [u8],
-    at: usize,
+/// A symbol and how many `!` stand before it.
+#[derive(Clone, Copy, PartialEq)]
+struct Symbol {
+    symbol: u8,
+    negations: u8,
 }
 
-impl Reader<'_> {
-    fn next(&self) -> Option<u8> {
-        self.symbols.get(self.at).copied()
+/// The symbols, and the place of the next. Readers answer nothing where the grammar fails.
+struct Reader {
+    symbols: [Symbol; 256],
+    at: u8,
+}
+
+impl Reader {
+    /// Whether the next symbol is the one asked for, with no `!` before it.
+    #[inline(always)]
+    fn is_next(&self, symbol: u8) -> bool {
+        self.symbols[self.at as usize] == Symbol { symbol, negations: 0 }
     }
 
-    /// The number of the letter that a symbol stands for.
-    fn letter(&self, symbol: u8) -> Option<usize> {
-        match symbol {
-            ..GIVEN => Some(symbol as usize),
-            GIVEN..END_OF_LETTERS => Some((self.unknowns + symbol - GIVEN) as usize),
-            _ => None,
-        }
-    }
-
-    fn read_sum<B: Block, const K: usize>(&mut self, values: &mut [Table<B, K>]) -> Option<()> {
-        self.read_product(values)?;
-        while let Some(sign @ (b'+' | b'|')) = self.next() {
+    /// Goes past the next symbol if it is the one asked for.
+    #[inline(always)]
+    fn skips(&mut self, symbol: u8) -> bool {
+        let is_next = self.is_next(symbol);
+        if is_next {
             self.at += 1;
-            let (value, others) = values.split_first_mut()?;
-            self.read_product(others)?;
-            match sign {
-                b'+' => value.add(&others[0]),
-                _ => value.join(&others[0]),
-            }
         }
-        Some(())
+        is_next
     }
 
-    fn read_product<B: Block, const K: usize>(&mut self, values: &mut [Table<B, K>]) -> Option<()> {
-        self.read_factor(values)?;
-        while self.next() == Some(b'*') {
-            self.at += 1;
-            // a letter is multiplied in where it stands
-            if let Some(j) = self.next().and_then(|symbol| self.letter(symbol)) {
-                self.at += 1;
-                values[0].multiply_letter(j);
+    fn read_sum<B: Block, const K: usize>(&mut self) -> Option<Table<B, K>> {
+        let mut sum = self.read_product()?;
+        loop {
+            if self.skips(b'|') {
+                sum.join(&self.read_product()?);
+            } else if self.skips(b'+') {
+                sum.add(&self.read_product()?);
             } else {
-                let (value, others) = values.split_first_mut()?;
-                self.read_factor(others)?;
-                value.multiply(&others[0]);
+                return Some(sum);
             }
         }
-        Some(())
     }
 
-    fn read_factor<B: Block, const K: usize>(&mut self, values: &mut [Table<B, K>]) -> Option<()> {
-        let symbol = self.next()?;
-        self.at += 1;
-        if let Some(j) = self.letter(symbol) {
-            values[0] = Table::letter(j);
-            return Some(());
+    #[inline(always)]
+    fn read_product<B: Block, const K: usize>(&mut self) -> Option<Table<B, K>> {
+        let mut product = Table::ONE;
+        self.multiply_by_factor(&mut product)?;
+        while self.skips(b'*') {
+            self.multiply_by_factor(&mut product)?;
         }
-        match symbol {
-            b'0' => values[0] = Table::ZERO,
-            b'1' => values[0] = Table::ONE,
-            b'!' => {
-                self.read_factor(values)?;
-                values[0].negate();
-            }
-            b'(' => {
-                self.read_sum(values)?;
-                if self.next() != Some(b')') {
-                    return None;
-                }
-                self.at += 1;
-            }
-            _ => return None,
+        Some(product)
+    }
+
+    #[inline(always)]
+    fn multiply_by_factor<B: Block, const K: usize>(
+        &mut self,
+        product: &mut Table<B, K>,
+    ) -> Option<()> {
+        let Symbol { symbol, negations } = self.symbols[self.at as usize];
+        let is_negated = negations % 2 == 1;
+        self.at += 1;
+        if let Some(operand) = B::OPERANDS.get(symbol as usize) {
+            product.multiply_by(operand, is_negated);
+        } else if symbol == b'(' {
+            let sum = self.read_sum::<B, K>()?;
+            product.multiply_by(&sum.0, is_negated);
+            return self.skips(b')').then_some(());
+        } else {
+            return None;
         }
         Some(())
     }

@@ -1,26 +1,8 @@
 //! Sixty-four values to a word.
 
-use super::block::{Block, LOW_LETTERS, MOST_BLOCKS};
+use super::block::{operands, Block, Operands, LOW_LETTERS, MOST_BLOCKS, OPERAND_ONE};
 
-static LETTERS: [[u64; MOST_BLOCKS]; 10] = letters();
-
-const fn letters() -> [[u64; MOST_BLOCKS]; 10] {
-    let mut letters = [[<u64 as Block>::ZERO; MOST_BLOCKS]; 10];
-    let mut j = 0;
-    while j < 10 {
-        let mut k = 0;
-        while k < MOST_BLOCKS {
-            if j < LOW_LETTERS {
-                letters[j][k] = <u64 as Block>::LOW[j];
-            } else if k >> (j - LOW_LETTERS) & 1 == 1 {
-                letters[j][k] = <u64 as Block>::ONE;
-            }
-            k += 1;
-        }
-        j += 1;
-    }
-    letters
-}
+static OPERANDS: Operands<u64> = operands!(u64);
 
 impl Block for u64 {
     const ZERO: u64 = 0;
@@ -34,7 +16,7 @@ impl Block for u64 {
         0xffff_ffff_0000_0000,
     ];
 
-    const LETTERS: &'static [[u64; MOST_BLOCKS]; 10] = &LETTERS;
+    const OPERANDS: &'static Operands<u64> = &OPERANDS;
 
     #[inline(always)]
     fn turned(self, j: usize) -> u64 {
@@ -80,17 +62,9 @@ impl Block for u64 {
         *self |= 1 << point;
     }
 
-    fn first_one(self) -> Option<usize> {
-        (self != 0).then(|| self.trailing_zeros() as usize)
-    }
-
     #[inline(always)]
-    fn each_one(self, mut see: impl FnMut(usize)) {
-        let mut rest = self;
-        while rest != 0 {
-            see(rest.trailing_zeros() as usize);
-            rest &= rest - 1;
-        }
+    fn bits(self) -> u64 {
+        self
     }
 
     /// By choices: the value where letter j is 1, or where it is 0, as part j says.

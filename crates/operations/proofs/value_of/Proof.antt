@@ -1,45 +1,36 @@
--- `operations::value_of` meets its contract. The loop's invariant: `odd` is the parity over the masks passed.
--- Assumes nothing.
-use mathlib.Core.Path.{_≡_, sym}
-use mathlib.Core.Bool.{_&&_}
-use Prim.Native.Nat.{_≤_, _-_}
+-- `operations::value_of` meets its contract. Assumes nothing.
+use mathlib.Core.Path.{refl}
 use native.Mathlib.Omega.{arith}
 use borrow.Author.Needs.{needs}
-use lib.ListN.{length}
-use Rattle.ring.specs.Polynomial.{odd as parity, within}
+use lib.Bits.{and-le-r}
 use Rattle.ring.specs.Table.{present}
-use Rattle.ring.proofs.Parity.{odd-zero}
-use Rattle.operations.proofs.Work.{parity-more, parity-end}
+use Rattle.operations.proofs.Work.{parity-end, parity-few, few-masks, whole-blocks}
 use Rattle.operations.proofs.value_of.Statement.{statement}
 use Rattle.operations.proofs.value_of.Tie as tie
 
-abbrev Inv-loop : tie.InvT-loop
-Inv-loop t n p odd₀ m₀ m-end odd m = (m ≤ length t) × (odd ≡ parity m (λ i. present t i && within i p))
+cast-odd-below : tie.Need-cast-odd-below
+cast-odd-below c = omega (arith, and-le-r ((c .before .before .args) .p) 63)
 
-abbrev μ-loop : tie.MeasureT-loop
-μ-loop t n p odd₀ m₀ m-end odd m = length t - m
+odd-below-requires : tie.Need-odd-below-requires
+odd-below-requires c κs = few-masks ((c .before .before .args) .n) ((c .before .before .args) .t .now) ((c .if1) .taken) ((c .before .before .pre))
 
-loop-again : tie.Need-loop-again Inv-loop μ-loop
-unfolding present
-loop-again c = (search needs, parity-more _ _ _ _ (c .before .before .before .loop .inv .1) (c .counts .ensures))
+returns : tie.Need-returns
+returns c = parity-few ((c .before .before .before .before .args) .n) _ (present ((c .before .before .before .before .args) .t .now)) ((c .before .before .before .before .args) .p) _ _ _ ((c .before .before .if1) .taken) ((c .before .before .before .before .pre)) refl ((c .before .odd-below) .ensures) ((c .as-byte) .ensures)
 
-returns : tie.Need-returns Inv-loop μ-loop
-returns c = parity-end _ (c .before .before .loop .m) _ _ _ _ (omega arith) (c .before .before .loop .inv .1) (c .if1 .taken)
+odd-in-blocks-requires : tie.Need-odd-in-blocks-requires
+odd-in-blocks-requires c κs = whole-blocks ((c .before .before .args) .n) ((c .before .before .args) .t .now) ((c .if1) .left) ((c .before .before .pre))
 
-returns-2 : tie.Need-returns-2 Inv-loop μ-loop
-returns-2 c = parity-end _ (c .before .before .loop .m) _ _ _ _ (omega arith) (c .before .before .loop .inv .1) (c .if1 .left)
+returns-2 : tie.Need-returns-2
+returns-2 c = parity-end ((c .before .before .before .before .args) .n) _ (present ((c .before .before .before .before .args) .t .now)) ((c .before .before .before .before .args) .p) _ _ ((c .before .before .before .before .pre)) ((c .before .odd-in-blocks) .ensures) ((c .as-byte2) .ensures)
 
 pub value-of-spec : {M : Type 1} → statement M
 value-of-spec =
     tie.close
     (tie.spec
-    Inv-loop
-    μ-loop
-    (λ c. (search needs, sym (odd-zero _)))
-    (λ c. search needs)
+    cast-odd-below
+    odd-below-requires
     (λ c κs. search needs)
-    (λ c. search needs)
-    (λ c. search needs)
-    loop-again
     returns
+    odd-in-blocks-requires
+    (λ c κs. search needs)
     returns-2)
