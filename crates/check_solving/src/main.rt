@@ -1,9 +1,9 @@
 // Solves the conditions of standard input by every call, and prints what comes back.
 // The stored input and output were made by the independent implementation in `reference/`.
-use libc::STDIN_FILENO;
-use libc::STDOUT_FILENO;
 use calls::Solving;
 use calls::Verdict;
+use libc::STDIN_FILENO;
+use libc::STDOUT_FILENO;
 
 fn show_verdict(verdict: Verdict) {
     match verdict {

@@ -1,4 +1,4 @@
--- The writer's questions, one after another, and the ways out: refused by 1, 2, 4 or 8, or by 14, or done.
+-- The writer's questions as the code asks them, and the ways out: refused by 1, 2, 4 or 8, or by 14, or done.
 -- Assumes nothing.
 use mathlib.Core.Path.{_≡_, refl, sym, ap, _∙_}
 use mathlib.Core.Bool.{true, false}
@@ -10,126 +10,95 @@ use lib.Dec.{leb}
 use lib.ListN.{length, take, drop}
 use lib.Seq.{length-take-le, sets-eq}
 use borrow.Author.Tests.{le-leb, lt-leb, leb-true}
-use Rattle.tables.specs.Inner.Put.{Put}
-use Rattle.tables.specs.Questions.{asks, firstNo, lettersFit, hasRoom, holdsBits}
-use Rattle.tables.specs.Answered.{reply, after}
 use Rattle.ring.proofs.Bool.{and-left, and-right}
-use Rattle.tables.proofs.Bits.{are-bits}
-use Rattle.tables.proofs.FirstNo.{yes-to, first-counts}
-use Rattle.tables.proofs.Questions.{letters-small, unknowns-small}
-use Rattle.tables.proofs.Reply.{reply-refused, reply-accepted, after-refused, after-done}
+use Rattle.tables.specs.declared.Question.the-variants.{Output}
+use Rattle.tables.specs.Inner.Put.{Put}
+use Rattle.tables.specs.Questions.{Asked, asks, firstNo, lettersFit, hasRoom, holdsBits, roomQuestions, bitQuestions, bufferQuestions}
+use Rattle.tables.specs.Answered.{Reply, Answered, answered, call, _into_}
+use Rattle.tables.proofs.FirstNo.{EachYes, each-yes, no-to, yes-counts}
+use Rattle.tables.proofs.Questions.{letters-small, unknowns-small, lent-table, room-enough}
+use Rattle.tables.proofs.Answered.{call-stops, call-refused, call-done}
+use Rattle.solution.specs.Condition.{conditionOf}
+use Rattle.solver.proofs.Calls.{call-behind}
 use Rattle.entry.specs.Entry.{entry}
 use Rattle.entry.specs.Questions.{routeFits}
-use Rattle.calls.specs.declared.Written.{Written}
 use Rattle.calls.specs.declared.Written.the-variants.{Done, Refused}
-use Rattle.calls.specs.GONE.{archived, writeRefusal}
+use Rattle.calls.specs.declared.Written.{Written}
 use Rattle.calls.specs.Questions.{outputFits, writeQuestions}
-use Rattle.calls.specs.Entries.{written}
-use Rattle.writer.specs.Inner.Steps.{Ready, conditionQuestions, conditionRefusal, HandsOut}
+use Rattle.calls.specs.Entries.{written, lentEntry, writeCall}
+use Rattle.writer.specs.Inner.Steps.{Ready, conditionQuestions, handOut}
 
 -- ---- 1, 2, 4 and 8
 module _ (route U G : ℕ) (t : List ℕ) where
-  pub refused-letters : lettersFit U G ≡ false → 1 ≡ conditionRefusal route U G t
-  unfolding conditionRefusal conditionQuestions firstNo
-  refused-letters e = rw e
-
-  module _ (l : lettersFit U G ≡ true) where
-    pub refused-route : routeFits route ≡ false → 2 ≡ conditionRefusal route U G t
-    unfolding conditionRefusal conditionQuestions firstNo
-    refused-route e = rw (l, e)
-
-    module _ (f : routeFits route ≡ true) {k : ℕ} (ek : k ≡ 2 ^ (U + G)) where
-      pub refused-room : length t < k → 4 ≡ conditionRefusal route U G t
-      unfolding conditionRefusal conditionQuestions firstNo hasRoom
-      refused-room h = rw (l, f, ← ek, lt-leb k (length t) h)
-
-      module _ (h : k ≤ length t) where
-        pub refused-bits : holdsBits k t ≡ false → 8 ≡ conditionRefusal route U G t
-        unfolding conditionRefusal conditionQuestions firstNo hasRoom
-        refused-bits e = rw (l, f, ← ek, le-leb k (length t) h, e)
-
-        pub not-refused : holdsBits k t ≡ true → 0 ≡ conditionRefusal route U G t
-        unfolding conditionRefusal conditionQuestions firstNo hasRoom
-        not-refused e = rw (l, f, ← ek, le-leb k (length t) h, e)
-
-  -- what it means that none of them is answered no
+  -- each is answered yes
   pub record Fine : Type 0 where
     pub letters : lettersFit U G ≡ true
-    pub route-fits : routeFits route ≡ true
-    pub room : 2 ^ (U + G) ≤ length t
+    pub of-route : routeFits route ≡ true
+    pub long : hasRoom (2 ^ (U + G)) (length t) ≡ true
     pub bits : holdsBits (2 ^ (U + G)) t ≡ true
 
-  pub fine : conditionRefusal route U G t ≡ 0 → Fine
-  unfolding conditionRefusal conditionQuestions firstNo hasRoom
-  fine e =
-      let a = yes-to (lettersFit U G) _ 0 e in
-      let b = yes-to (routeFits route) _ 1 (a .1) in
-      let c = yes-to (leb (2 ^ (U + G)) (length t)) _ 3 (b .1) in
-      let d = yes-to (holdsBits (2 ^ (U + G)) t) _ 7 (c .1) in
-      record { letters = a .0; route-fits = b .0; room = leb-true _ _ (c .0); bits = d .0 }
+  fine : EachYes (conditionQuestions route U G t) → Fine
+  unfolding conditionQuestions bufferQuestions roomQuestions bitQuestions
+  fine (letters, (fits, (long, (bits, _)))) = record { letters = letters; of-route = fits; long = long; bits = bits }
 
-  module _ {q : ℕ} (e : q ≡ conditionRefusal route U G t) (z : q ≡ 0) where
-    all-yes : Fine
-    all-yes = fine (sym e ∙ z)
+  -- what the code has found is 0
+  module _ {found : ℕ} (e : found ≡ firstNo (conditionQuestions route U G t)) (z : found ≡ 0) where
+    all-fine : Fine
+    all-fine = fine (each-yes (conditionQuestions route U G t) (sym e ∙ z))
 
     pub fine-small : U + G ≤ 10
-    fine-small = letters-small U G (all-yes .letters)
+    fine-small = letters-small U G (all-fine .letters)
 
     pub fine-route : route ≤ 250
     unfolding routeFits
-    fine-route = leb-true route 250 (and-right (leb 1 route) (leb route 250) (all-yes .route-fits))
+    fine-route = leb-true route 250 (and-right (leb 1 route) (leb route 250) (all-fine .of-route))
 
-    pub fine-room : {k : ℕ} → k ≡ 2 ^ (U + G) → k ≤ length t
-    fine-room ek = rw ek (all-yes .room)
+    pub fine-part : {k : ℕ} → k ≡ 2 ^ (U + G) → k ≡ length (take k t)
+    fine-part {k} ek = sym (length-take-le k t (rw ek (room-enough (2 ^ (U + G)) (length t) (all-fine .long))))
 
-    pub fine-ready : {k : ℕ} → k ≡ 2 ^ (U + G) → Ready U G (take k t)
-    unfolding holdsBits lettersFit
+    pub fine-ready : {k : ℕ} → k ≡ 2 ^ (U + G) → Ready (conditionOf U G (take k t))
+    unfolding lettersFit
     fine-ready {k} ek =
         record {
-          unknowns = unknowns-small U G (all-yes .letters);
-          givens = leb-true _ _ (and-left (leb G 8) (leb (U + G) 10) (and-right (leb U 6) _ (all-yes .letters)));
+          unknowns = unknowns-small U G (all-fine .letters);
+          givens = leb-true _ _ (and-left (leb G 8) (leb (U + G) 10) (and-right (leb U 6) _ (all-fine .letters)));
           letters = fine-small;
-          table = rw ek (record { size = length-take-le (2 ^ (U + G)) t (all-yes .room); bits = are-bits (take (2 ^ (U + G)) t) (all-yes .bits) });
+          is-table = lent-table (U + G) k t ek (all-fine .long) (all-fine .bits);
         }
 
     -- then 14 decides
-    then-output : {made : List ℕ} (room : ℕ) → made ≡ archived route U G t → firstNo (asks 14 (outputFits made room) ∷ []) ≡ writeRefusal route U G t room
-    unfolding writeRefusal writeQuestions firstNo hasRoom
-    then-output {made} room em =
-        let a = all-yes in
-        rw (a .letters, a .route-fits, le-leb (2 ^ (U + G)) (length t) (a .room), a .bits, em)
+    pub write-done : {k : ℕ} {done : Answered Reply} (out : List ℕ) → k ≡ 2 ^ (U + G)
+        → done ≡ handOut (entry route (conditionOf U G (take k t))) out → done ≡ writeCall route U G t out
+    unfolding handOut writeQuestions conditionQuestions
+    write-done {k} out ek h =
+        h ∙ ap (λ (x : ℕ). handOut (entry route (conditionOf U G (take x t))) out) ek
+        ∙ call-behind (conditionQuestions route U G t) _ _ _ (sym e ∙ z)
 
-    pub write-done : {k : ℕ} {out out′ : List ℕ} {r : Written} → k ≡ 2 ^ (U + G) → HandsOut (entry route U G (take k t)) out r out′
-        → (written r ≡ reply (writeRefusal route U G t (length out)) (length (archived route U G t) ∷ [])) × (out′ ≡ after (writeRefusal route U G t (length out)) (archived route U G t) out)
-    unfolding archived
-    write-done {k} {out} {out′} ek h =
-        let em : entry route U G (take k t) ≡ archived route U G t = rw ek in
-        let eq : firstNo (asks 14 (outputFits (entry route U G (take k t)) (length out)) ∷ []) ≡ writeRefusal route U G t (length out) = then-output (length out) em in
-        (h .answer ∙ rw (eq, em), h .output ∙ rw (eq, em))
+  pub write-refused : {found : ℕ} (out : List ℕ) → found ≡ firstNo (conditionQuestions route U G t) → (found ≡ 0 → ⊥)
+      → answered (written (Refused found)) (out ∷ []) ≡ writeCall route U G t out
+  unfolding conditionQuestions writeQuestions bufferQuestions roomQuestions bitQuestions
+  write-refused {found} out e n =
+      call-stops (conditionQuestions route U G t) (asks Output (outputFits (lentEntry route U G t) (length out)) ∷ []) _
+      (lentEntry route U G t into out ∷ []) found refl e n
 
-  pub write-refused : (out : List ℕ) {q : ℕ} → q ≡ conditionRefusal route U G t → (q ≡ 0 → ⊥)
-      → (written (Refused q) ≡ reply (writeRefusal route U G t (length out)) (length (archived route U G t) ∷ [])) × (out ≡ after (writeRefusal route U G t (length out)) (archived route U G t) out)
-  unfolding conditionRefusal conditionQuestions writeRefusal writeQuestions
-  write-refused out {q} e n =
-      let f : q ≡ writeRefusal route U G t (length out) = e ∙ sym (first-counts (conditionQuestions route U G t) (asks 14 (outputFits (archived route U G t) (length out)) ∷ []) (λ z. n (e ∙ z))) in
-      (reply-refused q _ f _ n, after-refused q _ f _ out n)
+-- ---- 14, where the code has the entry's size
+module _ (made out : List ℕ) {size : ℕ} (e : 6 + size ≡ length made) where
+  pub output-short : {s number : ℕ} → s ≡ size → number ≡ 14 → length out < 6 + s
+      → answered (written (Refused number)) (out ∷ []) ≡ handOut made out
+  unfolding handOut outputFits firstNo
+  output-short {s} {number} es en l =
+      let short : length out < length made = omega arith in
+      call-refused (asks Output (outputFits made (length out)) ∷ []) (length made ∷ []) (made into out ∷ []) number refl
+      (en ∙ sym (no-to Output (outputFits made (length out)) [] [] (lt-leb (length made) (length out) short))) (λ z. omega arith)
 
--- ---- 14
-module _ (made out : List ℕ) where
-  pub output-short : length out < length made → HandsOut made out (Refused 14) out
-  unfolding outputFits firstNo
-  output-short l =
-      let e : 14 ≡ firstNo (asks 14 (outputFits made (length out)) ∷ []) = rw (lt-leb (length made) (length out) l) in
-      let n : (_≡_ {A = ℕ} 14 0 → ⊥) = λ z. omega arith in
-      record { answer = reply-refused 14 _ e _ n; output = after-refused 14 _ e _ out n }
-
-  pub output-done : {r : ℕ} {new : List ℕ} → length made ≤ length out → Put out 0 made r new → HandsOut made out (Done r) new
-  unfolding outputFits firstNo
-  output-done {r} {new} l p =
-      let f : 0 ≡ firstNo (asks 14 (outputFits made (length out)) ∷ []) = rw (le-leb (length made) (length out) l) in
-      let size : r ≡ length made = p .place ∙ zero-add (length made) in
-      let front : new ≡ made ++ drop (length made) out = p .bytes ∙ sets-eq made out 0 (omega arith) ∙ ap (λ (k : ℕ). made ++ drop k out) (zero-add (length made)) in
-      record { answer = rw size (reply-accepted 0 _ f _ refl); output = front ∙ after-done 0 _ f made out (length made) made refl refl refl }
-
-pub hands-out-as : {made vs out out′ : List ℕ} {r : Written} → made ≡ vs → HandsOut made out r out′ → HandsOut vs out r out′
-hands-out-as e h = rw (← e) h
+  pub output-done : {s r : ℕ} {new : List ℕ} → s ≡ size → 6 + s ≤ length out → Put out 0 made r new
+      → answered (written (Done r)) (new ∷ []) ≡ handOut made out
+  unfolding handOut outputFits firstNo
+  output-done {s} {r} {new} es l p =
+      let fits : length made ≤ length out = omega arith in
+      let asked : List Asked = asks Output (outputFits made (length out)) ∷ [] in
+      let z : firstNo asked ≡ 0 = yes-counts Output (outputFits made (length out)) [] [] (le-leb (length made) (length out) fits) in
+      let whole : r ≡ length made = p .place ∙ zero-add (length made) in
+      let front : new ≡ made ++ drop (length made) out = p .bytes ∙ sets-eq made out 0 (omega arith)
+      ∙ ap (λ (k : ℕ). made ++ drop k out) (zero-add (length made)) in
+      rw (whole, front) (call-done asked (length made ∷ []) made out made (length made) z refl refl)

@@ -1,5 +1,4 @@
+pub mod Monomials
 pub mod Entries
 pub mod Parts
 pub mod Asked
-pub mod Theorems
-pub mod Injective

@@ -3,99 +3,136 @@
 -- Assumes nothing.
 use mathlib.Core.Path.{_≡_, refl, sym, ap, _∙_}
 use mathlib.Core.List.{List, [], _∷_, _++_, map}
-use Prim.Native.Nat.{ℕ, zero, suc, _+_, _-_, _*_, _/_, _%_, _^_, _≤_}
+use Prim.Native.Nat.{ℕ, _+_, _-_, _*_, _/_, _%_, _^_, _≤_, _<_}
 use native.Mathlib.Omega.{arith}
 use lib.Pow.{pow-mono}
-use lib.ListN.{length, take, length-append}
-use lib.Seq.{take-at}
+use lib.ListN.{length, getD, take, length-append}
+use lib.Seq.{take-at, length-take-le}
 use Rattle.tables.specs.Inner.Put.{Put}
-use Rattle.tables.proofs.Put.{put-both, put-same}
+use Rattle.tables.proofs.Put.{put-length, put-both, put-same}
 use Rattle.order.specs.Order.{order}
 use Rattle.order.proofs.Order.{length-order}
-use Rattle.entry.specs.declared.Record.the-variants as records
-use Rattle.entry.specs.Record.{recordBytes, bytes}
-use Rattle.entry.specs.Inner.Codes.{monomialRecord, recordOf}
+use Rattle.entry.specs.Record.{fields, lowFirst, bodyOf, endRecord, bytes}
+use Rattle.entry.specs.Inner.Codes.{listedRecord}
 use Rattle.entry.proofs.Back.{bytes-append}
+use Rattle.entry.proofs.Codes.{condition-listed, answer-listed, each-bytes, Putting, putting-start, part-fits, putting-more, putting-end}
 use Rattle.writer.specs.declared.Listing.{Listing}
 use Rattle.writer.specs.declared.Listing.the-variants.{Solved, None}
 use Rattle.writer.specs.Inner.Steps.{countOf, toldOf, noneOf, sizeOf, entryFrom}
 
--- ---- one monomial: the table's number and the mask of a number, and the record that they make
+-- ---- one monomial
 module _ (code : ℕ) where
-  condition-is : code / 1024 ≡ 0 → recordBytes (recordOf code) ≡ 2 ∷ code % 1024 % 256 ∷ code % 1024 / 256 ∷ []
-  unfolding recordOf
-  condition-is z = rw z
+  pub condition-room : (at room : ℕ) → code / 1024 ≡ 0 → at + length (listedRecord code) ≤ room → at + 3 ≤ room
+  condition-room at room z h = omega (arith, ap length (condition-listed code z))
 
-  answer-is : (code / 1024 ≡ 0 → ⊥) → recordBytes (recordOf code) ≡ 3 ∷ (code / 1024 - 1) ∷ code % 1024 % 256 ∷ code % 1024 / 256 ∷ []
-  unfolding recordOf
-  answer-is n = go (code / 1024) n
-    where
-      go : (i : ℕ) → (i ≡ 0 → ⊥) → recordBytes (monomialRecord i (code % 1024)) ≡ 3 ∷ (i - 1) ∷ code % 1024 % 256 ∷ code % 1024 / 256 ∷ []
-      go zero n = absurd (n refl)
-      go (suc j) n = let d : suc j - 1 ≡ j = omega arith in rw d
+  pub answer-room : (at room : ℕ) → (code / 1024 ≡ 0 → ⊥) → at + length (listedRecord code) ≤ room → at + 4 ≤ room
+  answer-room at room n h = omega (arith, ap length (answer-listed code n))
 
-  pub condition-room : (at room : ℕ) → code / 1024 ≡ 0 → at + length (recordBytes (recordOf code)) ≤ room → at + 3 ≤ room
-  condition-room at room z h = omega (arith, ap length (condition-is z))
+  pub condition-put : {at r : ℕ} {old new : List ℕ} → code / 1024 ≡ 0
+      → Put old at (2 ∷ code % 1024 % 256 ∷ code % 1024 / 256 ∷ []) r new → Put old at (listedRecord code) r new
+  condition-put z p = put-same p (sym (condition-listed code z))
 
-  pub answer-room : (at room : ℕ) → (code / 1024 ≡ 0 → ⊥) → at + length (recordBytes (recordOf code)) ≤ room → at + 4 ≤ room
-  answer-room at room n h = omega (arith, ap length (answer-is n))
+  pub answer-put : {at r : ℕ} {old new : List ℕ} → (code / 1024 ≡ 0 → ⊥)
+      → Put old at (3 ∷ (code / 1024 - 1) ∷ code % 1024 % 256 ∷ code % 1024 / 256 ∷ []) r new → Put old at (listedRecord code) r new
+  answer-put n p = put-same p (sym (answer-listed code n))
 
-  pub condition-put : {at r : ℕ} {old new : List ℕ} → code / 1024 ≡ 0 → Put old at (2 ∷ code % 1024 % 256 ∷ code % 1024 / 256 ∷ []) r new → Put old at (recordBytes (recordOf code)) r new
-  condition-put z p = put-same p (sym (condition-is z))
+-- ---- the loop over the monomials
+abbrev pub Writing : List ℕ → List ℕ → ℕ → ℕ → ℕ → List ℕ → Type 0
+Writing codes old from p at new = Putting listedRecord codes old from p at new
 
-  pub answer-put : {at r : ℕ} {old new : List ℕ} → (code / 1024 ≡ 0 → ⊥) → Put old at (3 ∷ (code / 1024 - 1) ∷ code % 1024 % 256 ∷ code % 1024 / 256 ∷ []) r new → Put old at (recordBytes (recordOf code)) r new
-  answer-put n p = put-same p (sym (answer-is n))
+pub writing-start : (codes old : List ℕ) (from : ℕ) → from + length (bytes (map listedRecord codes)) ≤ length old
+    → Writing codes old from 0 from old
+writing-start codes old from h = putting-start listedRecord codes old from (rw (each-bytes codes) h)
+
+module _ {codes old : List ℕ} {from p at : ℕ} {new : List ℕ} (w : Writing codes old from p at new) where
+  module _ (l : p < length codes) {code : ℕ} (e : code ≡ getD codes p 0) where
+    pub record-fits : at + length (listedRecord code) ≤ length new
+    record-fits = part-fits w l e
+
+    pub writing-more : {at′ : ℕ} {new′ : List ℕ} → Put new at (listedRecord code) at′ new′ → Writing codes old from (p + 1) at′ new′
+    writing-more q = putting-more w l e q
+
+  pub writing-end : length codes ≤ p → Put old from (bytes (map listedRecord codes)) at new
+  writing-end l = put-same (putting-end w l) (each-bytes codes)
 
 -- ---- the whole
 module _ (route U G : ℕ) (found : Listing) (codes : List ℕ) where
-  monomial-bytes : List ℕ
-  monomial-bytes = bytes (map recordOf (take (countOf found) codes))
-
-  none-bytes : List ℕ
-  none-bytes = bytes (noneOf found)
-
-  pub entry-parts : bytes (entryFrom route U G found codes) ≡ (1 ∷ route ∷ U ∷ G ∷ bytes (map recordOf (take (countOf found) codes))) ++ (bytes (noneOf found) ++ (4 ∷ route ∷ []))
-  unfolding entryFrom bytes
+  pub entry-parts : bytes (entryFrom route U G found codes)
+      ≡ (1 ∷ route ∷ U ∷ G ∷ bytes (map listedRecord (take (countOf found) codes))) ++ (bytes (noneOf found) ++ (4 ∷ route ∷ []))
+  unfolding entryFrom bytes fields bodyOf lowFirst
   entry-parts =
       ap (λ (l : List ℕ). (1 ∷ route ∷ U ∷ G ∷ []) ++ l)
-      (bytes-append (map recordOf (take (countOf found) codes)) (noneOf found ++ (records.End route ∷ []))
-      ∙ ap (λ (l : List ℕ). bytes (map recordOf (take (countOf found) codes)) ++ l) (bytes-append (noneOf found) (records.End route ∷ [])))
+      (bytes-append (map listedRecord (take (countOf found) codes)) (noneOf found ++ (endRecord route ∷ []))
+      ∙ ap (λ (l : List ℕ). bytes (map listedRecord (take (countOf found) codes)) ++ l)
+      (bytes-append (noneOf found) (endRecord route ∷ [])))
 
-  pub parts-length : length (bytes (entryFrom route U G found codes)) ≡ 6 + (length (bytes (map recordOf (take (countOf found) codes))) + length (bytes (noneOf found)))
+  parts-length : length (bytes (entryFrom route U G found codes))
+      ≡ 6 + (length (bytes (map listedRecord (take (countOf found) codes))) + length (bytes (noneOf found)))
   parts-length =
-      omega (arith, ap length entry-parts, length-append (bytes (map recordOf (take (countOf found) codes))) (bytes (noneOf found) ++ (4 ∷ route ∷ [])), length-append (bytes (noneOf found)) (4 ∷ route ∷ []))
+      let monomials : List ℕ = bytes (map listedRecord (take (countOf found) codes)) in
+      omega (
+        arith,
+        ap length entry-parts,
+        length-append monomials (bytes (noneOf found) ++ (4 ∷ route ∷ [])),
+        length-append (bytes (noneOf found)) (4 ∷ route ∷ []),
+      )
 
-  pub solved-put : {told all a r : ℕ} → found ≡ Solved told all → {l₀ l₁ l₂ : List ℕ} → Put l₀ 0 (1 ∷ route ∷ U ∷ G ∷ bytes (map recordOf (take all codes))) a l₁ → Put l₁ a (4 ∷ route ∷ []) r l₂
-      → Put l₀ 0 (bytes (entryFrom route U G found codes)) r l₂
-  unfolding bytes
-  solved-put e p q = put-same (put-both p q) (sym (entry-parts ∙ rw e))
+  module _ {told all : ℕ} (e : found ≡ Solved told all) where
+    pub solved-put : {a r : ℕ} {l₀ l₁ l₂ : List ℕ} → Put l₀ 0 (1 ∷ route ∷ U ∷ G ∷ bytes (map listedRecord (take all codes))) a l₁
+        → Put l₁ a (4 ∷ route ∷ []) r l₂ → Put l₀ 0 (bytes (entryFrom route U G found codes)) r l₂
+    unfolding bytes
+    solved-put p q = put-same (put-both p q) (sym (entry-parts ∙ rw e))
 
-  pub none-put : {told s a b r : ℕ} → found ≡ None told s → {l₀ l₁ l₂ l₃ : List ℕ} → Put l₀ 0 (1 ∷ route ∷ U ∷ G ∷ bytes (map recordOf (take told codes))) a l₁ → Put l₁ a (5 ∷ s ∷ []) b l₂ → Put l₂ b (4 ∷ route ∷ []) r l₃
-      → Put l₀ 0 (bytes (entryFrom route U G found codes)) r l₃
-  unfolding bytes
-  none-put e p s q = put-same (put-both p (put-both s q)) (sym (entry-parts ∙ rw e))
+    -- the room that the parts ask for
+    module _ {room : ℕ} (h : length (bytes (entryFrom route U G found codes)) ≤ room) where
+      solved-room : 6 + length (bytes (map listedRecord (take all codes))) ≤ room
+      unfolding bytes
+      solved-room =
+          let p : 6 + (length (bytes (map listedRecord (take all codes))) + 0) ≤ room = rw (parts-length, e) at h in
+          omega arith
 
-  -- the room that the parts ask for
-  pub solved-room : {told all : ℕ} → found ≡ Solved told all → (room : ℕ) → length (bytes (entryFrom route U G found codes)) ≤ room → 6 + length (bytes (map recordOf (take all codes))) ≤ room
-  unfolding bytes
-  solved-room {told} {all} e room h =
-      let p : 6 + (length (bytes (map recordOf (take (countOf found) codes))) + length (bytes (noneOf found))) ≤ room = omega (arith, parts-length) in
-      let q : 6 + (length (bytes (map recordOf (take all codes))) + 0) ≤ room = rw e at p in
-      omega arith
+      pub solved-front : 4 + length (bytes (map listedRecord (take all codes))) ≤ room
+      solved-front = omega (arith, solved-room)
 
-  pub none-room : {told s : ℕ} → found ≡ None told s → (room : ℕ) → length (bytes (entryFrom route U G found codes)) ≤ room → 6 + (length (bytes (map recordOf (take told codes))) + 2) ≤ room
-  unfolding bytes
-  none-room e room h = let p : 6 + (length (bytes (map recordOf (take (countOf found) codes))) + length (bytes (noneOf found))) ≤ room = omega (arith, parts-length) in rw e at p
+    pub solved-end : {a : ℕ} {l₀ l₁ : List ℕ} → length (bytes (entryFrom route U G found codes)) ≤ length l₀
+        → Put l₀ 0 (1 ∷ route ∷ U ∷ G ∷ bytes (map listedRecord (take all codes))) a l₁ → a + 2 ≤ length l₁
+    solved-end h p = omega (arith, solved-room h, p .place, put-length p)
 
-pub solved-count : {found : Listing} {told all k : ℕ} → found ≡ Solved told all → countOf found ≤ k → all ≤ k
-solved-count e h = rw e at h
+  module _ {told s : ℕ} (e : found ≡ None told s) where
+    pub none-put : {a b r : ℕ} {l₀ l₁ l₂ l₃ : List ℕ} → Put l₀ 0 (1 ∷ route ∷ U ∷ G ∷ bytes (map listedRecord (take told codes))) a l₁
+        → Put l₁ a (5 ∷ s ∷ []) b l₂ → Put l₂ b (4 ∷ route ∷ []) r l₃ → Put l₀ 0 (bytes (entryFrom route U G found codes)) r l₃
+    unfolding bytes fields bodyOf lowFirst
+    none-put p s q = put-same (put-both p (put-both s q)) (sym (entry-parts ∙ rw e))
 
-pub none-count : {found : Listing} {told s k : ℕ} → found ≡ None told s → countOf found ≤ k → told ≤ k
-none-count e h = rw e at h
+    module _ {room : ℕ} (h : length (bytes (entryFrom route U G found codes)) ≤ room) where
+      none-room : 6 + (length (bytes (map listedRecord (take told codes))) + 2) ≤ room
+      unfolding bytes fields bodyOf lowFirst
+      none-room = rw (parts-length, e) at h
+
+      pub none-front : 4 + length (bytes (map listedRecord (take told codes))) ≤ room
+      none-front = omega (arith, none-room)
+
+    pub none-behind : {a : ℕ} {l₀ l₁ : List ℕ} → length (bytes (entryFrom route U G found codes)) ≤ length l₀
+        → Put l₀ 0 (1 ∷ route ∷ U ∷ G ∷ bytes (map listedRecord (take told codes))) a l₁ → a + 2 ≤ length l₁
+    none-behind h p = omega (arith, none-room h, p .place, put-length p)
+
+    pub none-end : {a b : ℕ} {l₀ l₁ l₂ : List ℕ} → length (bytes (entryFrom route U G found codes)) ≤ length l₀
+        → Put l₀ 0 (1 ∷ route ∷ U ∷ G ∷ bytes (map listedRecord (take told codes))) a l₁ → Put l₁ a (5 ∷ s ∷ []) b l₂ → b + 2 ≤ length l₂
+    none-end h p q = omega (arith, none-room h, p .place, put-length p, q .place, put-length q)
+
+-- the numbers of which the parts are made
+pub solved-part : {found : Listing} {told all : ℕ} (codes : List ℕ) → found ≡ Solved told all → countOf found ≤ length codes
+    → all ≡ length (take all codes)
+solved-part {all = all} codes e h = sym (length-take-le all codes (rw e at h))
+
+pub none-part : {found : Listing} {told s : ℕ} (codes : List ℕ) → found ≡ None told s → countOf found ≤ length codes
+    → told ≡ length (take told codes)
+none-part {told = told} codes e h = sym (length-take-le told codes (rw e at h))
 
 -- ---- its length
 module _ {found : Listing} (h : toldOf found ≤ countOf found) (m : sizeOf found ≤ 27648) where
-  pub solved-size : {told all : ℕ} → found ≡ Solved told all → (told ≤ all) × (3 * told + 4 * (all - told) ≤ 27648) × (3 * told + 4 * (all - told) ≡ sizeOf found)
+  pub solved-size : {told all : ℕ} → found ≡ Solved told all
+      → (told ≤ all) × (3 * told + 4 * (all - told) ≤ 27648) × (3 * told + 4 * (all - told) ≡ sizeOf found)
   solved-size e = (rw e at h, rw e at m, sym (ap sizeOf e))
 
   pub none-size : {told s : ℕ} → found ≡ None told s → (3 * told + 2 ≤ 27648) × (3 * told + 2 ≡ sizeOf found)
@@ -107,3 +144,6 @@ ordered n {k} {last} rest ek e = ap (take k) e ∙ take-at (order n) rest k (len
 
 pub masks-room : (n : ℕ) {k : ℕ} (last : List ℕ) → k ≡ 2 ^ n → n ≤ 10 → length last ≡ 1024 → k ≤ length last
 masks-room n last e h el = let p : 2 ^ n ≤ 1024 = pow-mono h in omega arith
+
+pub masks-part : (n : ℕ) {k : ℕ} (last : List ℕ) → k ≡ 2 ^ n → n ≤ 10 → length last ≡ 1024 → k ≡ length (take k last)
+masks-part n {k} last e h el = sym (length-take-le k last (masks-room n last e h el))

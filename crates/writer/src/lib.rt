@@ -1,32 +1,27 @@
 // Writing an archive entry: the condition is solved here, so that the answers are Boole's. `write_entry` is the public call of the library.
 // `list_entry` is for the program that prints entries too: all monomials of an entry, as numbers, from a condition's coefficients and values
 // in words. The other functions are inner work.
+use calls::Verdict;
+use calls::Written;
+use tables::Question;
 ghost use mathlib.Core.Path.{_≡_};
 ghost use mathlib.Core.List.{[], _∷_, map};
 ghost use Prim.Native.Nat.{_+_, _-_, _*_, _^_, _≤_, _<_};
 ghost use lib.ListN.{length};
 ghost use Rattle.ring.specs.Polynomial.{value};
 ghost use Rattle.ring.specs.Table.{table};
+ghost use Rattle.tables.specs.Questions.{firstNo};
+ghost use Rattle.tables.specs.Answered.{answered};
 ghost use Rattle.tables.specs.Inner.Put.{Put};
-ghost use Rattle.tables.specs.Answered.{reply, after};
 ghost use Rattle.words.specs.Words.{wordsOf, bitAt};
 ghost use Rattle.order.specs.Order.{order, monomials};
 ghost use Rattle.order.specs.Inner.Listing.{tagged, Listed};
-ghost use Rattle.elimination.specs.Inner.Stages.{ListsEach};
-ghost use Rattle.solution.specs.Condition.{defaultOrder};
-ghost use Rattle.entry.specs.Record.{recordBytes, bytes};
-ghost use Rattle.entry.specs.Inner.Codes.{recordOf};
+ghost use Rattle.solution.specs.Condition.{conditionOf, defaultOrder};
+ghost use Rattle.entry.specs.Record.{bytes};
+ghost use Rattle.entry.specs.Inner.Codes.{listedRecord};
 ghost use Rattle.entry.specs.Entry.{entry};
-ghost use Rattle.calls.specs.GONE.{archived, writeRefusal};
-ghost use Rattle.calls.specs.Entries.{written};
-ghost use Rattle.writer.specs.Inner.Steps.{conditionRefusal, Ready, Listable, answerCodes, countOf, toldOf, sizeOf, entryFrom, Lists, HandsOut};
-use calls::Verdict;
-
-// What writing answers: the entry's length, or the number of the first no.
-pub enum Written {
-    Done(usize),
-    Refused(u8),
-}
+ghost use Rattle.calls.specs.Entries.{writeCall, written};
+ghost use Rattle.writer.specs.Inner.Steps.{answerCodes, countOf, toldOf, sizeOf, entryFrom, Lists, Listable, Ready, Sized, conditionQuestions, handOut};
 
 // What listing an entry finds: how many monomials the condition has, and how many it has with its answers; or, where there is no solution,
 // how many the condition has, and the state.
@@ -91,8 +86,10 @@ fn list_values(
     from: usize,
     own: &mut [u64],
 ) -> usize
-    requires { ⌜ (n ≤ 10) × (tag + 1024 ≤ 65536) × (length (now values) ≡ 2 ^ (n - 6)) × (now masks ≡ order n) × (from + 2 ^ n ≤ length (now codes)) × (length (now own) ≡ 2 ^ (n - 6)) ⌝ }
-    ensures { λ r. ⌜ Listed (now (codes .entry)) from (tagged tag (monomials n (value n (bitAt (now (values .entry)))))) r (now (codes .exit)) ⌝ }
+    requires { ⌜ (n ≤ 10) × (tag + 1024 ≤ 65536) × (length (now values) ≡ 2 ^ (n - 6)) × (now masks ≡ order n)
+        × (from + 2 ^ n ≤ length (now codes)) × (length (now own) ≡ 2 ^ (n - 6)) ⌝ }
+    ensures { λ r. ⌜ Listed (now (codes .entry)) from (tagged tag (monomials n (value n (bitAt (now (values .entry)))))) r
+        (now (codes .exit)) ⌝ }
 {
     transform(n, values, own);
     order::list_monomials(n, tag, own, masks, codes, from)
@@ -107,8 +104,10 @@ fn list_answer(
     codes: &mut [u16],
     from: usize,
 ) -> usize
-    requires { ⌜ (j < 6) × (n ≤ 10) × (length (now values) ≡ 2 ^ (n - 6)) × (now masks ≡ order n) × (from + 2 ^ n ≤ length (now codes)) ⌝ }
-    ensures { λ r. ⌜ Listed (now (codes .entry)) from (tagged (1024 * (j + 1)) (monomials n (value n (bitAt (now (values .entry)))))) r (now (codes .exit)) ⌝ }
+    requires { ⌜ (j < 6) × (n ≤ 10) × (length (now values) ≡ 2 ^ (n - 6)) × (now masks ≡ order n)
+        × (from + 2 ^ n ≤ length (now codes)) ⌝ }
+    ensures { λ r. ⌜ Listed (now (codes .entry)) from (tagged (1024 * (j + 1)) (monomials n (value n (bitAt (now (values .entry))))))
+        r (now (codes .exit)) ⌝ }
 {
     let k = words::word_count(n);
     let mut own = [0u64; 16];
@@ -123,7 +122,8 @@ fn list_answers(
     codes: &mut [u16],
     from: usize,
 ) -> usize
-    requires { ⌜ (u ≤ 6) × (n ≤ 10) × (length (now answers) ≡ u * 2 ^ (n - 6)) × (now masks ≡ order n) × (from + u * 2 ^ n ≤ length (now codes)) ⌝ }
+    requires { ⌜ (u ≤ 6) × (n ≤ 10) × (length (now answers) ≡ u * 2 ^ (n - 6)) × (now masks ≡ order n)
+        × (from + u * 2 ^ n ≤ length (now codes)) ⌝ }
     ensures { λ r. ⌜ Listed (now (codes .entry)) from (answerCodes u n (now (answers .entry))) r (now (codes .exit)) ⌝ }
 {
     let k = words::word_count(n);
@@ -147,8 +147,9 @@ fn list_with(
     order: &[usize],
     answers: &mut [u64],
 ) -> Listing
-    requires { ⌜ Listable u g (now coefficients) (now values) (now masks) × (7168 ≤ length (now codes)) × (now order ≡ defaultOrder u) × (length (now answers) ≡ u * 2 ^ (u + g - 6)) ⌝ }
-    ensures { λ r. ⌜ Lists u g (table (u + g) (bitAt (now (coefficients .entry)))) r (now (codes .exit)) ⌝ }
+    requires { ⌜ Listable u g (now coefficients) (now values) (now masks) × (7168 ≤ length (now codes)) × (now order ≡ defaultOrder u)
+        × (length (now answers) ≡ u * 2 ^ (u + g - 6)) ⌝ }
+    ensures { λ r. ⌜ Lists (conditionOf u g (table (u + g) (bitAt (now (coefficients .entry))))) r (now (codes .exit)) ⌝ }
 {
     let told = order::list_monomials(u + g, 0, coefficients, masks, codes, 0);
     match solver::solve_values(u, g, order, values, answers) {
@@ -171,7 +172,7 @@ pub fn list_entry(
     codes: &mut [u16],
 ) -> Listing
     requires { ⌜ Listable u g (now coefficients) (now values) (now masks) × (7168 ≤ length (now codes)) ⌝ }
-    ensures { λ r. ⌜ Lists u g (table (u + g) (bitAt (now (coefficients .entry)))) r (now (codes .exit)) ⌝ }
+    ensures { λ r. ⌜ Lists (conditionOf u g (table (u + g) (bitAt (now (coefficients .entry))))) r (now (codes .exit)) ⌝ }
 {
     let size = u * words::word_count(u + g);
     let order = [0usize, 1, 2, 3, 4, 5];
@@ -190,8 +191,8 @@ pub fn list_entry(
 
 // The record of a monomial.
 fn put_monomial(code: usize, out: &mut [u8], at: usize) -> usize
-    requires { ⌜ (code < 65536) × (at + length (recordBytes (recordOf code)) ≤ length (now out)) ⌝ }
-    ensures { λ r. ⌜ Put (now (out .entry)) at (recordBytes (recordOf code)) r (now (out .exit)) ⌝ }
+    requires { ⌜ (code < 65536) × (at + length (listedRecord code) ≤ length (now out)) ⌝ }
+    ensures { λ r. ⌜ Put (now (out .entry)) at (listedRecord code) r (now (out .exit)) ⌝ }
 {
     let i = code / 1024;
     let m = code % 1024;
@@ -204,8 +205,8 @@ fn put_monomial(code: usize, out: &mut [u8], at: usize) -> usize
 }
 
 fn put_monomials(codes: &[u16], out: &mut [u8], from: usize) -> usize
-    requires { ⌜ from + length (bytes (map recordOf (now codes))) ≤ length (now out) ⌝ }
-    ensures { λ r. ⌜ Put (now (out .entry)) from (bytes (map recordOf (now (codes .entry)))) r (now (out .exit)) ⌝ }
+    requires { ⌜ from + length (bytes (map listedRecord (now codes))) ≤ length (now out) ⌝ }
+    ensures { λ r. ⌜ Put (now (out .entry)) from (bytes (map listedRecord (now (codes .entry)))) r (now (out .exit)) ⌝ }
 {
     let mut at = from;
     for p in 0..codes.len() {
@@ -216,8 +217,9 @@ fn put_monomials(codes: &[u16], out: &mut [u8], from: usize) -> usize
 
 // The entry's start and its monomials.
 fn put_front(route: u8, u: usize, g: usize, codes: &[u16], out: &mut [u8]) -> usize
-    requires { ⌜ (u ≤ 6) × (g ≤ 8) × (4 + length (bytes (map recordOf (now codes))) ≤ length (now out)) ⌝ }
-    ensures { λ r. ⌜ Put (now (out .entry)) 0 (1 ∷ route ∷ u ∷ g ∷ bytes (map recordOf (now (codes .entry)))) r (now (out .exit)) ⌝ }
+    requires { ⌜ (u ≤ 6) × (g ≤ 8) × (4 + length (bytes (map listedRecord (now codes))) ≤ length (now out)) ⌝ }
+    ensures { λ r. ⌜ Put (now (out .entry)) 0 (1 ∷ route ∷ u ∷ g ∷ bytes (map listedRecord (now (codes .entry)))) r
+        (now (out .exit)) ⌝ }
 {
     let started = put4(out, 0, 1, route, u as u8, g as u8);
     put_monomials(codes, out, started)
@@ -225,7 +227,8 @@ fn put_front(route: u8, u: usize, g: usize, codes: &[u16], out: &mut [u8]) -> us
 
 // The entry that was listed, at the start of `out`.
 fn compose(route: u8, u: usize, g: usize, found: Listing, codes: &[u16], out: &mut [u8]) -> usize
-    requires { ⌜ (u ≤ 6) × (g ≤ 8) × (countOf found ≤ length (now codes)) × (length (bytes (entryFrom route u g found (now codes))) ≤ length (now out)) ⌝ }
+    requires { ⌜ (u ≤ 6) × (g ≤ 8) × (countOf found ≤ length (now codes))
+        × (length (bytes (entryFrom route u g found (now codes))) ≤ length (now out)) ⌝ }
     ensures { λ r. ⌜ Put (now (out .entry)) 0 (bytes (entryFrom route u g found (now (codes .entry)))) r (now (out .exit)) ⌝ }
 {
     match found {
@@ -254,12 +257,13 @@ fn records_size(found: Listing) -> usize
 
 // Question 14 of a listed entry, before anything is written.
 fn hand_out(route: u8, u: usize, g: usize, found: Listing, codes: &[u16], out: &mut [u8]) -> Written
-    requires { ⌜ (u ≤ 6) × (g ≤ 8) × (countOf found ≤ length (now codes)) × (toldOf found ≤ countOf found) × (sizeOf found ≤ 27648) × (6 + sizeOf found ≡ length (bytes (entryFrom route u g found (now codes)))) ⌝ }
-    ensures { λ r. ⌜ HandsOut (bytes (entryFrom route u g found (now (codes .entry)))) (now (out .entry)) r (now (out .exit)) ⌝ }
+    requires { ⌜ (u ≤ 6) × (g ≤ 8) × Sized found (now codes) (bytes (entryFrom route u g found (now codes))) ⌝ }
+    ensures { λ r. ⌜ answered (written r) (now (out .exit) ∷ [])
+        ≡ handOut (bytes (entryFrom route u g found (now (codes .entry)))) (now (out .entry)) ⌝ }
 {
     let size = 6 + records_size(found);
     if out.len() < size {
-        return Written::Refused(tables::OUTPUT);
+        return Written::Refused(tables::number(Question::Output));
     }
     Written::Done(compose(route, u, g, found, codes, out))
 }
@@ -274,8 +278,9 @@ fn list_table(
     masks: &[u16],
     codes: &mut [u16],
 ) -> Listing
-    requires { ⌜ Ready u g (now condition) × (length (now coefficients) ≡ 2 ^ (u + g - 6)) × (length (now values) ≡ 2 ^ (u + g - 6)) × (now masks ≡ order (u + g)) × (7168 ≤ length (now codes)) ⌝ }
-    ensures { λ r. ⌜ Lists u g (now (condition .entry)) r (now (codes .exit)) ⌝ }
+    requires { ⌜ Ready (conditionOf u g (now condition)) × (length (now coefficients) ≡ 2 ^ (u + g - 6))
+        × (length (now values) ≡ 2 ^ (u + g - 6)) × (now masks ≡ order (u + g)) × (7168 ≤ length (now codes)) ⌝ }
+    ensures { λ r. ⌜ Lists (conditionOf u g (now (condition .entry))) r (now (codes .exit)) ⌝ }
 {
     words::pack(u + g, condition, coefficients);
     transform(u + g, coefficients, values);
@@ -284,8 +289,8 @@ fn list_table(
 
 // The scratch words and the written order live here.
 fn list_condition(u: usize, g: usize, condition: &[u8], codes: &mut [u16]) -> Listing
-    requires { ⌜ Ready u g (now condition) × (7168 ≤ length (now codes)) ⌝ }
-    ensures { λ r. ⌜ Lists u g (now (condition .entry)) r (now (codes .exit)) ⌝ }
+    requires { ⌜ Ready (conditionOf u g (now condition)) × (7168 ≤ length (now codes)) ⌝ }
+    ensures { λ r. ⌜ Lists (conditionOf u g (now (condition .entry))) r (now (codes .exit)) ⌝ }
 {
     let k = words::word_count(u + g);
     let all = tables::pow2(u + g);
@@ -313,56 +318,37 @@ fn write_ready(
     codes: &mut [u16],
     out: &mut [u8],
 ) -> Written
-    requires { ⌜ Ready u g (now condition) × (7168 ≤ length (now codes)) ⌝ }
-    ensures { λ r. ⌜ HandsOut (entry route u g (now (condition .entry))) (now (out .entry)) r (now (out .exit)) ⌝ }
+    requires { ⌜ Ready (conditionOf u g (now condition)) × (7168 ≤ length (now codes)) ⌝ }
+    ensures { λ r. ⌜ answered (written r) (now (out .exit) ∷ [])
+        ≡ handOut (entry route (conditionOf u g (now (condition .entry)))) (now (out .entry)) ⌝ }
 {
     let found = list_condition(u, g, condition, codes);
     hand_out(route, u, g, found, codes, out)
 }
 
 // The first no of 1, 2, 4 and 8, or 0.
-fn condition_refusal(route: usize, unknowns: usize, givens: usize, condition: &[u8]) -> u8
-    ensures { λ r. ⌜ r ≡ conditionRefusal route unknowns givens (now (condition .entry)) ⌝ }
+fn condition_refusal(route: usize, u: usize, g: usize, condition: &[u8]) -> u8
+    ensures { λ r. ⌜ r ≡ firstNo (conditionQuestions route u g (now (condition .entry))) ⌝ }
 {
-    if !tables::letters_fit(unknowns, givens) {
-        return tables::LETTERS;
+    if !tables::letters_fit(u, g) {
+        return tables::number(Question::Letters);
     }
-    if !entry::route_fits(route) {
-        return tables::ROUTE;
-    }
-    let k = tables::pow2(unknowns + givens);
-    if condition.len() < k {
-        return tables::ROOM;
-    }
-    if !tables::holds_bits(k, condition) {
-        return tables::BITS;
-    }
-    0
+    let k = tables::pow2(u + g);
+    let first = tables::ask(0, Question::Route, entry::route_fits(route));
+    let second = tables::ask(first, Question::Room, tables::has_room(k, condition.len()));
+    tables::ask(second, Question::Bits, tables::holds_bits(k, condition))
 }
 
 // Writes the entry of a condition table to the front of `out`.
-pub fn write_entry(
-    route: usize,
-    unknowns: usize,
-    givens: usize,
-    condition: &[u8],
-    out: &mut [u8],
-) -> Written
-    ensures { λ r. ⌜ written r ≡ reply (writeRefusal route unknowns givens (now (condition .entry)) (length (now (out .entry)))) (length (archived route unknowns givens (now (condition .entry))) ∷ []) ⌝ }
-    ensures { λ _. ⌜ now (out .exit) ≡ after (writeRefusal route unknowns givens (now (condition .entry)) (length (now (out .entry)))) (archived route unknowns givens (now (condition .entry))) (now (out .entry)) ⌝ }
+pub fn write_entry(route: usize, u: usize, g: usize, condition: &[u8], out: &mut [u8]) -> Written
+    ensures { λ r. ⌜ answered (written r) (now (out .exit) ∷ [])
+        ≡ writeCall route u g (now (condition .entry)) (now (out .entry)) ⌝ }
 {
-    let refusal = condition_refusal(route, unknowns, givens, condition);
+    let refusal = condition_refusal(route, u, g, condition);
     if refusal != 0 {
         return Written::Refused(refusal);
     }
-    let k = tables::pow2(unknowns + givens);
+    let k = tables::pow2(u + g);
     let mut codes = [0u16; 7168];
-    write_ready(
-        route as u8,
-        unknowns,
-        givens,
-        &condition[..k],
-        &mut codes,
-        out,
-    )
+    write_ready(route as u8, u, g, &condition[..k], &mut codes, out)
 }

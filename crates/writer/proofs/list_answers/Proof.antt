@@ -4,7 +4,7 @@ use native.Mathlib.Omega.{arith}
 use borrow.Author.Needs.{needs}
 use Rattle.words.proofs.Parts.{part-fits, part-length}
 use mathlib.Core.Path.{_∙_}
-use Rattle.writer.proofs.Entries.{Answering, answering-start, answer-room, answering-more, answering-end}
+use Rattle.writer.proofs.Monomials.{Answering, answering-start, answer-room, answering-more, answering-end}
 use Rattle.writer.proofs.list_answers.Statement.{statement}
 use Rattle.writer.proofs.list_answers.Tie as tie
 

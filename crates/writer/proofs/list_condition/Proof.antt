@@ -1,79 +1,85 @@
--- The first masks of the buffer are those of the written order. Assumes nothing.
-use mathlib.Core.Path.{sym, _∙_}
-use Prim.Native.Nat.{_+_}
+-- The first masks of the buffer are those of the written order. The buffer has 1,024 of them, too long for a search to look into, so that the
+-- answers name what they stand on. Assumes nothing.
 use borrow.Author.Needs.{needs}
+use Prim.Native.Nat.{_+_}
 use lib.Pow.{pow-mono}
-use lib.Seq.{length-take-le}
+use mathlib.Core.Path.{refl}
 use Rattle.words.proofs.Letters.{count-small}
-use Rattle.writer.proofs.Parts.{ordered, masks-room}
+use Rattle.writer.proofs.Monomials.{words-part, words-size}
+use Rattle.writer.proofs.Parts.{ordered, masks-room, masks-part}
 use Rattle.writer.proofs.list_condition.Statement.{statement}
 use Rattle.writer.proofs.list_condition.Tie as tie
 
-add-word-count : tie.Need-add-word-count
-add-word-count c = search needs
-
-word-count-requires : tie.Need-word-count-requires
-word-count-requires c κs = search needs
-
-add-pow2 : tie.Need-add-pow2
-add-pow2 c = search needs
-
-pow2-requires : tie.Need-pow2-requires
-pow2-requires c κs = search needs
-
-add-fill-order : tie.Need-add-fill-order
-add-fill-order c = search needs
-
-slice-aggregate-fill-order : tie.Need-slice-aggregate-fill-order
-slice-aggregate-fill-order c = search needs
-
 fill-order-requires : tie.Need-fill-order-requires
-fill-order-requires c κs = ((c .before .before .before .before .before .pre) .0 .letters, pow-mono ((c .before .before .before .before .before .pre) .0 .letters))
+fill-order-requires c κs =
+    let ready = c .before .before .before .before .before .pre .0 in
+    (ready .letters, pow-mono (ready .letters))
 
-array-borrow-prefix-coefficients : tie.Need-array-borrow-prefix-coefficients
-array-borrow-prefix-coefficients c = count-small _ _ ((c .before .before .before .before .word-count) .ensures) ((c .before .before .before .before .before .before .before .pre) .0 .letters)
+coefficients-room : tie.Need-array-borrow-prefix-coefficients
+coefficients-room c =
+    let counted = c .before .before .before .before in
+    count-small _ _ (counted .word-count .ensures) (counted .before .before .before .pre .0 .letters)
 
-slice-aggregate-list-table : tie.Need-slice-aggregate-list-table
-slice-aggregate-list-table c = sym (length-take-le _ _ (count-small _ _ ((c .before .before .before .before .before .word-count) .ensures) ((c .before .before .before .before .before .before .before .before .pre) .0 .letters)))
+coefficients-part : tie.Need-slice-aggregate-list-table
+coefficients-part c =
+    let counted = c .before .before .before .before .before in
+    words-part _ _ _ (counted .word-count .ensures) (counted .before .before .before .pre .0 .letters) refl
 
-array-borrow-prefix-values : tie.Need-array-borrow-prefix-values
-array-borrow-prefix-values c = count-small _ _ ((c .before .before .before .before .before .word-count) .ensures) ((c .before .before .before .before .before .before .before .before .pre) .0 .letters)
+values-room : tie.Need-array-borrow-prefix-values
+values-room c =
+    let counted = c .before .before .before .before .before in
+    count-small _ _ (counted .word-count .ensures) (counted .before .before .before .pre .0 .letters)
 
-slice-aggregate-list-table-2 : tie.Need-slice-aggregate-list-table-2
-slice-aggregate-list-table-2 c = sym (length-take-le _ _ (count-small _ _ ((c .before .before .before .before .before .before .word-count) .ensures) ((c .before .before .before .before .before .before .before .before .before .pre) .0 .letters)))
+values-part : tie.Need-slice-aggregate-list-table-2
+values-part c =
+    let counted = c .before .before .before .before .before .before in
+    words-part _ _ _ (counted .word-count .ensures) (counted .before .before .before .pre .0 .letters) refl
 
-array-share-prefix-masks : tie.Need-array-share-prefix-masks
-array-share-prefix-masks c = masks-room ((c .before .before .before .before .before .before .before .before .before .args) .u + (c .before .before .before .before .before .before .before .before .before .args) .g) ((c .before .before .before .fill-order) .last .1 .0) ((c .before .before .before .before .before .pow2) .ensures) ((c .before .before .before .before .before .before .before .before .before .pre) .0 .letters) ((c .before .before .before .fill-order) .kept .1 .0)
+order-room : tie.Need-array-share-prefix-masks
+order-room c =
+    let filled = c .before .before .before in
+    let powered = filled .before .before in
+    let start = powered .before .before .before .before in
+    masks-room (start .args .u + start .args .g) (filled .fill-order .last .1 .0) (powered .pow2 .ensures) (start .pre .0 .letters) (filled .fill-order .kept .1 .0)
 
-slice-aggregate-list-table-3 : tie.Need-slice-aggregate-list-table-3
-slice-aggregate-list-table-3 c = sym (length-take-le _ _ (masks-room ((c .before .before .before .before .before .before .before .before .before .before .args) .u + (c .before .before .before .before .before .before .before .before .before .before .args) .g) ((c .before .before .before .before .fill-order) .last .1 .0) ((c .before .before .before .before .before .before .pow2) .ensures) ((c .before .before .before .before .before .before .before .before .before .before .pre) .0 .letters) ((c .before .before .before .before .fill-order) .kept .1 .0)))
+order-part : tie.Need-slice-aggregate-list-table-3
+order-part c =
+    let filled = c .before .before .before .before in
+    let powered = filled .before .before in
+    let start = powered .before .before .before .before in
+    masks-part (start .args .u + start .args .g) (filled .fill-order .last .1 .0) (powered .pow2 .ensures) (start .pre .0 .letters) (filled .fill-order .kept .1 .0)
 
 list-table-requires : tie.Need-list-table-requires
-list-table-requires c κs = ((c .before .before .before .before .before .before .before .before .before .before .before .pre) .0, length-take-le _ _ (count-small _ _ ((c .before .before .before .before .before .before .before .before .word-count) .ensures) ((c .before .before .before .before .before .before .before .before .before .before .before .pre) .0 .letters)) ∙ (c .before .before .before .before .before .before .before .before .word-count) .ensures, length-take-le _ _ (count-small _ _ ((c .before .before .before .before .before .before .before .before .word-count) .ensures) ((c .before .before .before .before .before .before .before .before .before .before .before .pre) .0 .letters)) ∙ (c .before .before .before .before .before .before .before .before .word-count) .ensures, ordered _ _ ((c .before .before .before .before .before .before .before .pow2) .ensures) ((c .before .before .before .before .before .fill-order) .ensures), (c .before .before .before .before .before .before .before .before .before .before .before .pre) .1)
-
-same-length : tie.Need-same-length
-same-length c = search needs
-
-returns : tie.Need-returns
-returns c = search needs
+list-table-requires c κs =
+    let filled = c .before .before .before .before .before in
+    let powered = filled .before .before in
+    let counted = powered .before in
+    let start = counted .before .before .before in
+    let few = start .pre .0 .letters in (
+      start .pre .0,
+      words-size _ _ _ (counted .word-count .ensures) few refl,
+      words-size _ _ _ (counted .word-count .ensures) few refl,
+      ordered (start .args .u + start .args .g) _ (powered .pow2 .ensures) (filled .fill-order .ensures),
+      start .pre .1,
+    )
 
 pub list-condition-spec : {M : Type 1} → statement M
 list-condition-spec =
     tie.close
     (tie.spec
-    add-word-count
-    word-count-requires
-    add-pow2
-    pow2-requires
-    add-fill-order
-    slice-aggregate-fill-order
+    (λ c. search needs)
+    (λ c κs. search needs)
+    (λ c. search needs)
+    (λ c κs. search needs)
+    (λ c. search needs)
+    (λ c. search needs)
     fill-order-requires
-    array-borrow-prefix-coefficients
-    slice-aggregate-list-table
-    array-borrow-prefix-values
-    slice-aggregate-list-table-2
-    array-share-prefix-masks
-    slice-aggregate-list-table-3
+    coefficients-room
+    coefficients-part
+    values-room
+    values-part
+    order-room
+    order-part
     list-table-requires
-    same-length
-    returns)
+    (λ c. search needs)
+    (λ c. search needs))

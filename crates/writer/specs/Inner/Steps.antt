@@ -1,4 +1,4 @@
--- What the writer's inner functions put, and what they ask.
+-- What the writer's inner functions list and put, and what they ask.
 -- Assumes nothing.
 use mathlib.Core.Path.{_≡_}
 use mathlib.Core.List.{List, [], _∷_, _++_, map}
@@ -6,22 +6,22 @@ use Prim.Native.Nat.{ℕ, zero, suc, _+_, _-_, _*_, _^_, _≤_}
 use lib.ListN.{length, take, drop}
 use Rattle.ring.specs.Polynomial.{value}
 use Rattle.ring.specs.Table.{IsTable}
-use Rattle.tables.specs.Questions.{Asked, asks, firstNo, lettersFit, hasRoom, holdsBits}
-use Rattle.tables.specs.Answered.{reply, after}
+use Rattle.tables.specs.declared.Question.the-variants.{Letters, Route, Output}
+use Rattle.tables.specs.Questions.{Asked, asks, lettersFit, reads, bufferQuestions}
+use Rattle.tables.specs.Answered.{Reply, Answered, call, _into_}
 use Rattle.words.specs.Words.{wordsOf, bitAt}
 use Rattle.order.specs.Order.{order, monomials}
 use Rattle.order.specs.Inner.Listing.{tagged}
-use Rattle.entry.specs.declared.Record.{Record}
-use Rattle.entry.specs.declared.Record.the-variants.{Start, End, None as NoSolution}
-use Rattle.entry.specs.Inner.Codes.{recordOf}
+use Rattle.solution.specs.Condition.{Condition, width}
+use Rattle.entry.specs.Record.{Record, startRecord, endRecord, noneRecord}
+use Rattle.entry.specs.Inner.Codes.{listedRecord}
 use Rattle.entry.specs.Entry.{archivedRecords, entry}
 use Rattle.entry.specs.Questions.{routeFits}
+use Rattle.calls.specs.Questions.{outputFits}
 use Rattle.writer.specs.declared.Listing.{Listing}
 use Rattle.writer.specs.declared.Listing.the-variants.{Solved, None}
-use Rattle.calls.specs.declared.Written.{Written}
-use Rattle.calls.specs.Entries.{written}
-use Rattle.calls.specs.Questions.{outputFits}
 
+-- ---- listing
 -- the words of answer j, of k words each
 unfoldable pub answerPart : ℕ → ℕ → List ℕ → List ℕ
 answerPart k j answers = take k (drop (j * k) answers)
@@ -29,7 +29,8 @@ answerPart k j answers = take k (drop (j * k) answers)
 -- the monomials of the first j answers, as numbers, from the words of their values in n letters
 unfoldable pub answerCodes : ℕ → ℕ → List ℕ → List ℕ
 answerCodes zero n answers = []
-answerCodes (suc j) n answers = answerCodes j n answers ++ tagged (1024 * (j + 1)) (monomials n (value n (bitAt (answerPart (2 ^ (n - 6)) j answers))))
+answerCodes (suc j) n answers =
+    answerCodes j n answers ++ tagged (1024 * (j + 1)) (monomials n (value n (bitAt (answerPart (2 ^ (n - 6)) j answers))))
 
 -- how many monomials were listed
 abbrev pub countOf : Listing → ℕ
@@ -44,7 +45,7 @@ toldOf (None told state) = told
 -- 'or one kind 5'
 abbrev pub noneOf : Listing → List Record
 noneOf (Solved told all) = []
-noneOf (None told state) = NoSolution state ∷ []
+noneOf (None told state) = noneRecord state ∷ []
 
 -- the bytes of the monomials and of 'none': three for a monomial of the condition, four for one of an answer, two for 'none'
 abbrev pub sizeOf : Listing → ℕ
@@ -53,14 +54,15 @@ sizeOf (None told state) = 3 * told + 2
 
 -- the records of an entry that was listed
 unfoldable pub entryFrom : ℕ → ℕ → ℕ → Listing → List ℕ → List Record
-entryFrom route U G found codes = Start route U G ∷ (map recordOf (take (countOf found) codes) ++ (noneOf found ++ (End route ∷ [])))
+entryFrom route U G found codes =
+    startRecord route U G ∷ (map listedRecord (take (countOf found) codes) ++ (noneOf found ++ (endRecord route ∷ [])))
 
--- what listing the entry of the condition with the table t says
-pub record Lists (U G : ℕ) (t : List ℕ) (found : Listing) (codes : List ℕ) : Type 0 where
+-- what listing the entry of a condition says
+pub record Lists (c : Condition) (found : Listing) (codes : List ℕ) : Type 0 where
   pub told : toldOf found ≤ countOf found
   pub count : countOf found ≤ length codes
-  pub records : (route : ℕ) → entryFrom route U G found codes ≡ archivedRecords route U G t
-  pub size : (route : ℕ) → 6 + sizeOf found ≡ length (entry route U G t)
+  pub records : (route : ℕ) → entryFrom route (c .U) (c .G) found codes ≡ archivedRecords route c
+  pub size : (route : ℕ) → 6 + sizeOf found ≡ length (entry route c)
 
 -- U and G that pass question 1, a condition's coefficients and values in words, and the written order
 pub record Listable (U G : ℕ) (coefficients values masks : List ℕ) : Type 0 where
@@ -71,26 +73,26 @@ pub record Listable (U G : ℕ) (coefficients values masks : List ℕ) : Type 0 
   pub values-are : values ≡ wordsOf (2 ^ (U + G - 6)) (value (U + G) (bitAt coefficients))
   pub ordered : masks ≡ order (U + G)
 
--- U and G that pass question 1, and a table of their size that passes question 8
-pub record Ready (U G : ℕ) (t : List ℕ) : Type 0 where
-  pub unknowns : U ≤ 6
-  pub givens : G ≤ 8
-  pub letters : U + G ≤ 10
-  pub table : IsTable (U + G) t
+-- a condition that passes questions 1 and 8
+pub record Ready (c : Condition) : Type 0 where
+  pub unknowns : c .U ≤ 6
+  pub givens : c .G ≤ 8
+  pub letters : width c ≤ 10
+  pub is-table : IsTable (width c) (c .table)
 
--- 1, 2, 4 and 8, and the first no of them
+-- a listing whose entry has the bytes `made`, which are few
+pub record Sized (found : Listing) (codes made : List ℕ) : Type 0 where
+  pub told : toldOf found ≤ countOf found
+  pub count : countOf found ≤ length codes
+  pub size : 6 + sizeOf found ≡ length made
+  pub small : sizeOf found ≤ 27648
+
+-- ---- asking
+-- 1, 2, 4 and 8
 unfoldable pub conditionQuestions : ℕ → ℕ → ℕ → List ℕ → List Asked
 conditionQuestions route U G condition =
-    asks 1 (lettersFit U G)
-    ∷ asks 2 (routeFits route)
-    ∷ asks 4 (hasRoom (2 ^ (U + G)) (length condition))
-    ∷ asks 8 (holdsBits (2 ^ (U + G)) condition)
-    ∷ []
+    asks Letters (lettersFit U G) ∷ asks Route (routeFits route) ∷ bufferQuestions (reads (2 ^ (U + G)) condition ∷ [])
 
-unfoldable pub conditionRefusal : ℕ → ℕ → ℕ → List ℕ → ℕ
-conditionRefusal route U G condition = firstNo (conditionQuestions route U G condition)
-
--- question 14 of what was made, and the output behind it
-pub record HandsOut (made out : List ℕ) (r : Written) (out′ : List ℕ) : Type 0 where
-  pub answer : written r ≡ reply (firstNo (asks 14 (outputFits made (length out)) ∷ [])) (length made ∷ [])
-  pub output : out′ ≡ after (firstNo (asks 14 (outputFits made (length out)) ∷ [])) made out
+-- 14, of what was made, and the output behind it
+unfoldable pub handOut : List ℕ → List ℕ → Answered Reply
+handOut made out = call (asks Output (outputFits made (length out)) ∷ []) (length made ∷ []) (made into out ∷ [])
