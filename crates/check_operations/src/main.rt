@@ -1,8 +1,8 @@
 // Runs the calls value, sum, product and substitute on the cases of standard input and prints what comes back.
 // The stored input and output were made by the independent implementation in `reference/`.
+use calls::Valued;
 use libc::STDIN_FILENO;
 use libc::STDOUT_FILENO;
-use calls::Valued;
 
 fn show_value(r: Valued) {
     match r {

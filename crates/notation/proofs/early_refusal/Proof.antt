@@ -1,50 +1,46 @@
--- Each way out is one of the tests of `Refusal`, in their order. Assumes nothing.
+-- `notation::early_refusal` meets its contract: question 1, and then 3 and 4.
+-- Assumes nothing.
 use mathlib.Core.Path.{_≡_}
 use mathlib.Core.Bool.{true}
 use native.Mathlib.Omega.{arith}
 use borrow.Author.Needs.{needs}
-use Rattle.tables.specs.Questions.{lettersFit}
+use Rattle.tables.specs.Questions.{lettersFit, roomQuestions, bitQuestions, bufferQuestions}
+use Rattle.tables.proofs.FirstNo.{ask-then, ask-last}
 use Rattle.tables.proofs.Questions.{failed, passed, letters-small}
-use Rattle.calls.specs.Questions.{hasTextLength}
-use Rattle.notation.proofs.Refusal.{refused-letters, refused-length, refused-room, not-early}
+use Rattle.calls.proofs.Buffers.{letters-no, letters-yes}
+use Rattle.notation.specs.Inner.Work.{earlyQuestions}
 use Rattle.notation.proofs.early_refusal.Statement.{statement}
 use Rattle.notation.proofs.early_refusal.Tie as tie
 
--- what is known once a question is passed
-letters : (c : tie.Else1) → lettersFit (c .before .before .before .args .unknowns) (c .before .before .before .args .givens) ≡ true
+returns : tie.Need-returns
+unfolding earlyQuestions
+returns c = letters-no _ _ _ _ (c .number .ensures) (failed (c .before .before .letters-fit .ensures) (c .before .if1 .taken))
+
+-- question 1 is passed
+letters : (c : tie.Else1) → lettersFit (c .before .before .before .args .u) (c .before .before .before .args .g) ≡ true
 letters c = passed (c .before .letters-fit .ensures) (c .if1 .left)
 
-bytes : (c : tie.Else2) → hasTextLength (c .before .before .before .before .before .args .text .now) ≡ true
-bytes c = passed (c .before .has-text-length .ensures) (c .if2 .left)
-
-returns : tie.Need-returns
-returns c = refused-letters _ _ _ _ (failed (c .before .letters-fit .ensures) (c .if1 .taken))
-
 returns-2 : tie.Need-returns-2
-returns-2 c = refused-length _ _ _ _ (letters (c .before .before)) (failed (c .before .has-text-length .ensures) (c .if2 .taken))
-
-add-pow2 : tie.Need-add-pow2
-add-pow2 c = omega (arith, letters-small _ _ (letters (c .before .before)))
-
-returns-3 : tie.Need-returns-3
-returns-3 c =
-    let asked = c .before .before in
-    refused-room _ _ _ _ (letters (asked .before .before)) (bytes asked) _ (c .before .pow2 .ensures) (c .if3 .taken)
-
-returns-4 : tie.Need-returns-4
-returns-4 c =
-    let asked = c .before .before in
-    not-early _ _ _ _ (letters (asked .before .before)) (bytes asked) _ (c .before .pow2 .ensures) (c .if3 .left)
+unfolding earlyQuestions bufferQuestions roomQuestions bitQuestions
+returns-2 c =
+    let first = c .before .before in
+    let powered = first .before .before in
+    rw (← powered .pow2 .ensures)
+    (letters-yes _ _ _ _ (letters (powered .before))
+    (ask-then _ _ _ _ _ _ _ (first .ask .ensures) (first .before .has-text-length .ensures)
+    (ask-last _ _ _ _ _ (c .ask2 .ensures) (c .before .has-room .ensures))))
 
 pub early-refusal-spec : {M : Type 1} → statement M
 early-refusal-spec =
     tie.close
     (tie.spec
     (λ c κs. search needs)
-    returns
     (λ c κs. search needs)
-    returns-2
-    add-pow2
-    (λ c κs. letters-small _ _ (letters (c .before .before)))
-    returns-3
-    returns-4)
+    returns
+    (λ c. omega (arith, letters-small _ _ (letters c)))
+    (λ c κs. letters-small _ _ (letters c))
+    (λ c κs. search needs)
+    (λ c κs. search needs)
+    (λ c κs. search needs)
+    (λ c κs. search needs)
+    returns-2)

@@ -1,15 +1,17 @@
--- The words of the text, then back to coefficients. Assumes nothing.
-use mathlib.Core.Path.{refl, sym, _∙_}
+-- `notation::read_table` meets its contract: the words of the text, then back to coefficients.
+-- Assumes nothing.
+use mathlib.Core.Path.{sym, _∙_}
 use native.Mathlib.Omega.{arith}
 use borrow.Author.Needs.{needs}
-use Rattle.tables.proofs.Reply.{after-refused}
-use Rattle.notation.proofs.Refusal.{text-is-table, after-all}
+use Rattle.tables.proofs.Answered.{after-refused}
+use Rattle.calls.proofs.Text.{text-is-table}
+use Rattle.notation.proofs.Refusal.{after-all}
 use Rattle.notation.proofs.Values.{words-ready, table-text}
 use Rattle.notation.proofs.read_table.Statement.{statement}
 use Rattle.notation.proofs.read_table.Tie as tie
 
 returns : tie.Need-returns
-returns c = (c .before .before .before .symbol-values .ensures .0, after-refused _ _ refl _ _ (c .if1 .taken))
+returns c = (c .before .before .before .symbol-values .ensures .0, after-refused _ _ _ (c .if1 .taken))
 
 put-table-requires : tie.Need-put-table-requires
 put-table-requires c κs =

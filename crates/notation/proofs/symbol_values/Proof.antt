@@ -1,15 +1,21 @@
--- The symbols written are the text's, so the answers are those of questions 5, 6 and 7, and the words are the text's. Assumes nothing.
-use mathlib.Core.Path.{_≡_, _∙_, sym}
-use mathlib.Core.Bool.{true}
+-- `notation::symbol_values` meets its contract: the symbols written are the text's, so the answers are those of questions 5, 6 and 7, and
+-- the words are the text's.
+-- Assumes nothing.
+use mathlib.Core.Path.{_≡_, sym, _∙_}
+use mathlib.Core.List.{[], _∷_}
 use Prim.Native.Nat.{ℕ, _<_}
 use native.Mathlib.Omega.{arith}
 use lib.ListN.{getD}
 use lib.Seq.{length-take-le}
 use borrow.Author.Needs.{needs}
-use Rattle.tables.proofs.Questions.{failed, passed}
+use Rattle.tables.specs.declared.Question.the-variants.{Signs, Declared}
+use Rattle.tables.specs.Questions.{asks}
+use Rattle.tables.specs.Inner.Asking.{also}
+use Rattle.tables.proofs.FirstNo.{ask-then, ask-last}
+use Rattle.tables.proofs.Answered.{after-refused}
 use Rattle.grammar.specs.Symbols.{allSigns, allDeclared}
 use Rattle.words.proofs.Letters.{count-small}
-use Rattle.notation.proofs.Refusal.{refused-signs, refused-declared, refused-grammar, not-late, work-refused, work-done}
+use Rattle.notation.proofs.Refusal.{symbols-refused, symbols-declared, symbols-further, after-last}
 use Rattle.notation.proofs.Values.{signs-text, declared-text, whole-text, length-text, words-text, words-kept}
 use Rattle.notation.proofs.symbol_values.Statement.{statement}
 use Rattle.notation.proofs.symbol_values.Tie as tie
@@ -17,56 +23,49 @@ use Rattle.notation.proofs.symbol_values.Tie as tie
 bytes : (c : tie.After-shared-slice-known) (i : ℕ) → getD (c .before .args .text .now) i 0 < 256
 bytes c i = omega (arith, c .shared-slice-known .given i)
 
--- the answers to questions 5 and 6, and what is known once they are passed
-signs-asked : (c : tie.After-all-signs) → c .all-signs .result ≡ allSigns (c .before .before .before .before .before .before .before .args .text .now)
-signs-asked c =
-    let written = c .before .before .before in
-    signs-text _ _ _ (written .write-symbols .ensures .1) (bytes (written .before .before .before)) (c .all-signs .ensures)
-
-signs : (c : tie.Else1) → allSigns (c .before .before .before .before .before .before .before .before .args .text .now) ≡ true
-signs c = passed (signs-asked (c .before)) (c .if1 .left)
-
-declared-asked : (c : tie.After-all-declared) → c .all-declared .result ≡ allDeclared (c .before .before .before .before .before .before .before .before .before .before .args .unknowns) (c .before .before .before .before .before .before .before .before .before .before .args .givens) (c .before .before .before .before .before .before .before .before .before .before .args .text .now)
-declared-asked c =
-    let written = c .before .before .before .before .before .before in
-    declared-text _ _ _ (written .write-symbols .ensures .1) _ _ (bytes (written .before .before .before)) (c .all-declared .ensures)
-
-declared : (c : tie.Else2) → allDeclared (c .before .before .before .before .before .before .before .before .before .before .before .args .unknowns) (c .before .before .before .before .before .before .before .before .before .before .before .args .givens) (c .before .before .before .before .before .before .before .before .before .before .before .args .text .now) ≡ true
-declared c = passed (declared-asked (c .before)) (c .if2 .left)
+-- the first no of 5 and 6
+asked : (c : tie.After-ask2)
+    → let args = c .before .before .before .before .before .before .before .before .before .before .before .args in
+    c .ask2 .result ≡ also 0 (asks Signs (allSigns (args .text .now)) ∷ asks Declared (allDeclared (args .u) (args .g) (args .text .now)) ∷ [])
+asked c =
+    let signed = c .before .before .before in
+    let written = signed .before .before .before .before in
+    let text-bytes = bytes (written .before .before .before) in
+    let same = written .write-symbols .ensures .1 in
+    ask-then _ _ _ _ _ _ _ (signed .ask .ensures) (signs-text _ _ _ same text-bytes (signed .before .all-signs .ensures))
+    (ask-last _ _ _ _ _ (c .ask2 .ensures) (declared-text _ _ _ same _ _ text-bytes (c .before .all-declared .ensures)))
 
 returns : tie.Need-returns
-returns c = work-refused _ _ _ _ _ 5 (refused-signs _ _ _ (failed (signs-asked (c .before)) (c .if1 .taken))) (λ z. omega arith)
-
-returns-2 : tie.Need-returns-2
-returns-2 c = work-refused _ _ _ _ _ 6 (refused-declared _ _ _ (signs (c .before .before .before)) (failed (declared-asked (c .before)) (c .if2 .taken))) (λ z. omega arith)
+returns c = (symbols-refused _ _ _ _ (asked (c .before)) (c .if1 .taken), after-refused _ _ _ (c .if1 .taken))
 
 read-values-requires : tie.Need-read-values-requires
 read-values-requires c κs =
-    let written = c .before .before .before .before .before .before .before .before .before .write-symbols in
-    let pre = c .before .before .before .before .before .before .before .before .before .before .before .before .before .pre in
-    (omega (arith, length-take-le (written .result) (written .last .1 .0) (written .ensures .0), written .kept .1 .0), pre .unknowns, count-small _ _ (pre .size) (pre .small))
-
-returns-3 : tie.Need-returns-3
-returns-3 c =
-    let asked = c .before .before .before in
-    let known = asked .before .before .before in
-    let signed = known .before .before .before in
-    let written = signed .before .before .before .before in
-    let no = failed (whole-text _ _ _ (written .write-symbols .ensures .1) (asked .read-values .ensures .0)) (c .if3 .taken) in
-    let end = work-refused _ _ _ _ _ 7 (refused-grammar _ _ _ (signs signed) (declared known) no) (λ z. omega arith) in
-    (end .0, words-kept _ _ _ _ (asked .read-values .ensures .1) (failed (asked .read-values .ensures .0) (c .if3 .taken)) ∙ end .1)
-
-returns-4 : tie.Need-returns-4
-returns-4 c =
-    let asked = c .before .before .before in
-    let known = asked .before .before .before in
-    let signed = known .before .before .before in
-    let written = signed .before .before .before .before in
+    let written = c .before .before .before .before .before .before .before .before .before .before in
     let pre = written .before .before .before .before .pre in
-    let whole = passed (asked .read-values .ensures .0) (c .if3 .left) in
-    let reads = passed (whole-text _ _ _ (written .write-symbols .ensures .1) (asked .read-values .ensures .0)) (c .if3 .left) in
-    let words = words-text _ _ _ _ _ _ (asked .read-values .ensures .1) (record { declared = declared known; reads = reads }) (written .write-symbols .ensures .1) whole (pre .size) in
-    work-done _ _ _ _ _ _ (not-late _ _ _ (signs signed) (declared known) reads) (pre .size ∙ sym (length-text _ _ _)) words
+    let symbols = written .write-symbols in (
+      omega (arith, length-take-le (symbols .result) (symbols .last .1 .0) (symbols .ensures .0), symbols .kept .1 .0),
+      pre .unknowns,
+      count-small _ _ (pre .size) (pre .small),
+    )
+
+returns-2 : tie.Need-returns-2
+returns-2 c =
+    let valued = c .before .before .before in
+    let tested = valued .before .before .before in
+    let two = asked (tested .before) in
+    let z = tested .if1 .left in
+    let written = tested .before .before .before .before .before .before .before .before in
+    let pre = written .before .before .before .before .pre in
+    let same = written .write-symbols .ensures .1 in
+    let whole = valued .read-values .ensures .0 in
+    let reads = whole-text _ _ _ same whole in (
+      symbols-further _ _ _ _ two z _ _ (c .ask3 .ensures) reads,
+      after-last _ _ _ _ _ (c .ask3 .ensures) (pre .size ∙ sym (length-text _ _ _))
+          (λ t.
+          words-text _ _ _ _ _ _ (valued .read-values .ensures .1) (record { declared = symbols-declared _ _ _ _ two z; reads = sym reads ∙ t }) same
+          (sym whole ∙ t) (pre .size))
+          (λ f. words-kept _ _ _ _ (valued .read-values .ensures .1) (sym whole ∙ f)),
+    )
 
 pub symbol-values-spec : {M : Type 1} → statement M
 symbol-values-spec =
@@ -77,17 +76,17 @@ symbol-values-spec =
     (λ c. search needs)
     (λ c. search (needs, length-take-le))
     (λ c κs. search needs)
-    returns
+    (λ c κs. search needs)
     (λ c. omega (arith, c .before .before .before .before .before .before .before .before .pre .unknowns))
     (λ c. omega (arith, c .before .before .before .before .before .before .before .before .pre .small))
     (λ c. search needs)
     (λ c. search (needs, length-take-le))
     (λ c κs. search needs)
-    returns-2
+    (λ c κs. search needs)
+    returns
     (λ c. search needs)
     (λ c. search (needs, length-take-le))
     read-values-requires
+    (λ c κs. search needs)
     (λ c. search needs)
-    returns-3
-    (λ c. search needs)
-    returns-4)
+    returns-2)

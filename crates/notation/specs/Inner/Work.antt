@@ -3,31 +3,29 @@
 use mathlib.Core.Path.{_≡_}
 use mathlib.Core.List.{List, [], _∷_}
 use Prim.Native.Nat.{ℕ, _+_, _-_, _^_, _≤_}
-use lib.ListN.{length, take}
+use lib.ListN.{length}
 use Rattle.ring.specs.Polynomial.{value}
 use Rattle.ring.specs.Table.{present}
-use Rattle.tables.specs.Questions.{Asked, asks, firstNo}
+use Rattle.tables.specs.declared.Question.the-variants.{Letters, TextLength, Signs, Declared, Grammar}
+use Rattle.tables.specs.Questions.{Asked, asks, firstNo, lettersFit, writes, bufferQuestions}
 use Rattle.grammar.specs.Symbols.{allSigns, allDeclared}
 use Rattle.grammar.specs.Reader.{grammarReads}
 use Rattle.grammar.specs.Text.{textTable}
 use Rattle.words.specs.Words.{wordsOf}
-use Rattle.calls.specs.Questions.{hasTextLength, textQuestions}
+use Rattle.calls.specs.Questions.{hasTextLength}
 
--- 'Text: 1, 3, 4, 5, 6, 7': the first no of 1, 3 and 4, which are about numbers and lengths
-unfoldable pub earlyRefusal : ℕ → ℕ → List ℕ → ℕ → ℕ
-earlyRefusal U G text room = firstNo (take 3 (textQuestions U G text room))
+-- 'Text: 1, 3, 4, 5, 6, 7': 1, 3 and 4 are about numbers and lengths
+unfoldable pub earlyQuestions : ℕ → ℕ → List ℕ → ℕ → List Asked
+earlyQuestions U G text room =
+    asks Letters (lettersFit U G) ∷ asks TextLength (hasTextLength text) ∷ bufferQuestions (writes (2 ^ (U + G)) room ∷ [])
 
--- 5, 6 and 7, which are put to the text's symbols
+-- 5, 6 and 7 are put to the text's symbols
 unfoldable pub symbolQuestions : ℕ → ℕ → List ℕ → List Asked
-symbolQuestions U G text = asks 5 (allSigns text) ∷ asks 6 (allDeclared U G text) ∷ asks 7 (grammarReads text) ∷ []
+symbolQuestions U G text = asks Signs (allSigns text) ∷ asks Declared (allDeclared U G text) ∷ asks Grammar (grammarReads text) ∷ []
 
--- the first no of these
-unfoldable pub lateRefusal : ℕ → ℕ → List ℕ → ℕ
-lateRefusal U G text = firstNo (symbolQuestions U G text)
-
--- and with 3 before them: those that are about the text alone, once the letters are declared
+-- the first no of these with 3 before them: those that are about the text alone, once the letters are declared
 unfoldable pub valuesRefusal : ℕ → ℕ → List ℕ → ℕ
-valuesRefusal U G text = firstNo (asks 3 (hasTextLength text) ∷ symbolQuestions U G text)
+valuesRefusal U G text = firstNo (asks TextLength (hasTextLength text) ∷ symbolQuestions U G text)
 
 -- the values of the table that a text is read into, at every point, 64 points to a word
 unfoldable pub textWords : ℕ → ℕ → List ℕ → List ℕ
