@@ -14,7 +14,7 @@ use Rattle.ring.specs.Table.{present, table}
 use Rattle.ring.proofs.Points.{parts}
 use Rattle.ring.proofs.Value.{value-cong}
 use Rattle.ring.proofs.Table.{present-tabulate, is-table, same-table}
-use Rattle.grammar.specs.Symbols.{symbols}
+use Rattle.grammar.specs.Symbols.{Symbol, symbols}
 use Rattle.grammar.specs.Grammar.{Tree, Sum}
 use Rattle.grammar.specs.Meaning.{valueAt, normalForm, Declared}
 use Rattle.grammar.specs.Reader.{Reading, nothing, found, sum, reads, isWhole, treeRead, grammarReads, treeOf}
@@ -25,7 +25,7 @@ use Rattle.grammar.proofs.Points.{at-point, value-normal}
 use Rattle.grammar.proofs.Declared.{symbols-fit, tree-declared}
 
 -- 'a text has at most one tree'
-pub one-tree : {l : List ℕ} {s t : Tree} → Sum l s → Sum l t → s ≡ t
+pub one-tree : {l : List Symbol} {s t : Tree} → Sum l s → Sum l t → s ≡ t
 one-tree {l} {s} {t} d e = cc (complete d, complete e)
 
 -- a text that the reader accepts has a derivation, of the tree that is read

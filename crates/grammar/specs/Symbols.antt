@@ -1,12 +1,16 @@
--- The symbols of a text (document 01, 'The notation'), and questions 5 and 6.
--- A text is a list of bytes. A symbol is a number: unknown j is j, given i is 8 + i, and every other sign is its own byte.
+-- The symbols of a text (document 01, 'The notation'), and questions 5 and 6. A text is a list of bytes.
 -- Assumes nothing.
 use mathlib.Core.Bool.{Bool, true, _&&_, _||_, cond}
 use mathlib.Core.List.{List, [], _∷_}
-use Prim.Native.Nat.{ℕ, _+_, _-_}
+use Prim.Native.Nat.{ℕ, _-_}
 use lib.Dec.{eqb, leb, ltb}
 
--- the single signs, by their bytes: `0`
+-- what a text is made of: letters by their numbers, single signs by their bytes, and bytes that are no sign
+pub data Symbol : Type 0 where
+  unknownLetter givenLetter single : ℕ → Symbol
+  foreign : Symbol
+
+-- the bytes of the single signs: `0`
 abbrev pub zeroSign : ℕ
 zeroSign = 48
 
@@ -55,16 +59,13 @@ unfoldable pub isSingle : ℕ → Bool
 isSingle byte =
     eqb byte zeroSign || (eqb byte oneSign || (eqb byte notSign || (eqb byte openSign || (eqb byte closeSign || (eqb byte timesSign || (eqb byte plusSign || eqb byte orSign))))))
 
--- the symbol of a byte that is no sign
-abbrev pub foreign : ℕ
-foreign = 255
-
 -- 'Decoding goes by byte ranges: u to z, a to h, then the single signs'
-unfoldable pub symbol : ℕ → ℕ
-symbol byte = cond (isUnknown byte) (byte - 117) (cond (isGiven byte) (8 + (byte - 97)) (cond (isSingle byte) byte foreign))
+unfoldable pub symbol : ℕ → Symbol
+symbol byte =
+    cond (isUnknown byte) (unknownLetter (byte - 117)) (cond (isGiven byte) (givenLetter (byte - 97)) (cond (isSingle byte) (single byte) foreign))
 
 -- the symbols of a text: 'A space may stand between any two symbols and at the ends', any number of them
-unfoldable pub symbols : List ℕ → List ℕ
+unfoldable pub symbols : List ℕ → List Symbol
 symbols [] = []
 symbols (byte ∷ text) = cond (eqb byte space) (symbols text) (symbol byte ∷ symbols text)
 
