@@ -2,7 +2,8 @@
 -- words have that the readers put there and join.
 -- Assumes nothing.
 use mathlib.Core.Path.{_≡_, refl, sym, ap, ap₂, _∙_}
-use mathlib.Core.Bool.{Bool, true, false, _&&_, _||_, cond}
+use mathlib.Core.Bool.{Bool, true, false, _&&_, cond}
+use mathlib.Core.Logic.{⊎-elim}
 use mathlib.Core.List.{List, _++_}
 use Prim.Native.Nat.{ℕ, _+_, _-_, _*_, _/_, _%_, _^_, _≤_, _<_}
 use native.Mathlib.Omega.{arith}
@@ -14,17 +15,20 @@ use lib.Seq.{take-at, getD-take, getD-append-add}
 use Rattle.ring.specs.Letters.{bit}
 use Rattle.ring.specs.Lists.{listed}
 use Rattle.ring.specs.Polynomial.{_⊕_}
+use Rattle.ring.proofs.Bool.{or-cases}
 use Rattle.ring.proofs.Bitwise.{inclusive, and-bit, or-bit, xor-bit}
 use Rattle.ring.proofs.Lists.{length-listed, getD-listed, listed-cong}
 use Rattle.tables.proofs.Filled.{filled, filled-more, filled-read, filled-high, length-filled}
-use Rattle.grammar.specs.Symbols.{timesSign, plusSign, orSign}
+use Rattle.grammar.specs.Symbols.{timesSign, plusSign, orSign, isSingle}
 use Rattle.grammar.specs.Grammar.{Tree, constant, negation, times}
 use Rattle.grammar.specs.Meaning.{atPoint}
-use Rattle.grammar.specs.Reader.{joinsSum, joined}
+use Rattle.grammar.specs.Reader.{is, joinsSum, joined}
 use Rattle.words.specs.Words.{wordsOf, lowLetters}
 use Rattle.words.proofs.Words.{word-is, word-lt, word-bit, word-cong}
 use Rattle.words.proofs.Turned.{low-letter, high-letter}
+use Rattle.parser.specs.Inner.Codes.{meant}
 use Rattle.parser.specs.Inner.Blocks.{ones, wordAt, joinOf, paired}
+use Rattle.parser.proofs.Codes.{sum-sign}
 
 -- ---- the loops
 module _ (k : ℕ) (xs t : List ℕ) (i : ℕ) where
@@ -104,13 +108,12 @@ unfolding joinOf
 either-word f h w = by-bits bitOr inclusive or-bit (or-lt 64) f h w
 
 -- the signs of sums
-pub sum-word : (x : ℕ) → joinsSum x ≡ true → (U : ℕ) (e f : Tree) (w : ℕ) → joinOf x (wordAt (atPoint U e) w) (wordAt (atPoint U f) w) ≡ wordAt (atPoint U (joined (eqb x orSign) e f)) w
-unfolding atPoint
-sum-word x t U e f w = go (eqb x plusSign) refl t
-  where
-    go : (b : Bool) → eqb x plusSign ≡ b → b || eqb x orSign ≡ true → joinOf x (wordAt (atPoint U e) w) (wordAt (atPoint U f) w) ≡ wordAt (atPoint U (joined (eqb x orSign) e f)) w
-    go true q r = rw (eqb-true x plusSign q) (plus-word (atPoint U e) (atPoint U f) w)
-    go false q r = rw (eqb-true x orSign r) (either-word (atPoint U e) (atPoint U f) w)
+pub sum-word : (x : ℕ) → joinsSum (meant x) ≡ true → (U : ℕ) (e f : Tree) (w : ℕ)
+    → joinOf x (wordAt (atPoint U e) w) (wordAt (atPoint U f) w) ≡ wordAt (atPoint U (joined (is orSign (meant x)) e f)) w
+unfolding atPoint meant isSingle
+sum-word x t U e f w =
+    ⊎-elim (λ q. rw (eqb-true x plusSign q) (plus-word (atPoint U e) (atPoint U f) w)) (λ q. rw (eqb-true x orSign q) (either-word (atPoint U e) (atPoint U f) w))
+    (or-cases (eqb x plusSign) (eqb x orSign) (sym (sum-sign x) ∙ t))
 
 -- ---- what a factor of one symbol puts there
 put-is : (a b : ℕ) → joinOf 0 a b ≡ b

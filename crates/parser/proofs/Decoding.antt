@@ -18,54 +18,55 @@ use Rattle.ring.proofs.Bool.{and-left, and-right, same-bool}
 use Rattle.ring.proofs.Every.{every-all}
 use Rattle.ring.proofs.Lists.{length-listed}
 use Rattle.grammar.specs.Symbols.{space, foreign, isUnknown, isGiven, isSingle, symbol, symbols, isSign, every, allSigns, isDeclared, allDeclared}
+use Rattle.parser.specs.Inner.Codes.{code, codes}
 use Rattle.parser.specs.Inner.Questions.{unspaced, isKnown, isLetterDeclared}
 
 -- ---- one byte
 
 -- the bytes from lo on, k of them, have the symbols that g gives them
-pub by-test : (g : ℕ → ℕ) (lo k : ℕ) → everyBelow k (λ i. eqb (g (lo + i)) (symbol (lo + i))) ≡ true → (c : ℕ) → lo ≤ c → c < lo + k → g c ≡ symbol c
+pub by-test : (g : ℕ → ℕ) (lo k : ℕ) → everyBelow k (λ i. eqb (g (lo + i)) (code (symbol (lo + i)))) ≡ true → (c : ℕ) → lo ≤ c → c < lo + k → g c ≡ code (symbol c)
 by-test g lo k h c a b =
     let e : lo + (c - lo) ≡ c = omega arith in
-    let t = every-all k (λ i. eqb (g (lo + i)) (symbol (lo + i))) h (c - lo) (omega arith) in
-    eqb-true (g c) (symbol c) (simp e at t)
+    let t = every-all k (λ i. eqb (g (lo + i)) (code (symbol (lo + i)))) h (c - lo) (omega arith) in
+    eqb-true (g c) (code (symbol c)) (simp e at t)
 
 -- they are all foreign but for one
-pub foreign-test : (lo k sign : ℕ) → everyBelow k (λ i. eqb (lo + i) sign || eqb foreign (symbol (lo + i))) ≡ true
-    → (c : ℕ) → lo ≤ c → c < lo + k → (c ≡ sign → ⊥) → foreign ≡ symbol c
+pub foreign-test : (lo k sign : ℕ) → everyBelow k (λ i. eqb (lo + i) sign || eqb (code foreign) (code (symbol (lo + i)))) ≡ true
+    → (c : ℕ) → lo ≤ c → c < lo + k → (c ≡ sign → ⊥) → code foreign ≡ code (symbol c)
 foreign-test lo k sign h c a b n =
     let e : lo + (c - lo) ≡ c = omega arith in
-    let t = every-all k (λ i. eqb (lo + i) sign || eqb foreign (symbol (lo + i))) h (c - lo) (omega arith) in
-    eqb-true foreign (symbol c) (simp (e, ne-eqb c sign n) at t)
+    let t = every-all k (λ i. eqb (lo + i) sign || eqb (code foreign) (code (symbol (lo + i)))) h (c - lo) (omega arith) in
+    eqb-true (code foreign) (code (symbol c)) (simp (e, ne-eqb c sign n) at t)
 
 or-false : (a b : Bool) → a ≡ false → a || b ≡ true → b ≡ true
 or-false true b e h = absurd (false≢true (sym e))
 or-false false b e h = h
 
 -- a byte that is no space is a sign exactly where it has a symbol of its own
-sign-symbol : (c : ℕ) → c < 256 → eqb c space ≡ false → isKnown (symbol c) ≡ isSign c
+sign-symbol : (c : ℕ) → c < 256 → eqb c space ≡ false → isKnown (code (symbol c)) ≡ isSign c
 unfolding everyBelow symbol isSign isUnknown isGiven isSingle
 sign-symbol c h n =
-    same-bool (isKnown (symbol c)) (isSign c)
-    (or-false (eqb c space) (Bool·beq (isKnown (symbol c)) (isSign c)) n (every-all 256 (λ c. eqb c space || Bool·beq (isKnown (symbol c)) (isSign c)) refl c h))
+    same-bool (isKnown (code (symbol c))) (isSign c)
+    (or-false (eqb c space) (Bool·beq (isKnown (code (symbol c))) (isSign c)) n (every-all 256 (λ c. eqb c space || Bool·beq (isKnown (code (symbol c))) (isSign c)) refl c h))
 
--- the symbols below 8 are those of unknowns, those from 8 to 15 of givens
+-- the codes below 8 are those of unknowns, those from 8 to 15 of givens
 abbrev kindsRight : ℕ → Bool
-kindsRight c = cond (ltb (symbol c) 8) (isUnknown c) (not (isUnknown c) && Bool·beq (ltb (symbol c) 16) (isGiven c))
+kindsRight c = cond (ltb (code (symbol c)) 8) (isUnknown c) (not (isUnknown c) && Bool·beq (ltb (code (symbol c)) 16) (isGiven c))
 
 kinds-right : (c : ℕ) → c < 256 → kindsRight c ≡ true
 unfolding everyBelow symbol isUnknown isGiven isSingle
 kinds-right c h = every-all 256 kindsRight refl c h
 
-module _ (U G r c : ℕ) (e : r ≡ symbol c) (h : c < 256) where
+module _ (U G r c : ℕ) (e : r ≡ code (symbol c)) (h : c < 256) where
   unknown-declared : r < 8 → ltb r U ≡ isDeclared U G c
   unfolding symbol isDeclared
   unknown-declared l =
-      let u : isUnknown c ≡ true = rw (lt-ltb (symbol c) 8 (rw e at l)) at (kinds-right c h) in
+      let u : isUnknown c ≡ true = rw (lt-ltb (code (symbol c)) 8 (rw e at l)) at (kinds-right c h) in
       rw e (rw u)
 
   not-unknown : 8 ≤ r → (isUnknown c ≡ false) × (ltb r 16 ≡ isGiven c)
   not-unknown a =
-      let b : (not (isUnknown c) && Bool·beq (ltb (symbol c) 16) (isGiven c)) ≡ true = rw (le-ltb (symbol c) 8 (rw e at a)) at (kinds-right c h) in
+      let b : (not (isUnknown c) && Bool·beq (ltb (code (symbol c)) 16) (isGiven c)) ≡ true = rw (le-ltb (code (symbol c)) 8 (rw e at a)) at (kinds-right c h) in
       (not-true (isUnknown c) (and-left (not (isUnknown c)) _ b), rw e (same-bool _ _ (and-right (not (isUnknown c)) _ b)))
 
   given-declared : 8 ≤ r → r < 16 → ltb (r - 8) G ≡ isDeclared U G c
@@ -83,31 +84,31 @@ module _ (U G r c : ℕ) (e : r ≡ symbol c) (h : c < 256) where
       let g : isGiven c ≡ false = sym (n .1) ∙ le-ltb r 16 a in
       rw (n .0, g)
 
-declared-symbol : (U G c : ℕ) → c < 256 → isLetterDeclared U G (symbol c) ≡ isDeclared U G c
-declared-symbol U G c h = go (ltb (symbol c) 8) (ltb (symbol c) 16) refl refl
+declared-symbol : (U G c : ℕ) → c < 256 → isLetterDeclared U G (code (symbol c)) ≡ isDeclared U G c
+declared-symbol U G c h = go (ltb (code (symbol c)) 8) (ltb (code (symbol c)) 16) refl refl
   where
-    go : (x y : Bool) → ltb (symbol c) 8 ≡ x → ltb (symbol c) 16 ≡ y → cond x (ltb (symbol c) U) (cond y (ltb (symbol c - 8) G) true) ≡ isDeclared U G c
-    go true y p q = unknown-declared U G (symbol c) c refl h (ltb-true (symbol c) 8 p)
-    go false true p q = given-declared U G (symbol c) c refl h (ltb-false (symbol c) 8 p) (ltb-true (symbol c) 16 q)
-    go false false p q = other-declared U G (symbol c) c refl h (ltb-false (symbol c) 16 q)
+    go : (x y : Bool) → ltb (code (symbol c)) 8 ≡ x → ltb (code (symbol c)) 16 ≡ y → cond x (ltb (code (symbol c)) U) (cond y (ltb (code (symbol c) - 8) G) true) ≡ isDeclared U G c
+    go true y p q = unknown-declared U G (code (symbol c)) c refl h (ltb-true (code (symbol c)) 8 p)
+    go false true p q = given-declared U G (code (symbol c)) c refl h (ltb-false (code (symbol c)) 8 p) (ltb-true (code (symbol c)) 16 q)
+    go false false p q = other-declared U G (code (symbol c)) c refl h (ltb-false (code (symbol c)) 16 q)
 
--- ---- questions 5 and 6, of the bytes of a text or of its symbols
--- f of symbols is g of bytes, and a space passes
-module _ (f g : ℕ → Bool) (passes : g space ≡ true) (same : (c : ℕ) → c < 256 → eqb c space ≡ false → f (symbol c) ≡ g c) where
-  of-symbols : (text : List ℕ) → ((i : ℕ) → getD text i 0 < 256) → every f (symbols text) ≡ every g text
+-- ---- questions 5 and 6, of the bytes of a text or of the codes of its symbols
+-- f of codes is g of bytes, and a space passes
+module _ (f g : ℕ → Bool) (passes : g space ≡ true) (same : (c : ℕ) → c < 256 → eqb c space ≡ false → f (code (symbol c)) ≡ g c) where
+  of-symbols : (text : List ℕ) → ((i : ℕ) → getD text i 0 < 256) → every f (codes (symbols text)) ≡ every g text
   unfolding symbols every
   of-symbols [] bytes = refl
   of-symbols (c ∷ text) bytes = go (eqb c space) refl (of-symbols text (λ i. bytes (suc i)))
     where
-      go : (x : Bool) → eqb c space ≡ x → every f (symbols text) ≡ every g text → every f (cond x (symbols text) (symbol c ∷ symbols text)) ≡ (g c && every g text)
+      go : (x : Bool) → eqb c space ≡ x → every f (codes (symbols text)) ≡ every g text → every f (codes (cond x (symbols text) (symbol c ∷ symbols text))) ≡ (g c && every g text)
       go true e rest = rw (eqb-true c space e, passes) rest
       go false e rest = rw (same c (bytes 0) e, rest)
 
-pub signs-of-symbols : (text : List ℕ) → ((i : ℕ) → getD text i 0 < 256) → every isKnown (symbols text) ≡ allSigns text
+pub signs-of-symbols : (text : List ℕ) → ((i : ℕ) → getD text i 0 < 256) → every isKnown (codes (symbols text)) ≡ allSigns text
 unfolding allSigns isSign
 signs-of-symbols text bytes = of-symbols isKnown isSign refl sign-symbol text bytes
 
-pub declared-of-symbols : (U G : ℕ) (text : List ℕ) → ((i : ℕ) → getD text i 0 < 256) → every (isLetterDeclared U G) (symbols text) ≡ allDeclared U G text
+pub declared-of-symbols : (U G : ℕ) (text : List ℕ) → ((i : ℕ) → getD text i 0 < 256) → every (isLetterDeclared U G) (codes (symbols text)) ≡ allDeclared U G text
 unfolding allDeclared isDeclared isUnknown isGiven
 declared-of-symbols U G text bytes = of-symbols (isLetterDeclared U G) (isDeclared U G) refl (λ c h n. declared-symbol U G c h) text bytes
 
@@ -191,18 +192,18 @@ module _ (text out₀ out : List ℕ) (n i : ℕ) (d : Unspacing text out₀ out
       }
 
 -- the symbols are those of the bytes that are left
-symbols-unspaced : (text : List ℕ) → listed (length (unspaced text)) (λ i. symbol (getD (unspaced text) i 0)) ≡ symbols text
+symbols-unspaced : (text : List ℕ) → listed (length (unspaced text)) (λ i. code (symbol (getD (unspaced text) i 0))) ≡ codes (symbols text)
 unfolding symbols unspaced listed
 symbols-unspaced [] = refl
 symbols-unspaced (c ∷ text) = go (eqb c space) (symbols-unspaced text)
   where
-    go : (x : Bool) → listed (length (unspaced text)) (λ i. symbol (getD (unspaced text) i 0)) ≡ symbols text
-        → listed (length (cond x (unspaced text) (c ∷ unspaced text))) (λ i. symbol (getD (cond x (unspaced text) (c ∷ unspaced text)) i 0)) ≡ cond x (symbols text) (symbol c ∷ symbols text)
+    go : (x : Bool) → listed (length (unspaced text)) (λ i. code (symbol (getD (unspaced text) i 0))) ≡ codes (symbols text)
+        → listed (length (cond x (unspaced text) (c ∷ unspaced text))) (λ i. code (symbol (getD (cond x (unspaced text) (c ∷ unspaced text)) i 0))) ≡ codes (cond x (symbols text) (symbol c ∷ symbols text))
     go true e = e
-    go false e = ap (λ (l : List ℕ). symbol c ∷ l) e
+    go false e = ap (λ (l : List ℕ). code (symbol c) ∷ l) e
 
-pub symbols-written : (text front front′ rest : List ℕ) (n : ℕ) → front ≡ unspaced text → front′ ≡ listed (length front) (λ i. symbol (getD front i 0)) → n ≡ length front
-    → (n ≤ length (front′ ++ rest)) × (take n (front′ ++ rest) ≡ symbols text)
+pub symbols-written : (text front front′ rest : List ℕ) (n : ℕ) → front ≡ unspaced text → front′ ≡ listed (length front) (λ i. code (symbol (getD front i 0))) → n ≡ length front
+    → (n ≤ length (front′ ++ rest)) × (take n (front′ ++ rest) ≡ codes (symbols text))
 symbols-written text front front′ rest n e e′ en =
-    let size : length front′ ≡ n = ap length e′ ∙ length-listed (length front) (λ i. symbol (getD front i 0)) ∙ sym en in
+    let size : length front′ ≡ n = ap length e′ ∙ length-listed (length front) (λ i. code (symbol (getD front i 0))) ∙ sym en in
     (omega (arith, length-append front′ rest), take-at front′ rest n size ∙ e′ ∙ rw e (symbols-unspaced text))

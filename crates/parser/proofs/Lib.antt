@@ -1,3 +1,4 @@
+pub mod Codes
 pub mod Decoding
 pub mod Blocks
 mod Readers

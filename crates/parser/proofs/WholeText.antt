@@ -10,22 +10,23 @@ use lib.Seq.{drop-cons, length-take-le}
 use Rattle.grammar.specs.Meaning.{atPoint}
 use Rattle.grammar.specs.Reader.{sum, reads, isWhole}
 use Rattle.words.specs.Words.{wordsOf}
+use Rattle.parser.specs.Inner.Codes.{meanings}
 use Rattle.parser.specs.Inner.Blocks.{IsUpTo, IsMissing, wholeWords}
 
 module _ (U : ℕ) (s words : List ℕ) where
-  pub missing-whole : IsMissing s 0 (reads sum s) → (false ≡ isWhole (reads sum s)) × (words ≡ wholeWords U (reads sum s) words)
+  pub missing-whole : IsMissing sum s 0 → (false ≡ isWhole (reads sum (meanings s))) × (words ≡ wholeWords U (reads sum (meanings s)) words)
   unfolding wholeWords
   missing-whole h = (rw (h .none), rw (h .none))
 
-  module _ (k size : ℕ) (stack : List ℕ) (n : ℕ) (g : IsUpTo U k s 0 size stack (reads sum s) n) where
-    pub read-whole : k ≡ length words → n ≡ length s → (new : List ℕ) → new ≡ take k stack → (true ≡ isWhole (reads sum s)) × (new ≡ wholeWords U (reads sum s) words)
+  module _ (k size : ℕ) (stack : List ℕ) (n : ℕ) (g : IsUpTo sum U k s 0 size stack n) where
+    pub read-whole : k ≡ length words → n ≡ length s → (new : List ℕ) → new ≡ take k stack → (true ≡ isWhole (reads sum (meanings s))) × (new ≡ wholeWords U (reads sum (meanings s)) words)
     unfolding wholeWords
     read-whole ek e new en =
         let q : drop n s ≡ [] = drop-of-length-le s {i = n} (omega arith) in
         let v : new ≡ wordsOf (length words) (atPoint U (g .tree)) = en ∙ g .values ∙ ap (λ (x : ℕ). wordsOf x (atPoint U (g .tree))) ek in
         (rw (g .read, q), rw (g .read, q) v)
 
-    pub read-partly : (n ≡ length s → ⊥) → (false ≡ isWhole (reads sum s)) × (words ≡ wholeWords U (reads sum s) words)
+    pub read-partly : (n ≡ length s → ⊥) → (false ≡ isWhole (reads sum (meanings s))) × (words ≡ wholeWords U (reads sum (meanings s)) words)
     unfolding wholeWords
     read-partly e =
         let h : n < length s = omega (arith, g .inside) in

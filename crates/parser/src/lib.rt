@@ -5,17 +5,18 @@
 ghost use mathlib.Core.Path.{_≡_};
 ghost use mathlib.Core.Bool.{not};
 ghost use Prim.Native.Nat.{_+_, _-_, _*_, _≤_, _<_};
-ghost use lib.ListN.{length, drop, take, getD};
+ghost use lib.ListN.{length, take, getD};
 ghost use Rattle.ring.specs.Letters.{digit, bit};
 ghost use Rattle.ring.specs.Lists.{listed};
 ghost use Rattle.tables.proofs.Filled.{filled};
 ghost use Rattle.grammar.specs.Symbols.{symbol, symbols, every};
 ghost use Rattle.grammar.specs.Reader as reader;
 ghost use Rattle.grammar.specs.Reader.{reads, joinsSum, isWhole};
+ghost use Rattle.parser.specs.Inner.Codes.{code, meant, codes, meanings};
 ghost use Rattle.parser.specs.Inner.Questions.{unspaced, isKnown, isLetterDeclared};
 ghost use Rattle.parser.specs.Inner.Blocks.{wordAt, letterOf, joinOf, paired, Agrees, wholeWords};
 
-// A symbol is a number: unknown j is j, given i is GIVEN + i, every other sign is its own byte.
+// A symbol's code: unknown j is j, given i is GIVEN + i, every other sign is its own byte.
 const GIVEN: u8 = 8;
 
 const FOREIGN: u8 = 255;
@@ -33,7 +34,7 @@ pub enum Place {
 
 // 'Decoding goes by byte ranges: u to z, a to h, then the single signs.'
 fn decode(byte: u8) -> u8
-    ensures { λ r. ⌜ r ≡ symbol byte ⌝ }
+    ensures { λ r. ⌜ r ≡ code (symbol byte) ⌝ }
 {
     match byte {
         b'u'..=b'z' => byte - b'u',
@@ -62,26 +63,26 @@ fn drop_spaces(text: &[u8], out: &mut [u8]) -> usize
     n
 }
 
-// Each byte's symbol in its place.
+// The code of each byte's symbol in its place.
 fn decode_all(s: &mut [u8])
-    ensures { λ _. ⌜ now (s .exit) ≡ listed (length (now (s .entry))) (λ i. symbol (getD (now (s .entry)) i 0)) ⌝ }
+    ensures { λ _. ⌜ now (s .exit) ≡ listed (length (now (s .entry))) (λ i. code (symbol (getD (now (s .entry)) i 0))) ⌝ }
 {
     for i in 0..s.len() {
         s[i] = decode(s[i]);
     }
 }
 
-// The symbols of a text, at the front of `out`; returns how many there are.
+// The codes of a text's symbols, at the front of `out`; returns how many there are.
 pub fn write_symbols(text: &[u8], out: &mut [u8]) -> usize
     requires { ⌜ length (now text) ≤ length (now out) ⌝ }
-    ensures { λ r. ⌜ (r ≤ length (now (out .exit))) × (take r (now (out .exit)) ≡ symbols (now (text .entry))) ⌝ }
+    ensures { λ r. ⌜ (r ≤ length (now (out .exit))) × (take r (now (out .exit)) ≡ codes (symbols (now (text .entry)))) ⌝ }
 {
     let n = drop_spaces(text, out);
     decode_all(&mut out[..n]);
     n
 }
 
-// 1 for a symbol that stands for no sign.
+// 1 for the code of what is no sign.
 fn foreign(c: u8) -> u8
     ensures { λ r. ⌜ r ≡ digit (not (isKnown c)) ⌝ }
 {
@@ -102,7 +103,7 @@ pub fn all_signs(s: &[u8]) -> bool
     fault == 0
 }
 
-// 1 for a letter that is not declared. Symbols below 8 are unknowns, those from 8 to 15 givens.
+// 1 for a letter that is not declared. Codes below 8 are unknowns, those from 8 to 15 givens.
 fn undeclared(unknowns: u8, givens: u8, c: u8) -> u8
     ensures { λ r. ⌜ r ≡ digit (not (isLetterDeclared unknowns givens c)) ⌝ }
 {
@@ -133,7 +134,7 @@ pub fn all_declared(unknowns: u8, givens: u8, s: &[u8]) -> bool
 }
 
 fn joins_sum(c: u8) -> bool
-    ensures { λ r. ⌜ r ≡ joinsSum c ⌝ }
+    ensures { λ r. ⌜ r ≡ joinsSum (meant c) ⌝ }
 {
     c == b'+' || c == b'|'
 }
@@ -267,7 +268,7 @@ fn put_symbol(stack: &mut [u64], k: usize, unknowns: usize, c: u8)
 
 fn sum(s: &[u8], at: usize, unknowns: usize, k: usize, stack: &mut [u64]) -> Place
     requires { ⌜ (at ≤ length (now s)) × (unknowns ≤ 6) × (k ≤ 16) × (8 * (length (now s) - at) + 8 ≤ length (now stack)) ⌝ }
-    ensures { λ r. ⌜ Agrees unknowns k (now (s .entry)) at (length (now (stack .entry))) (now (stack .exit)) (reads reader.Reader.sum (drop at (now (s .entry)))) r ⌝ }
+    ensures { λ r. ⌜ Agrees reader.Reader.sum unknowns k (now (s .entry)) at (length (now (stack .entry))) (now (stack .exit)) r ⌝ }
 {
     match product(s, at, unknowns, k, stack) {
         Place::Missing => Place::Missing,
@@ -294,7 +295,7 @@ fn sum(s: &[u8], at: usize, unknowns: usize, k: usize, stack: &mut [u64]) -> Pla
 
 fn product(s: &[u8], at: usize, unknowns: usize, k: usize, stack: &mut [u64]) -> Place
     requires { ⌜ (at ≤ length (now s)) × (unknowns ≤ 6) × (k ≤ 16) × (8 * (length (now s) - at) + 8 ≤ length (now stack)) ⌝ }
-    ensures { λ r. ⌜ Agrees unknowns k (now (s .entry)) at (length (now (stack .entry))) (now (stack .exit)) (reads reader.Reader.product (drop at (now (s .entry)))) r ⌝ }
+    ensures { λ r. ⌜ Agrees reader.Reader.product unknowns k (now (s .entry)) at (length (now (stack .entry))) (now (stack .exit)) r ⌝ }
 {
     match factor(s, at, unknowns, k, stack) {
         Place::Missing => Place::Missing,
@@ -320,7 +321,7 @@ fn product(s: &[u8], at: usize, unknowns: usize, k: usize, stack: &mut [u64]) ->
 
 fn factor(s: &[u8], at: usize, unknowns: usize, k: usize, stack: &mut [u64]) -> Place
     requires { ⌜ (at ≤ length (now s)) × (unknowns ≤ 6) × (k ≤ 16) × (8 * (length (now s) - at) + 8 ≤ length (now stack)) ⌝ }
-    ensures { λ r. ⌜ Agrees unknowns k (now (s .entry)) at (length (now (stack .entry))) (now (stack .exit)) (reads reader.Reader.factor (drop at (now (s .entry)))) r ⌝ }
+    ensures { λ r. ⌜ Agrees reader.Reader.factor unknowns k (now (s .entry)) at (length (now (stack .entry))) (now (stack .exit)) r ⌝ }
 {
     if at < s.len() {
         let c = s[at];
@@ -370,8 +371,8 @@ fn factor(s: &[u8], at: usize, unknowns: usize, k: usize, stack: &mut [u64]) -> 
 // Question 7 of a text's symbols and, where the answer is yes, the values at the points of the words.
 fn read_with(s: &[u8], unknowns: usize, words: &mut [u64], stack: &mut [u64]) -> bool
     requires { ⌜ (unknowns ≤ 6) × (length (now words) ≤ 16) × (8 * length (now s) + 8 ≤ length (now stack)) ⌝ }
-    ensures { λ r. ⌜ r ≡ isWhole (reads reader.Reader.sum (now (s .entry))) ⌝ }
-    ensures { λ _. ⌜ now (words .exit) ≡ wholeWords unknowns (reads reader.Reader.sum (now (s .entry))) (now (words .entry)) ⌝ }
+    ensures { λ r. ⌜ r ≡ isWhole (reads reader.Reader.sum (meanings (now (s .entry)))) ⌝ }
+    ensures { λ _. ⌜ now (words .exit) ≡ wholeWords unknowns (reads reader.Reader.sum (meanings (now (s .entry)))) (now (words .entry)) ⌝ }
 {
     let k = words.len();
     match sum(s, 0, unknowns, k, stack) {
@@ -390,8 +391,8 @@ fn read_with(s: &[u8], unknowns: usize, words: &mut [u64], stack: &mut [u64]) ->
 // A short text needs a small stack. The stacks live here.
 fn read_short(s: &[u8], unknowns: usize, words: &mut [u64]) -> bool
     requires { ⌜ (length (now s) ≤ 63) × (unknowns ≤ 6) × (length (now words) ≤ 16) ⌝ }
-    ensures { λ r. ⌜ r ≡ isWhole (reads reader.Reader.sum (now (s .entry))) ⌝ }
-    ensures { λ _. ⌜ now (words .exit) ≡ wholeWords unknowns (reads reader.Reader.sum (now (s .entry))) (now (words .entry)) ⌝ }
+    ensures { λ r. ⌜ r ≡ isWhole (reads reader.Reader.sum (meanings (now (s .entry)))) ⌝ }
+    ensures { λ _. ⌜ now (words .exit) ≡ wholeWords unknowns (reads reader.Reader.sum (meanings (now (s .entry)))) (now (words .entry)) ⌝ }
 {
     let mut stack = [0u64; 512];
     read_with(s, unknowns, words, &mut stack)
@@ -399,8 +400,8 @@ fn read_short(s: &[u8], unknowns: usize, words: &mut [u64]) -> bool
 
 fn read_long(s: &[u8], unknowns: usize, words: &mut [u64]) -> bool
     requires { ⌜ (length (now s) ≤ 200) × (unknowns ≤ 6) × (length (now words) ≤ 16) ⌝ }
-    ensures { λ r. ⌜ r ≡ isWhole (reads reader.Reader.sum (now (s .entry))) ⌝ }
-    ensures { λ _. ⌜ now (words .exit) ≡ wholeWords unknowns (reads reader.Reader.sum (now (s .entry))) (now (words .entry)) ⌝ }
+    ensures { λ r. ⌜ r ≡ isWhole (reads reader.Reader.sum (meanings (now (s .entry)))) ⌝ }
+    ensures { λ _. ⌜ now (words .exit) ≡ wholeWords unknowns (reads reader.Reader.sum (meanings (now (s .entry)))) (now (words .entry)) ⌝ }
 {
     let mut stack = [0u64; 1608];
     read_with(s, unknowns, words, &mut stack)
@@ -409,8 +410,8 @@ fn read_long(s: &[u8], unknowns: usize, words: &mut [u64]) -> bool
 // Question 7 of a text's symbols and, where the answer is yes, the values of its tree in `words`, 64 points to a word.
 pub fn read_values(s: &[u8], unknowns: usize, words: &mut [u64]) -> bool
     requires { ⌜ (length (now s) ≤ 200) × (unknowns ≤ 6) × (length (now words) ≤ 16) ⌝ }
-    ensures { λ r. ⌜ r ≡ isWhole (reads reader.Reader.sum (now (s .entry))) ⌝ }
-    ensures { λ _. ⌜ now (words .exit) ≡ wholeWords unknowns (reads reader.Reader.sum (now (s .entry))) (now (words .entry)) ⌝ }
+    ensures { λ r. ⌜ r ≡ isWhole (reads reader.Reader.sum (meanings (now (s .entry)))) ⌝ }
+    ensures { λ _. ⌜ now (words .exit) ≡ wholeWords unknowns (reads reader.Reader.sum (meanings (now (s .entry)))) (now (words .entry)) ⌝ }
 {
     if s.len() < 64 {
         return read_short(s, unknowns, words);

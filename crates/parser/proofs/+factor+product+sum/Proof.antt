@@ -5,8 +5,8 @@ use mathlib.Core.Path.{_∙_}
 use Prim.Native.Nat.{_+_, _*_, _-_}
 use native.Mathlib.Omega.{arith}
 use borrow.Author.Needs.{needs}
-use borrow.Author.Tests.{eq-eqb, ne-eqb}
 use lib.ListN.{length, getD}
+use Rattle.parser.specs.Inner.Codes.{meant}
 use Rattle.parser.proofs.Readers.{Going, sumLoop, productLoop, missing, up-to}
 use Rattle.parser.proofs.Readers as readers
 use Prim.Native.Nat.{ℕ, _<_}
@@ -165,7 +165,7 @@ pub +factor+product+sum-spec : {M : Type 1} → statement M
     let args = c .before .before .before .before .before .before .before .before .before .before .before .before .before .before .before .before .before .before .before .args in
     let read = c .before .before .before .before .factor2 in
     readers.stays (args .k) (loop .stack) (read .last .1 .1 .1 .1 .0) (read .kept .1 .1 .1 .1 .0) (loop .inv .kept) (g .kept))
-    (λ c. search (readers.more-missing productLoop, missing, eq-eqb))
+    (λ c. search (readers.more-missing productLoop, missing, readers.times-taken))
     (λ c. search needs)
     (λ c κs.
     let first = up-to (c .before .before .before .before .before .before .before .before .before .before .before .before .before .m .given .1) (c .before .before .before .before .before .before .before .before .before .before .before .before .before .before .before .before .before .factor .ensures) in
@@ -184,7 +184,7 @@ pub +factor+product+sum-spec : {M : Type 1} → statement M
     let pre = c .before .before .before .before .before .before .before .before .before .before .before .before .before .before .before .before .before .before .before .before .before .before .before .before .pre in
     let loop = c .before .before .before .before .before .before .before .before .before .before .before .before .before .before .loop in
     let test = c .before .before .before .before .before .before .before .before .before .before .before .before .before .loop-test in
-    readers.more productLoop _ _ _ _ _ first (loop .inv) (test .taken) (pre .1 .2) (pre .1 .3) part _ (eq-eqb _ _ ((c .before .before .before .before .before .before .before .before .before .before .before .if1) .taken)) ((c .before .before .join) .ensures))
+    readers.more productLoop _ _ _ _ _ first (loop .inv) (test .taken) (pre .1 .2) (pre .1 .3) part _ (readers.times-taken _ ((c .before .before .before .before .before .before .before .before .before .before .before .if1) .taken)) ((c .before .before .join) .ensures))
     (λ c.
     let g = up-to (c .before .before .before .before .before .m .given .1) (c .before .before .before .before .before .before .before .before .before .factor .ensures) in
     let loop = c .before .before .before .loop in
@@ -193,7 +193,7 @@ pub +factor+product+sum-spec : {M : Type 1} → statement M
     let first = up-to (c .before .before .before .before .before .m .given .1) (c .before .before .before .before .before .before .before .before .before .factor .ensures) in
     let loop = c .before .before .before .loop in
     let test = c .before .before .loop-test in
-    readers.other-sign productLoop _ _ _ _ _ first (loop .inv) (test .taken) (ne-eqb _ _ ((c .if1) .left)))
+    readers.other-sign productLoop _ _ _ _ _ first (loop .inv) (test .taken) (readers.times-left _ ((c .if1) .left)))
     (λ c. search needs)
     (λ c. search (readers.begin-missing productLoop, missing))
     (λ c. let g = (up-to ((c .before .before .before .m) .given .1) ((c .before .before .before .before .before .before .before .factor) .ensures)) in (c .before .loop) .inv .kept ∙ g .kept)
@@ -269,7 +269,7 @@ pub +factor+product+sum-spec : {M : Type 1} → statement M
     let loop = c .before .before .before .before .before .before .before .before .before .before .before .before .before .before .before .loop in
     let test = c .before .before .before .before .before .before .before .before .before .before .before .before .before .before .loop-test in
     let args = c .before .before .before .before .before .before .before .before .before .before .before .before .before .before .before .before .before .before .before .before .before .before .before .before .before .args in
-    readers.more sumLoop _ _ _ _ _ first (loop .inv) (test .taken) (pre .1 .2) (pre .1 .3) part _ (readers.sum-test _ _ (getD (args .s .now) (loop .n) 0) ((c .before .before .before .before .before .before .before .before .before .before .before .before .joins-sum) .ensures) ((c .before .before .before .before .before .before .before .before .before .before .before .if1) .taken)) ((c .before .before .join) .ensures))
+    readers.more sumLoop _ _ _ _ _ first (loop .inv) (test .taken) (pre .1 .2) (pre .1 .3) part _ (readers.sum-test _ _ (meant (getD (args .s .now) (loop .n) 0)) ((c .before .before .before .before .before .before .before .before .before .before .before .before .joins-sum) .ensures) ((c .before .before .before .before .before .before .before .before .before .before .before .if1) .taken)) ((c .before .before .join) .ensures))
     (λ c.
     let g = up-to (c .before .before .before .before .before .before .m .given .1) (c .before .before .before .before .before .before .before .before .before .before .product .ensures) in
     let loop = c .before .before .before .before .loop in
@@ -279,7 +279,7 @@ pub +factor+product+sum-spec : {M : Type 1} → statement M
     let loop = c .before .before .before .before .loop in
     let test = c .before .before .before .loop-test in
     let args = c .before .before .before .before .before .before .before .before .before .before .before .before .before .before .args in
-    readers.other-sign sumLoop _ _ _ _ _ first (loop .inv) (test .taken) (readers.sum-test _ _ (getD (args .s .now) (loop .n) 0) ((c .before .joins-sum) .ensures) ((c .if1) .left)))
+    readers.other-sign sumLoop _ _ _ _ _ first (loop .inv) (test .taken) (readers.sum-test _ _ (meant (getD (args .s .now) (loop .n) 0)) ((c .before .joins-sum) .ensures) ((c .if1) .left)))
     (λ c. search needs)
     (λ c. search (readers.begin-missing sumLoop, missing))
     (λ c. let g = (up-to ((c .before .before .before .m) .given .1) ((c .before .before .before .before .before .before .before .product) .ensures)) in (c .before .loop) .inv .kept ∙ g .kept)

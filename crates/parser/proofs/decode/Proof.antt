@@ -5,6 +5,7 @@ use Prim.Native.Nat.{_+_, _-_}
 use borrow.Author.Needs.{needs}
 use Rattle.ring.specs.Polynomial.{everyBelow}
 use Rattle.grammar.specs.Symbols.{foreign, symbol, isUnknown, isGiven, isSingle}
+use Rattle.parser.specs.Inner.Codes.{code}
 use Rattle.parser.proofs.Decoding.{by-test, foreign-test}
 use Rattle.parser.proofs.decode.Statement.{statement}
 use Rattle.parser.proofs.decode.Tie as tie
@@ -28,15 +29,15 @@ returns-3 c = foreign-test 0 40 33 refl _ (search needs) (search needs) (λ e. c
 
 returns-4 : tie.Need-returns-4
 unfolding everyBelow symbol isUnknown isGiven isSingle
-returns-4 c = by-test (λ byte. foreign) 44 4 refl (c .before .before .before .before .args .byte) (search needs) (search needs)
+returns-4 c = by-test (λ byte. code foreign) 44 4 refl (c .before .before .before .before .args .byte) (search needs) (search needs)
 
 returns-5 : tie.Need-returns-5
 unfolding everyBelow symbol isUnknown isGiven isSingle
-returns-5 c = by-test (λ byte. foreign) 50 47 refl (c .before .before .before .before .before .before .args .byte) (search needs) (search needs)
+returns-5 c = by-test (λ byte. code foreign) 50 47 refl (c .before .before .before .before .before .before .args .byte) (search needs) (search needs)
 
 returns-6 : tie.Need-returns-6
 unfolding everyBelow symbol isUnknown isGiven isSingle
-returns-6 c = by-test (λ byte. foreign) 105 12 refl (c .before .before .before .before .before .before .before .before .args .byte) (search needs) (search needs)
+returns-6 c = by-test (λ byte. code foreign) 105 12 refl (c .before .before .before .before .before .before .before .before .args .byte) (search needs) (search needs)
 
 returns-7 : tie.Need-returns-7
 unfolding everyBelow symbol isUnknown isGiven isSingle

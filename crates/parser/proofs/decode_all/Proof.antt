@@ -1,22 +1,23 @@
 -- Byte by byte. Assumes nothing.
 use mathlib.Core.Path.{_≡_, refl, ap, _∙_}
-use Prim.Native.Nat.{_≤_, _-_}
+use Prim.Native.Nat.{ℕ, _≤_, _-_}
 use borrow.Author.Needs.{needs}
 use lib.ListN.{length, getD}
 use Rattle.tables.proofs.Filled.{filled, filled-start, filled-more, filled-read, filled-end}
 use Rattle.grammar.specs.Symbols.{symbol}
+use Rattle.parser.specs.Inner.Codes.{code}
 use Rattle.parser.proofs.decode_all.Statement.{statement}
 use Rattle.parser.proofs.decode_all.Tie as tie
 
 abbrev Inv-loop : tie.InvT-loop
-Inv-loop s₀ i₀ i-end s i = (i ≤ length s₀) × (s ≡ filled i (λ m. symbol (getD s₀ m 0)) s₀) × (length s ≡ length s₀)
+Inv-loop s₀ i₀ i-end s i = (i ≤ length s₀) × (s ≡ filled i (λ m. code (symbol (getD s₀ m 0))) s₀) × (length s ≡ length s₀)
 
 abbrev μ-loop : tie.MeasureT-loop
 μ-loop s₀ i₀ i-end s i = length s₀ - i
 
 loop-again : tie.Need-loop-again Inv-loop μ-loop
 loop-again c =
-    (search needs, filled-more _ _ _ _ (c .before .before .before .loop .inv .1) _ (c .before .before .loop-test .taken) (c .decode .ensures ∙ ap symbol (filled-read _ _ _ _ (c .before .before .before .loop .inv .1) (c .before .before .loop-test .taken))), search needs)
+    (search needs, filled-more _ _ _ _ (c .before .before .before .loop .inv .1) _ (c .before .before .loop-test .taken) (c .decode .ensures ∙ ap (λ (x : ℕ). code (symbol x)) (filled-read _ _ _ _ (c .before .before .before .loop .inv .1) (c .before .before .loop-test .taken))), search needs)
 
 returns : tie.Need-returns Inv-loop μ-loop
 returns c = filled-end _ _ _ _ (c .before .loop .inv .1) (c .before .loop .inv .0) (c .loop-test .left)

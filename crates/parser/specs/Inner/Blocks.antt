@@ -11,7 +11,8 @@ use lib.Bits.{bitAnd, bitOr, bitXor}
 use Rattle.grammar.specs.Symbols.{timesSign, plusSign, orSign}
 use Rattle.grammar.specs.Grammar.{Tree}
 use Rattle.grammar.specs.Meaning.{atPoint}
-use Rattle.grammar.specs.Reader.{Reading, nothing, found, isWhole, treeRead}
+use Rattle.grammar.specs.Reader.{Reading, nothing, found, Reader, reads, isWhole, treeRead}
+use Rattle.parser.specs.Inner.Codes.{meanings}
 use Rattle.words.specs.Words.{wordOf, wordsOf}
 use Rattle.parser.specs.declared.Place.{Place}
 use Rattle.parser.specs.declared.Place.the-variants.{Missing, UpTo}
@@ -36,22 +37,22 @@ joinOf op a b = cond (eqb op timesSign) (bitAnd a b) (cond (eqb op orSign) (bitO
 unfoldable pub paired : ℕ → ℕ → List ℕ → ℕ → ℕ
 paired op k stack i = joinOf op (getD stack i 0) (getD stack (k + i) 0)
 
--- a tree is read from `at` up to n, and its words stand at the front of the stack, which is as long as it was
-pub record IsUpTo (U k : ℕ) (s : List ℕ) (at size : ℕ) (stack : List ℕ) (reading : Reading) (n : ℕ) : Type 0 where
+-- the reader reads a tree from `at` up to n, and its words stand at the front of the stack, which is as long as it was
+pub record IsUpTo (reader : Reader) (U k : ℕ) (s : List ℕ) (at size : ℕ) (stack : List ℕ) (n : ℕ) : Type 0 where
   pub tree : Tree
-  pub read : reading ≡ found tree (drop n s)
+  pub read : reads reader (meanings (drop at s)) ≡ found tree (meanings (drop n s))
   pub values : take k stack ≡ wordsOf k (atPoint U tree)
   pub kept : length stack ≡ size
   pub past : at < n
   pub inside : n ≤ length s
 
--- nothing is read from `at`
-pub record IsMissing (s : List ℕ) (at : ℕ) (reading : Reading) : Type 0 where
-  pub none : reading ≡ nothing
+-- it reads nothing from `at`
+pub record IsMissing (reader : Reader) (s : List ℕ) (at : ℕ) : Type 0 where
+  pub none : reads reader (meanings (drop at s)) ≡ nothing
 
-abbrev pub Agrees : ℕ → ℕ → List ℕ → ℕ → ℕ → List ℕ → Reading → Place → Type 0
-Agrees U k s at size stack reading Missing = IsMissing s at reading
-Agrees U k s at size stack reading (UpTo n) = IsUpTo U k s at size stack reading n
+abbrev pub Agrees : Reader → ℕ → ℕ → List ℕ → ℕ → ℕ → List ℕ → Place → Type 0
+Agrees reader U k s at size stack Missing = IsMissing reader s at
+Agrees reader U k s at size stack (UpTo n) = IsUpTo reader U k s at size stack n
 
 -- words with the values of the tree of a text that the grammar reads whole; otherwise as they were
 unfoldable pub wholeWords : ℕ → Reading → List ℕ → List ℕ
