@@ -7,8 +7,11 @@ use Prim.Native.Nat.{ℕ, _-_, _<_}
 use borrow.Author.Tests.{ltb-true}
 use lib.Dec.{eqb, ltb}
 use Rattle.ring.proofs.Bool.{and-left, and-right}
-use Rattle.grammar.specs.Symbols.{Symbol, unknownLetter, givenLetter, single, foreign, closeSign, timesSign, plusSign, orSign, space, isUnknown, isGiven, isSingle, symbol, symbols, every, isDeclared, allDeclared}
-use Rattle.grammar.specs.Grammar.{Tree, Kind, Derives, one-product, plus-product, or-product, one-factor, times-factor, is-zero, is-one, is-unknown, is-given, is-negation, in-brackets}
+use Rattle.grammar.specs.Symbols.{Symbol, unknownLetter, givenLetter, single, foreign, closeSign, timesSign, plusSign, orSign, space}
+use Rattle.grammar.specs.Symbols.{isUnknown, isGiven, isSingle, symbol, symbols, every, isDeclared, allDeclared}
+use Rattle.grammar.specs.Grammar.{Tree, Kind, Derives}
+use Rattle.grammar.specs.Grammar.{one-product, plus-product, or-product, one-factor, times-factor}
+use Rattle.grammar.specs.Grammar.{is-zero, is-one, is-unknown, is-given, is-negation, in-brackets}
 use Rattle.grammar.specs.Meaning.{Declared}
 
 module _ (U G : ℕ) where
@@ -33,10 +36,13 @@ module _ (U G : ℕ) where
 
   pub tree-declared : {k : Kind} {l : List Symbol} {t : Tree} → Derives k l t → AllFit l → Declared U G t
   tree-declared (one-product d) f = tree-declared d f
-  tree-declared (plus-product {l} {m} d e) f = (tree-declared d (fit-left l (single plusSign ∷ m) f), tree-declared e (fit-right l (single plusSign ∷ m) f .1))
-  tree-declared (or-product {l} {m} d e) f = (tree-declared d (fit-left l (single orSign ∷ m) f), tree-declared e (fit-right l (single orSign ∷ m) f .1))
+  tree-declared (plus-product {l} {m} d e) f =
+      (tree-declared d (fit-left l (single plusSign ∷ m) f), tree-declared e (fit-right l (single plusSign ∷ m) f .1))
+  tree-declared (or-product {l} {m} d e) f =
+      (tree-declared d (fit-left l (single orSign ∷ m) f), tree-declared e (fit-right l (single orSign ∷ m) f .1))
   tree-declared (one-factor d) f = tree-declared d f
-  tree-declared (times-factor {l} {m} d e) f = (tree-declared d (fit-left l (single timesSign ∷ m) f), tree-declared e (fit-right l (single timesSign ∷ m) f .1))
+  tree-declared (times-factor {l} {m} d e) f =
+      (tree-declared d (fit-left l (single timesSign ∷ m) f), tree-declared e (fit-right l (single timesSign ∷ m) f .1))
   tree-declared is-zero f = tt
   tree-declared is-one f = tt
   tree-declared is-unknown f = f .0

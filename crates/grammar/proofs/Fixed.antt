@@ -10,9 +10,11 @@ use native.Mathlib.Omega.{arith}
 use borrow.Author.Tests.{eqb-true}
 use lib.ListN.{length}
 use lib.Dec.{eqb}
-use Rattle.grammar.specs.Symbols.{Symbol, unknownLetter, givenLetter, single, foreign, zeroSign, oneSign, notSign, openSign, closeSign, timesSign, orSign}
+use Rattle.grammar.specs.Symbols.{Symbol, unknownLetter, givenLetter, single, foreign}
+use Rattle.grammar.specs.Symbols.{zeroSign, oneSign, notSign, openSign, closeSign, timesSign, orSign}
 use Rattle.grammar.specs.Grammar.{Tree, negation, times}
-use Rattle.grammar.specs.Reader.{Reading, nothing, found, Reader, sum, product, factor, sumFrom, productFrom, andThen, is, joinsSum, joined, closed, step, readWith, depth, calls, reads}
+use Rattle.grammar.specs.Reader.{Reading, nothing, found, Reader, sum, product, factor, sumFrom, productFrom}
+use Rattle.grammar.specs.Reader.{andThen, is, joinsSum, joined, closed, step, readWith, depth, calls, reads}
 
 pub nothing-found : {A : Type 0} {e : Tree} {r : List Symbol} → nothing ≡ found e r → A
 nothing-found {A} {e} {r} h = let z : _≡_ {A = ℕ} 0 1 = cc in absurd (omega arith)
@@ -24,7 +26,8 @@ is-sign sign (givenLetter i) h = absurd (false≢true h)
 is-sign sign (single byte) h = ap single (eqb-true byte sign h)
 is-sign sign foreign h = absurd (false≢true h)
 
-pub andThen-found : (o : Reading) (f : Tree → List Symbol → Reading) {e : Tree} {r : List Symbol} → andThen o f ≡ found e r → (e′ : Tree) × (r′ : List Symbol) × (o ≡ found e′ r′) × (f e′ r′ ≡ found e r)
+pub andThen-found : (o : Reading) (f : Tree → List Symbol → Reading) {e : Tree} {r : List Symbol} → andThen o f ≡ found e r
+    → (e′ : Tree) × (r′ : List Symbol) × (o ≡ found e′ r′) × (f e′ r′ ≡ found e r)
 unfolding andThen
 andThen-found nothing f h = nothing-found h
 andThen-found (found e′ r′) f h = (e′, r′, refl, h)
@@ -37,7 +40,8 @@ pub then-found : {o : Reading} (f : Tree → List Symbol → Reading) {e : Tree}
 unfolding andThen
 then-found f h = rw h
 
-andThen-cong : (o o′ : Reading) (f g : Tree → List Symbol → Reading) → o ≡ o′ → ((e : Tree) (r : List Symbol) → o ≡ found e r → f e r ≡ g e r) → andThen o f ≡ andThen o′ g
+andThen-cong : (o o′ : Reading) (f g : Tree → List Symbol → Reading) → o ≡ o′
+    → ((e : Tree) (r : List Symbol) → o ≡ found e r → f e r ≡ g e r) → andThen o f ≡ andThen o′ g
 unfolding andThen
 andThen-cong o o′ f g q h = on o h ∙ ap (λ (x : Reading). andThen x g) q
   where
@@ -91,18 +95,21 @@ module _ (p : Reader → List Symbol → Reading) (sh : Shrinks p) where
       (cond-cases (eqb x zeroSign) h)
   step-shrinks (sumFrom f) [] e r h = omega (arith, rest h)
   step-shrinks (sumFrom f) (x ∷ l) e r h =
-      ⊎-elim (λ w. let t = andThen-found (p product l) (λ g r′. p (sumFrom (joined (is orSign x) f g)) r′) (w .1) in omega (arith, sh product l (t .0) (t .1) (t .2), sh (sumFrom (joined (is orSign x) f (t .0))) (t .1) e r (t .3)))
+      ⊎-elim (λ w. let t = andThen-found (p product l) (λ g r′. p (sumFrom (joined (is orSign x) f g)) r′) (w .1) in
+      omega (arith, sh product l (t .0) (t .1) (t .2), sh (sumFrom (joined (is orSign x) f (t .0))) (t .1) e r (t .3)))
       (λ w. omega (arith, rest (w .1)))
       (cond-cases (joinsSum x) h)
   step-shrinks (productFrom f) [] e r h = omega (arith, rest h)
   step-shrinks (productFrom f) (x ∷ l) e r h =
-      ⊎-elim (λ w. let t = andThen-found (p factor l) (λ g r′. p (productFrom (times f g)) r′) (w .1) in omega (arith, sh factor l (t .0) (t .1) (t .2), sh (productFrom (times f (t .0))) (t .1) e r (t .3)))
+      ⊎-elim (λ w. let t = andThen-found (p factor l) (λ g r′. p (productFrom (times f g)) r′) (w .1) in
+      omega (arith, sh factor l (t .0) (t .1) (t .2), sh (productFrom (times f (t .0))) (t .1) e r (t .3)))
       (λ w. omega (arith, rest (w .1)))
       (cond-cases (is timesSign x) h)
 
   -- two readers that agree below a reading agree at the step
   module _ (q : Reader → List Symbol → Reading) where
-    step-cong : (m : Reader) (l : List Symbol) → ((m′ : Reader) (l′ : List Symbol) → calls m′ l′ < calls m l → p m′ l′ ≡ q m′ l′) → step p m l ≡ step q m l
+    step-cong : (m : Reader) (l : List Symbol)
+        → ((m′ : Reader) (l′ : List Symbol) → calls m′ l′ < calls m l → p m′ l′ ≡ q m′ l′) → step p m l ≡ step q m l
     step-cong sum l h = andThen-cong (p product l) (q product l) _ _ (h product l (omega arith)) (λ e r a. h (sumFrom e) r (omega (arith, sh product l e r a)))
     step-cong product l h = andThen-cong (p factor l) (q factor l) _ _ (h factor l (omega arith)) (λ e r a. h (productFrom e) r (omega (arith, sh factor l e r a)))
     step-cong factor [] h = refl
@@ -114,9 +121,15 @@ module _ (p : Reader → List Symbol → Reading) (sh : Shrinks p) where
         (cond-cong (eqb x notSign) (andThen-cong (p factor l) (q factor l) _ _ (h factor l (omega arith)) (λ e r a. refl))
         (cond-cong (eqb x openSign) (andThen-cong (p sum l) (q sum l) _ _ (h sum l (omega arith)) (λ e r a. refl)) refl)))
     step-cong (sumFrom f) [] h = refl
-    step-cong (sumFrom f) (x ∷ l) h = cond-cong (joinsSum x) (andThen-cong (p product l) (q product l) _ _ (h product l (omega arith)) (λ e r a. h (sumFrom (joined (is orSign x) f e)) r (omega (arith, sh product l e r a)))) refl
+    step-cong (sumFrom f) (x ∷ l) h =
+        cond-cong (joinsSum x)
+        (andThen-cong (p product l) (q product l) _ _ (h product l (omega arith))
+        (λ e r a. h (sumFrom (joined (is orSign x) f e)) r (omega (arith, sh product l e r a)))) refl
     step-cong (productFrom f) [] h = refl
-    step-cong (productFrom f) (x ∷ l) h = cond-cong (is timesSign x) (andThen-cong (p factor l) (q factor l) _ _ (h factor l (omega arith)) (λ e r a. h (productFrom (times f e)) r (omega (arith, sh factor l e r a)))) refl
+    step-cong (productFrom f) (x ∷ l) h =
+        cond-cong (is timesSign x)
+        (andThen-cong (p factor l) (q factor l) _ _ (h factor l (omega arith))
+        (λ e r a. h (productFrom (times f e)) r (omega (arith, sh factor l e r a)))) refl
 
 shrinks : (k : ℕ) → Shrinks (readWith k)
 unfolding readWith

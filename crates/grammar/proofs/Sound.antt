@@ -8,9 +8,13 @@ use Prim.Native.Nat.{ℕ, zero, suc}
 use borrow.Author.Tests.{eqb-true}
 use lib.Dec.{eqb}
 use Rattle.ring.proofs.Bool.{or-cases}
-use Rattle.grammar.specs.Symbols.{Symbol, unknownLetter, givenLetter, single, foreign, zeroSign, oneSign, notSign, openSign, closeSign, timesSign, plusSign, orSign}
-use Rattle.grammar.specs.Reader.{Reading, found, Reader, sum, product, factor, sumFrom, productFrom, is, joinsSum, joined, closed, step, readWith, calls, reads}
-use Rattle.grammar.specs.Grammar.{Tree, negation, times, Sum, Product, Factor, one-product, plus-product, or-product, one-factor, times-factor, is-zero, is-one, is-unknown, is-given, is-negation, in-brackets}
+use Rattle.grammar.specs.Symbols.{Symbol, unknownLetter, givenLetter, single, foreign}
+use Rattle.grammar.specs.Symbols.{zeroSign, oneSign, notSign, openSign, closeSign, timesSign, plusSign, orSign}
+use Rattle.grammar.specs.Reader.{Reading, found, Reader, sum, product, factor, sumFrom, productFrom}
+use Rattle.grammar.specs.Reader.{is, joinsSum, joined, closed, step, readWith, calls, reads}
+use Rattle.grammar.specs.Grammar.{Tree, negation, times, Sum, Product, Factor}
+use Rattle.grammar.specs.Grammar.{one-product, plus-product, or-product, one-factor, times-factor}
+use Rattle.grammar.specs.Grammar.{is-zero, is-one, is-unknown, is-given, is-negation, in-brackets}
 use Rattle.grammar.proofs.Fixed.{is-sign, andThen-found, cond-cases, nothing-found}
 
 abbrev Says : Reader → List Symbol → Tree → Type 0
@@ -30,7 +34,8 @@ abbrev Sound : (Reader → List Symbol → Reading) → Type 0
 Sound p = (m : Reader) (l : List Symbol) (e : Tree) (r : List Symbol) → p m l ≡ found e r → Prefix m l e r
 
 -- a symbol that is a factor by itself
-alone : (x : Symbol) (l : List Symbol) {f e : Tree} {r : List Symbol} → Factor (x ∷ []) f → found f l ≡ found e r → Prefix factor (x ∷ l) e r
+alone : (x : Symbol) (l : List Symbol) {f e : Tree} {r : List Symbol}
+    → Factor (x ∷ []) f → found f l ≡ found e r → Prefix factor (x ∷ l) e r
 alone x l {f} {e} {r} d h =
     let q : l ≡ r = cc in
     let p : f ≡ e = cc in
@@ -49,16 +54,20 @@ same-product l {f} {e} {r} h =
     let p : f ≡ e = cc in
     record { prefix = []; whole = sym q; means = λ k d. rw (append-nil k) (rw p at d) }
 
-joins : (x : Symbol) → joinsSum x ≡ true → {k m : List Symbol} {e f : Tree} → Sum k e → Product m f → Sum (k ++ (x ∷ m)) (joined (is orSign x) e f)
+joins : (x : Symbol) → joinsSum x ≡ true
+    → {k m : List Symbol} {e f : Tree} → Sum k e → Product m f → Sum (k ++ (x ∷ m)) (joined (is orSign x) e f)
 joins x h d p =
-    ⊎-elim (λ w. rw (is-sign plusSign x w) (plus-product d p)) (λ w. rw (is-sign orSign x w) (or-product d p)) (or-cases (is plusSign x) (is orSign x) h)
+    ⊎-elim (λ w. rw (is-sign plusSign x w) (plus-product d p)) (λ w. rw (is-sign orSign x w) (or-product d p))
+    (or-cases (is plusSign x) (is orSign x) h)
 
 closed-found : (e : Tree) (l : List Symbol) (e′ : Tree) (r : List Symbol) → closed e l ≡ found e′ r → (l ≡ single closeSign ∷ r) × (e ≡ e′)
 closed-found e [] e′ r h = nothing-found h
 closed-found e (x ∷ l) e′ r h =
-    ⊎-elim (λ w. let g = w .1 in let q : l ≡ r = cc in (rw (is-sign closeSign x (w .0), q), cc)) (λ w. nothing-found (w .1)) (cond-cases (is closeSign x) h)
+    ⊎-elim (λ w. let g = w .1 in let q : l ≡ r = cc in (rw (is-sign closeSign x (w .0), q), cc)) (λ w. nothing-found (w .1))
+    (cond-cases (is closeSign x) h)
 
-is-not : (l : List Symbol) {f e : Tree} {s r : List Symbol} → Prefix factor l f s → found (negation f) s ≡ found e r → Prefix factor (single notSign ∷ l) e r
+is-not : (l : List Symbol) {f e : Tree} {s r : List Symbol}
+    → Prefix factor l f s → found (negation f) s ≡ found e r → Prefix factor (single notSign ∷ l) e r
 is-not l {f} {e} {s} {r} a t =
     let q : s ≡ r = cc in
     let g : negation f ≡ e = cc in
@@ -68,17 +77,20 @@ is-not l {f} {e} {s} {r} a t =
       means = rw g at (is-negation (a .means));
     }
 
-is-group : (l : List Symbol) {f e : Tree} {s r : List Symbol} → Prefix sum l f s → (s ≡ single closeSign ∷ r) × (f ≡ e)
-    → Prefix factor (single openSign ∷ l) e r
+is-group : (l : List Symbol) {f e : Tree} {s r : List Symbol}
+    → Prefix sum l f s → (s ≡ single closeSign ∷ r) × (f ≡ e) → Prefix factor (single openSign ∷ l) e r
 is-group l {f} {e} {s} {r} a z =
     record {
       prefix = single openSign ∷ (a .prefix ++ (single closeSign ∷ []));
-      whole = ap (λ (k : List Symbol). single openSign ∷ k) (append-assoc (a .prefix) (single closeSign ∷ []) r ∙ (rw (z .0) at (a .whole)));
+      whole = ap (λ (k : List Symbol). single openSign ∷ k)
+          (append-assoc (a .prefix) (single closeSign ∷ []) r ∙ (rw (z .0) at (a .whole)));
       means = rw (z .1) at (in-brackets (a .means));
     }
 
 module _ (p : Reader → List Symbol → Reading) (sd : Sound p) where
-  is-sumFrom : (x : Symbol) (l : List Symbol) (f e : Tree) (r : List Symbol) → joinsSum x ≡ true → (g : Tree) × (s : List Symbol) × (p product l ≡ found g s) × (p (sumFrom (joined (is orSign x) f g)) s ≡ found e r) → Prefix (sumFrom f) (x ∷ l) e r
+  is-sumFrom : (x : Symbol) (l : List Symbol) (f e : Tree) (r : List Symbol) → joinsSum x ≡ true
+      → (g : Tree) × (s : List Symbol) × (p product l ≡ found g s) × (p (sumFrom (joined (is orSign x) f g)) s ≡ found e r)
+      → Prefix (sumFrom f) (x ∷ l) e r
   is-sumFrom x l f e r h t =
       let a = sd product l (t .0) (t .1) (t .2) in
       let b = sd (sumFrom (joined (is orSign x) f (t .0))) (t .1) e r (t .3) in
@@ -88,7 +100,9 @@ module _ (p : Reader → List Symbol → Reading) (sd : Sound p) where
         means = λ k d. rw append-assoc at (b .means (k ++ (x ∷ a .prefix)) (joins x h d (a .means)));
       }
 
-  is-productFrom : (x : Symbol) (l : List Symbol) (f e : Tree) (r : List Symbol) → is timesSign x ≡ true → (g : Tree) × (s : List Symbol) × (p factor l ≡ found g s) × (p (productFrom (times f g)) s ≡ found e r) → Prefix (productFrom f) (x ∷ l) e r
+  is-productFrom : (x : Symbol) (l : List Symbol) (f e : Tree) (r : List Symbol) → is timesSign x ≡ true
+      → (g : Tree) × (s : List Symbol) × (p factor l ≡ found g s) × (p (productFrom (times f g)) s ≡ found e r)
+      → Prefix (productFrom f) (x ∷ l) e r
   is-productFrom x l f e r h t =
       let a = sd factor l (t .0) (t .1) (t .2) in
       let b = sd (productFrom (times f (t .0))) (t .1) e r (t .3) in
@@ -126,9 +140,15 @@ module _ (p : Reader → List Symbol → Reading) (sd : Sound p) where
       (cond-cases (eqb x oneSign) (w .1)))
       (cond-cases (eqb x zeroSign) h)
   step-sound (sumFrom f) [] e r h = same-sum [] h
-  step-sound (sumFrom f) (x ∷ l) e r h = ⊎-elim (λ w. is-sumFrom x l f e r (w .0) (andThen-found (p product l) (λ g r′. p (sumFrom (joined (is orSign x) f g)) r′) (w .1))) (λ w. same-sum (x ∷ l) (w .1)) (cond-cases (joinsSum x) h)
+  step-sound (sumFrom f) (x ∷ l) e r h =
+      ⊎-elim (λ w. is-sumFrom x l f e r (w .0) (andThen-found (p product l) (λ g r′. p (sumFrom (joined (is orSign x) f g)) r′) (w .1)))
+      (λ w. same-sum (x ∷ l) (w .1))
+      (cond-cases (joinsSum x) h)
   step-sound (productFrom f) [] e r h = same-product [] h
-  step-sound (productFrom f) (x ∷ l) e r h = ⊎-elim (λ w. is-productFrom x l f e r (w .0) (andThen-found (p factor l) (λ g r′. p (productFrom (times f g)) r′) (w .1))) (λ w. same-product (x ∷ l) (w .1)) (cond-cases (is timesSign x) h)
+  step-sound (productFrom f) (x ∷ l) e r h =
+      ⊎-elim (λ w. is-productFrom x l f e r (w .0) (andThen-found (p factor l) (λ g r′. p (productFrom (times f g)) r′) (w .1)))
+      (λ w. same-product (x ∷ l) (w .1))
+      (cond-cases (is timesSign x) h)
 
 readWith-sound : (k : ℕ) → Sound (readWith k)
 unfolding readWith

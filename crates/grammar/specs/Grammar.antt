@@ -4,7 +4,8 @@
 use mathlib.Core.Bool.{Bool, true, false}
 use mathlib.Core.List.{List, [], _∷_, _++_}
 use Prim.Native.Nat.{ℕ}
-use Rattle.grammar.specs.Symbols.{Symbol, unknownLetter, givenLetter, single, zeroSign, oneSign, notSign, openSign, closeSign, timesSign, plusSign, orSign}
+use Rattle.grammar.specs.Symbols.{Symbol, unknownLetter, givenLetter, single}
+use Rattle.grammar.specs.Symbols.{zeroSign, oneSign, notSign, openSign, closeSign, timesSign, plusSign, orSign}
 
 -- syntax trees: a constant, a letter, `!t`, `s*t`, `s+t`, `s|t`
 pub data Tree : Type 0 where
@@ -22,10 +23,13 @@ pub data Kind : Type 0 where
 -- 'factor: `0`, `1`, a letter, `!` and a factor, or `(` sum `)`'
 pub data Derives : Kind → List Symbol → Tree → Type 0 where
   one-product : {l : List Symbol} {s : Tree} → Derives a-product l s → Derives a-sum l s
-  plus-product : {l m : List Symbol} {s t : Tree} → Derives a-sum l s → Derives a-product m t → Derives a-sum (l ++ (single plusSign ∷ m)) (plus s t)
-  or-product : {l m : List Symbol} {s t : Tree} → Derives a-sum l s → Derives a-product m t → Derives a-sum (l ++ (single orSign ∷ m)) (either s t)
+  plus-product : {l m : List Symbol} {s t : Tree}
+      → Derives a-sum l s → Derives a-product m t → Derives a-sum (l ++ (single plusSign ∷ m)) (plus s t)
+  or-product : {l m : List Symbol} {s t : Tree}
+      → Derives a-sum l s → Derives a-product m t → Derives a-sum (l ++ (single orSign ∷ m)) (either s t)
   one-factor : {l : List Symbol} {s : Tree} → Derives a-factor l s → Derives a-product l s
-  times-factor : {l m : List Symbol} {s t : Tree} → Derives a-product l s → Derives a-factor m t → Derives a-product (l ++ (single timesSign ∷ m)) (times s t)
+  times-factor : {l m : List Symbol} {s t : Tree}
+      → Derives a-product l s → Derives a-factor m t → Derives a-product (l ++ (single timesSign ∷ m)) (times s t)
   is-zero : Derives a-factor (single zeroSign ∷ []) (constant false)
   is-one : Derives a-factor (single oneSign ∷ []) (constant true)
   is-unknown : {j : ℕ} → Derives a-factor (unknownLetter j ∷ []) (unknown j)

@@ -7,7 +7,8 @@ use mathlib.Core.Bool.{Bool, true, false, _||_, cond}
 use mathlib.Core.List.{List, [], _∷_}
 use lib.Dec.{eqb}
 use lib.ListN.{length}
-use Rattle.grammar.specs.Symbols.{Symbol, unknownLetter, givenLetter, single, foreign, zeroSign, oneSign, notSign, openSign, closeSign, timesSign, plusSign, orSign, symbols}
+use Rattle.grammar.specs.Symbols.{Symbol, unknownLetter, givenLetter, single, foreign, symbols}
+use Rattle.grammar.specs.Symbols.{zeroSign, oneSign, notSign, openSign, closeSign, timesSign, plusSign, orSign}
 use Rattle.grammar.specs.Grammar.{Tree, constant, unknown, given, negation, times, plus, either}
 
 -- what a reader finds: nothing, or a tree and the symbols behind it

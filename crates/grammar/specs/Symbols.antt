@@ -57,12 +57,15 @@ isGiven byte = leb 97 byte && leb byte 104
 -- one of the single signs
 unfoldable pub isSingle : ℕ → Bool
 isSingle byte =
-    eqb byte zeroSign || (eqb byte oneSign || (eqb byte notSign || (eqb byte openSign || (eqb byte closeSign || (eqb byte timesSign || (eqb byte plusSign || eqb byte orSign))))))
+    eqb byte zeroSign || (eqb byte oneSign || (eqb byte notSign || (eqb byte openSign
+    || (eqb byte closeSign || (eqb byte timesSign || (eqb byte plusSign || eqb byte orSign))))))
 
 -- 'Decoding goes by byte ranges: u to z, a to h, then the single signs'
 unfoldable pub symbol : ℕ → Symbol
 symbol byte =
-    cond (isUnknown byte) (unknownLetter (byte - 117)) (cond (isGiven byte) (givenLetter (byte - 97)) (cond (isSingle byte) (single byte) foreign))
+    cond (isUnknown byte) (unknownLetter (byte - 117))
+    (cond (isGiven byte) (givenLetter (byte - 97))
+    (cond (isSingle byte) (single byte) foreign))
 
 -- the symbols of a text: 'A space may stand between any two symbols and at the ends', any number of them
 unfoldable pub symbols : List ℕ → List Symbol

@@ -112,7 +112,8 @@ pub sum-word : (x : ℕ) → joinsSum (meant x) ≡ true → (U : ℕ) (e f : Tr
     → joinOf x (wordAt (atPoint U e) w) (wordAt (atPoint U f) w) ≡ wordAt (atPoint U (joined (is orSign (meant x)) e f)) w
 unfolding atPoint meant isSingle
 sum-word x t U e f w =
-    ⊎-elim (λ q. rw (eqb-true x plusSign q) (plus-word (atPoint U e) (atPoint U f) w)) (λ q. rw (eqb-true x orSign q) (either-word (atPoint U e) (atPoint U f) w))
+    ⊎-elim (λ q. rw (eqb-true x plusSign q) (plus-word (atPoint U e) (atPoint U f) w))
+    (λ q. rw (eqb-true x orSign q) (either-word (atPoint U e) (atPoint U f) w))
     (or-cases (eqb x plusSign) (eqb x orSign) (sym (sum-sign x) ∙ t))
 
 -- ---- what a factor of one symbol puts there

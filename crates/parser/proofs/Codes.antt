@@ -11,7 +11,8 @@ use lib.ListN.{getD}
 use Rattle.ring.specs.Polynomial.{everyBelow}
 use Rattle.ring.proofs.Bool.{and-left, and-right}
 use Rattle.ring.proofs.Every.{every-all}
-use Rattle.grammar.specs.Symbols.{Symbol, unknownLetter, givenLetter, single, foreign, plusSign, orSign, space, isUnknown, isGiven, isSingle, symbol, symbols}
+use Rattle.grammar.specs.Symbols.{Symbol, unknownLetter, givenLetter, single, foreign, plusSign, orSign, space}
+use Rattle.grammar.specs.Symbols.{isUnknown, isGiven, isSingle, symbol, symbols}
 use Rattle.grammar.specs.Reader.{is, joinsSum}
 use Rattle.parser.specs.Inner.Codes.{code, meant, codes, meanings}
 
@@ -49,7 +50,8 @@ sum-sign c = rw (sign-meant plusSign (omega arith) refl c, sign-meant orSign (om
 
 -- the symbol of a byte comes back from its code: letters have the smallest codes, and no single sign has so small a byte
 abbrev comesBack : ℕ → Bool
-comesBack byte = cond (isUnknown byte) (ltb (byte - 117) 6) (cond (isGiven byte) (ltb (byte - 97) 8) (cond (isSingle byte) (leb 16 byte) true))
+comesBack byte =
+    cond (isUnknown byte) (ltb (byte - 117) 6) (cond (isGiven byte) (ltb (byte - 97) 8) (cond (isSingle byte) (leb 16 byte) true))
 
 comes-back : (byte : ℕ) → byte < 256 → comesBack byte ≡ true
 unfolding everyBelow isUnknown isGiven isSingle

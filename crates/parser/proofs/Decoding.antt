@@ -24,7 +24,8 @@ use Rattle.parser.specs.Inner.Questions.{unspaced, isKnown, isLetterDecl
 -- ---- one byte
 
 -- the bytes from lo on, k of them, have the symbols that g gives them
-pub by-test : (g : ℕ → ℕ) (lo k : ℕ) → everyBelow k (λ i. eqb (g (lo + i)) (code (symbol (lo + i)))) ≡ true → (c : ℕ) → lo ≤ c → c < lo + k → g c ≡ code (symbol c)
+pub by-test : (g : ℕ → ℕ) (lo k : ℕ) → everyBelow k (λ i. eqb (g (lo + i)) (code (symbol (lo + i)))) ≡ true
+    → (c : ℕ) → lo ≤ c → c < lo + k → g c ≡ code (symbol c)
 by-test g lo k h c a b =
     let e : lo + (c - lo) ≡ c = omega arith in
     let t = every-all k (λ i. eqb (g (lo + i)) (code (symbol (lo + i)))) h (c - lo) (omega arith) in
@@ -47,7 +48,8 @@ sign-symbol : (c : ℕ) → c < 256 → eqb c space ≡ false → isKnown (code 
 unfolding everyBelow symbol isSign isUnknown isGiven isSingle
 sign-symbol c h n =
     same-bool (isKnown (code (symbol c))) (isSign c)
-    (or-false (eqb c space) (Bool·beq (isKnown (code (symbol c))) (isSign c)) n (every-all 256 (λ c. eqb c space || Bool·beq (isKnown (code (symbol c))) (isSign c)) refl c h))
+    (or-false (eqb c space) (Bool·beq (isKnown (code (symbol c))) (isSign c)) n
+    (every-all 256 (λ c. eqb c space || Bool·beq (isKnown (code (symbol c))) (isSign c)) refl c h))
 
 -- the codes below 8 are those of unknowns, those from 8 to 15 of givens
 abbrev kindsRight : ℕ → Bool
@@ -66,7 +68,8 @@ module _ (U G r c : ℕ) (e : r ≡ code (symbol c)) (h : c < 256) where
 
   not-unknown : 8 ≤ r → (isUnknown c ≡ false) × (ltb r 16 ≡ isGiven c)
   not-unknown a =
-      let b : (not (isUnknown c) && Bool·beq (ltb (code (symbol c)) 16) (isGiven c)) ≡ true = rw (le-ltb (code (symbol c)) 8 (rw e at a)) at (kinds-right c h) in
+      let b : (not (isUnknown c) && Bool·beq (ltb (code (symbol c)) 16) (isGiven c)) ≡ true =
+      rw (le-ltb (code (symbol c)) 8 (rw e at a)) at (kinds-right c h) in
       (not-true (isUnknown c) (and-left (not (isUnknown c)) _ b), rw e (same-bool _ _ (and-right (not (isUnknown c)) _ b)))
 
   given-declared : 8 ≤ r → r < 16 → ltb (r - 8) G ≡ isDeclared U G c
@@ -87,7 +90,8 @@ module _ (U G r c : ℕ) (e : r ≡ code (symbol c)) (h : c < 256) where
 declared-symbol : (U G c : ℕ) → c < 256 → isLetterDeclared U G (code (symbol c)) ≡ isDeclared U G c
 declared-symbol U G c h = go (ltb (code (symbol c)) 8) (ltb (code (symbol c)) 16) refl refl
   where
-    go : (x y : Bool) → ltb (code (symbol c)) 8 ≡ x → ltb (code (symbol c)) 16 ≡ y → cond x (ltb (code (symbol c)) U) (cond y (ltb (code (symbol c) - 8) G) true) ≡ isDeclared U G c
+    go : (x y : Bool) → ltb (code (symbol c)) 8 ≡ x → ltb (code (symbol c)) 16 ≡ y
+        → cond x (ltb (code (symbol c)) U) (cond y (ltb (code (symbol c) - 8) G) true) ≡ isDeclared U G c
     go true y p q = unknown-declared U G (code (symbol c)) c refl h (ltb-true (code (symbol c)) 8 p)
     go false true p q = given-declared U G (code (symbol c)) c refl h (ltb-false (code (symbol c)) 8 p) (ltb-true (code (symbol c)) 16 q)
     go false false p q = other-declared U G (code (symbol c)) c refl h (ltb-false (code (symbol c)) 16 q)
@@ -100,7 +104,8 @@ module _ (f g : ℕ → Bool) (passes : g space ≡ true) (same : (c : ℕ) → 
   of-symbols [] bytes = refl
   of-symbols (c ∷ text) bytes = go (eqb c space) refl (of-symbols text (λ i. bytes (suc i)))
     where
-      go : (x : Bool) → eqb c space ≡ x → every f (codes (symbols text)) ≡ every g text → every f (codes (cond x (symbols text) (symbol c ∷ symbols text))) ≡ (g c && every g text)
+      go : (x : Bool) → eqb c space ≡ x → every f (codes (symbols text)) ≡ every g text
+          → every f (codes (cond x (symbols text) (symbol c ∷ symbols text))) ≡ (g c && every g text)
       go true e rest = rw (eqb-true c space e, passes) rest
       go false e rest = rw (same c (bytes 0) e, rest)
 
@@ -108,7 +113,8 @@ pub signs-of-symbols : (text : List ℕ) → ((i : ℕ) → getD text i 0 < 256)
 unfolding allSigns isSign
 signs-of-symbols text bytes = of-symbols isKnown isSign refl sign-symbol text bytes
 
-pub declared-of-symbols : (U G : ℕ) (text : List ℕ) → ((i : ℕ) → getD text i 0 < 256) → every (isLetterDeclared U G) (codes (symbols text)) ≡ allDeclared U G text
+pub declared-of-symbols : (U G : ℕ) (text : List ℕ) → ((i : ℕ) → getD text i 0 < 256)
+    → every (isLetterDeclared U G) (codes (symbols text)) ≡ allDeclared U G text
 unfolding allDeclared isDeclared isUnknown isGiven
 declared-of-symbols U G text bytes = of-symbols (isLetterDeclared U G) (isDeclared U G) refl (λ c h n. declared-symbol U G c h) text bytes
 
@@ -198,11 +204,14 @@ symbols-unspaced [] = refl
 symbols-unspaced (c ∷ text) = go (eqb c space) (symbols-unspaced text)
   where
     go : (x : Bool) → listed (length (unspaced text)) (λ i. code (symbol (getD (unspaced text) i 0))) ≡ codes (symbols text)
-        → listed (length (cond x (unspaced text) (c ∷ unspaced text))) (λ i. code (symbol (getD (cond x (unspaced text) (c ∷ unspaced text)) i 0))) ≡ codes (cond x (symbols text) (symbol c ∷ symbols text))
+        → listed (length (cond x (unspaced text) (c ∷ unspaced text)))
+        (λ i. code (symbol (getD (cond x (unspaced text) (c ∷ unspaced text)) i 0)))
+        ≡ codes (cond x (symbols text) (symbol c ∷ symbols text))
     go true e = e
     go false e = ap (λ (l : List ℕ). code (symbol c) ∷ l) e
 
-pub symbols-written : (text front front′ rest : List ℕ) (n : ℕ) → front ≡ unspaced text → front′ ≡ listed (length front) (λ i. code (symbol (getD front i 0))) → n ≡ length front
+pub symbols-written : (text front front′ rest : List ℕ) (n : ℕ) → front ≡ unspaced text
+    → front′ ≡ listed (length front) (λ i. code (symbol (getD front i 0))) → n ≡ length front
     → (n ≤ length (front′ ++ rest)) × (take n (front′ ++ rest) ≡ codes (symbols text))
 symbols-written text front front′ rest n e e′ en =
     let size : length front′ ≡ n = ap length e′ ∙ length-listed (length front) (λ i. code (symbol (getD front i 0))) ∙ sym en in

@@ -15,10 +15,12 @@ use borrow.Rule.Slice.PartMut.{putMid, postOf, same-len-mid}
 use lib.Dec.{leb, ltb}
 use Rattle.tables.proofs.Filled.{filled}
 use Rattle.ring.specs.Letters.{bit}
-use Rattle.grammar.specs.Symbols.{Symbol, single, foreign, isSingle, zeroSign, oneSign, notSign, openSign, closeSign, timesSign, plusSign, orSign}
+use Rattle.grammar.specs.Symbols.{Symbol, single, foreign, isSingle}
+use Rattle.grammar.specs.Symbols.{zeroSign, oneSign, notSign, openSign, closeSign, timesSign, plusSign, orSign}
 use Rattle.grammar.specs.Grammar.{Tree, constant, unknown, given, negation, times}
 use Rattle.grammar.specs.Meaning.{atPoint}
-use Rattle.grammar.specs.Reader.{nothing, found, Reader, sum, product, factor, sumFrom, productFrom, andThen, is, joinsSum, joined, closed, factorAt, reads}
+use Rattle.grammar.specs.Reader.{nothing, found, Reader, sum, product, factor, sumFrom, productFrom}
+use Rattle.grammar.specs.Reader.{andThen, is, joinsSum, joined, closed, factorAt, reads}
 use Rattle.grammar.proofs.Fixed.{fixed, then-nothing, then-found}
 use Rattle.words.specs.Words.{wordsOf}
 use Rattle.parser.specs.Inner.Codes.{meant, meanings}
@@ -28,12 +30,12 @@ use Rattle.parser.specs.declared.Place.the-variants.{Missing, UpTo}
 use Rattle.parser.proofs.Codes.{unknown-meant, given-meant, sign-meant}
 use Rattle.parser.proofs.Blocks.{front-values, front-joined, size-filled, times-word, sum-word, constant-values, negation-values}
 
-pub missing : {reader : Reader} {s : List ℕ} (U k : ℕ) {at : ℕ} (size : ℕ) (stack : List ℕ) {r : Place} → r ≡ Missing → Agrees reader U k s at size stack r
-    → IsMissing reader s at
+pub missing : {reader : Reader} {s : List ℕ} (U k : ℕ) {at : ℕ} (size : ℕ) (stack : List ℕ) {r : Place}
+    → r ≡ Missing → Agrees reader U k s at size stack r → IsMissing reader s at
 missing {reader} {s} U k {at} size stack h = subst (Agrees reader U k s at size stack) h
 
-pub up-to : {reader : Reader} {U k : ℕ} {s : List ℕ} {at size n : ℕ} {stack : List ℕ} {r : Place} → r ≡ UpTo n → Agrees reader U k s at size stack r
-    → IsUpTo reader U k s at size stack n
+pub up-to : {reader : Reader} {U k : ℕ} {s : List ℕ} {at size n : ℕ} {stack : List ℕ} {r : Place}
+    → r ≡ UpTo n → Agrees reader U k s at size stack r → IsUpTo reader U k s at size stack n
 up-to {reader} {U} {k} {s} {at} {size} {n} {stack} h = subst (Agrees reader U k s at size stack) h
 
 next : (s : List ℕ) (n : ℕ) → n < length s → meanings (drop n s) ≡ meant (getD s n 0) ∷ meanings (drop (n + 1) s)
@@ -70,7 +72,14 @@ module _ (L : Loop) (U k : ℕ) (s : List ℕ) (at size : ℕ) where
   module _ {m : ℕ} {stack₀ : List ℕ} (first : IsUpTo (L .part) U k s at size stack₀ m) where
     pub begin : Going L U k s at (length stack₀) m stack₀
     begin =
-        record { tree = first .tree; same = L .begins (meanings (drop at s)) ∙ then-found _ (first .read); values = first .values; kept = refl; past = first .past; inside = first .inside }
+        record {
+          tree = first .tree;
+          same = L .begins (meanings (drop at s)) ∙ then-found _ (first .read);
+          values = first .values;
+          kept = refl;
+          past = first .past;
+          inside = first .inside;
+        }
 
     module _ {n : ℕ} {stack : List ℕ} (g : Going L U k s at (length stack₀) n stack) where
       pub ended : length s ≤ n → IsUpTo (L .whole) U k s at size stack n
@@ -94,7 +103,8 @@ module _ (L : Loop) (U k : ℕ) (s : List ℕ) (at size : ℕ) where
           pub part-room : 8 * (length s - (n + 1)) + 8 ≤ length (take (length stack - k) (drop k stack))
           part-room = omega (arith, behind, g .kept, first .kept, g .past)
 
-          module _ {m′ : ℕ} {rest : List ℕ} (q : IsUpTo (L .part) U k s (n + 1) (length (take (length stack - k) (drop k stack))) rest m′) where
+          module _ {m′ : ℕ} {rest : List ℕ}
+              (q : IsUpTo (L .part) U k s (n + 1) (length (take (length stack - k) (drop k stack))) rest m′) where
             mid : length (putMid k (length stack - k) stack rest) ≡ length stack
             mid = same-len-mid k (length stack - k) stack rest (q .kept)
 
@@ -189,7 +199,8 @@ module _ (s : List ℕ) (at : ℕ) (h : at < length s) where
   open-missing q r = record { none = here ∙ rw q (then-nothing _ (r .none)) }
 
   -- no factor begins with any other sign
-  none-begins : NoSign (getD s at 0) → ltb (getD s at 0) 6 ≡ false → (leb 8 (getD s at 0) && ltb (getD s at 0) 16) ≡ false → IsMissing factor s at
+  none-begins : NoSign (getD s at 0)
+      → ltb (getD s at 0) 6 ≡ false → (leb 8 (getD s at 0) && ltb (getD s at 0) 16) ≡ false → IsMissing factor s at
   unfolding meant
   none-begins r a b = record { none = here ∙ rw (a, b) (go (isSingle (getD s at 0))) }
     where
@@ -201,18 +212,22 @@ module _ (s : List ℕ) (at : ℕ) (h : at < length s) where
   between-missing r a b = none-begins r (le-ltb _ _ a) (rw (lt-leb 8 (getD s at 0) b))
 
   pub other-missing : NoSign (getD s at 0) → 16 ≤ getD s at 0 → IsMissing factor s at
-  other-missing r a = none-begins r (le-ltb (getD s at 0) 6 (omega arith)) (rw (le-leb 8 (getD s at 0) (omega arith), le-ltb (getD s at 0) 16 a))
+  other-missing r a =
+      none-begins r (le-ltb (getD s at 0) 6 (omega arith)) (rw (le-leb 8 (getD s at 0) (omega arith), le-ltb (getD s at 0) 16 a))
 
   module _ (U k : ℕ) (stack : List ℕ) (small : k ≤ 16) (room : 8 * (length s - at) + 8 ≤ length stack) where
-    one-symbol : (e : Tree) (new : List ℕ) → factorAt reads (meant (getD s at 0)) (meanings (drop (at + 1) s)) ≡ found e (meanings (drop (at + 1) s)) → take k new ≡ wordsOf k (atPoint U e) → length new ≡ length stack
-        → IsUpTo factor U k s at (length stack) new (at + 1)
+    one-symbol : (e : Tree) (new : List ℕ)
+        → factorAt reads (meant (getD s at 0)) (meanings (drop (at + 1) s)) ≡ found e (meanings (drop (at + 1) s))
+        → take k new ≡ wordsOf k (atPoint U e) → length new ≡ length stack → IsUpTo factor U k s at (length stack) new (at + 1)
     one-symbol e new q v l = record { tree = e; read = here ∙ q; values = v; kept = l; past = omega arith; inside = omega arith }
 
-    pub reads-zero : getD s at 0 ≡ zeroSign → {new : List ℕ} → new ≡ filled k (λ i. joinOf 0 (getD stack i 0) 0) stack → IsUpTo factor U k s at (length stack) new (at + 1)
+    pub reads-zero : getD s at 0 ≡ zeroSign → {new : List ℕ} → new ≡ filled k (λ i. joinOf 0 (getD stack i 0) 0) stack
+        → IsUpTo factor U k s at (length stack) new (at + 1)
     unfolding meant isSingle
     reads-zero q {new} z = one-symbol (constant false) new (rw q) (constant-values U k stack new false z) (size-filled k _ stack new z (omega arith))
 
-    pub reads-one : getD s at 0 ≡ oneSign → {new : List ℕ} → new ≡ filled k (λ i. joinOf 0 (getD stack i 0) ones) stack → IsUpTo factor U k s at (length stack) new (at + 1)
+    pub reads-one : getD s at 0 ≡ oneSign → {new : List ℕ} → new ≡ filled k (λ i. joinOf 0 (getD stack i 0) ones) stack
+        → IsUpTo factor U k s at (length stack) new (at + 1)
     unfolding meant isSingle
     reads-one q {new} z = one-symbol (constant true) new (rw q) (constant-values U k stack new true z) (size-filled k _ stack new z (omega arith))
 

@@ -19,14 +19,16 @@ module _ (U : ℕ) (s words : List ℕ) where
   missing-whole h = (rw (h .none), rw (h .none))
 
   module _ (k size : ℕ) (stack : List ℕ) (n : ℕ) (g : IsUpTo sum U k s 0 size stack n) where
-    pub read-whole : k ≡ length words → n ≡ length s → (new : List ℕ) → new ≡ take k stack → (true ≡ isWhole (reads sum (meanings s))) × (new ≡ wholeWords U (reads sum (meanings s)) words)
+    pub read-whole : k ≡ length words → n ≡ length s → (new : List ℕ) → new ≡ take k stack
+        → (true ≡ isWhole (reads sum (meanings s))) × (new ≡ wholeWords U (reads sum (meanings s)) words)
     unfolding wholeWords
     read-whole ek e new en =
         let q : drop n s ≡ [] = drop-of-length-le s {i = n} (omega arith) in
         let v : new ≡ wordsOf (length words) (atPoint U (g .tree)) = en ∙ g .values ∙ ap (λ (x : ℕ). wordsOf x (atPoint U (g .tree))) ek in
         (rw (g .read, q), rw (g .read, q) v)
 
-    pub read-partly : (n ≡ length s → ⊥) → (false ≡ isWhole (reads sum (meanings s))) × (words ≡ wholeWords U (reads sum (meanings s)) words)
+    pub read-partly : (n ≡ length s → ⊥)
+        → (false ≡ isWhole (reads sum (meanings s))) × (words ≡ wholeWords U (reads sum (meanings s)) words)
     unfolding wholeWords
     read-partly e =
         let h : n < length s = omega (arith, g .inside) in

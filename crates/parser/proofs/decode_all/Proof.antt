@@ -17,7 +17,10 @@ abbrev μ-loop : tie.MeasureT-loop
 
 loop-again : tie.Need-loop-again Inv-loop μ-loop
 loop-again c =
-    (search needs, filled-more _ _ _ _ (c .before .before .before .loop .inv .1) _ (c .before .before .loop-test .taken) (c .decode .ensures ∙ ap (λ (x : ℕ). code (symbol x)) (filled-read _ _ _ _ (c .before .before .before .loop .inv .1) (c .before .before .loop-test .taken))), search needs)
+    let inv = c .before .before .before .loop .inv in
+    let more = c .before .before .loop-test .taken in
+    let new = c .decode .ensures ∙ ap (λ (x : ℕ). code (symbol x)) (filled-read _ _ _ _ (inv .1) more) in
+    (search needs, filled-more _ _ _ _ (inv .1) _ more new, search needs)
 
 returns : tie.Need-returns Inv-loop μ-loop
 returns c = filled-end _ _ _ _ (c .before .loop .inv .1) (c .before .loop .inv .0) (c .loop-test .left)
