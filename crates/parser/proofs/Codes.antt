@@ -72,7 +72,7 @@ meant-code byte h = go (isUnknown byte) (isGiven byte) (isSingle byte) refl (com
     go false false true r t = single-meant byte (leb-true 16 byte t) r
     go false false false r t = foreign-meant
 
-pub symbols-back : (text : List ℕ) → ((i : ℕ) → getD text i 0 < 256) → meanings (codes (symbols text)) ≡ symbols text
+symbols-back : (text : List ℕ) → ((i : ℕ) → getD text i 0 < 256) → meanings (codes (symbols text)) ≡ symbols text
 unfolding symbols
 symbols-back [] bytes = refl
 symbols-back (byte ∷ text) bytes = go (eqb byte space) (symbols-back text (λ i. bytes (suc i)))
@@ -81,3 +81,6 @@ symbols-back (byte ∷ text) bytes = go (eqb byte space) (symbols-back text (λ 
         → meanings (codes (cond x (symbols text) (symbol byte ∷ symbols text))) ≡ cond x (symbols text) (symbol byte ∷ symbols text)
     go true rest = rest
     go false rest = rw (meant-code byte (bytes 0), rest)
+
+pub text-meant : (text s : List ℕ) → ((i : ℕ) → getD text i 0 < 256) → s ≡ codes (symbols text) → meanings s ≡ symbols text
+text-meant text s bytes e = ap meanings e ∙ symbols-back text bytes

@@ -92,7 +92,7 @@ fn foreign(c: u8) -> u8
     0
 }
 
-// Question 5, of a text's symbols.
+// Question 5, of the codes of a text's symbols.
 pub fn all_signs(s: &[u8]) -> bool
     ensures { λ r. ⌜ r ≡ every isKnown (now (s .entry)) ⌝ }
 {
@@ -104,17 +104,17 @@ pub fn all_signs(s: &[u8]) -> bool
 }
 
 // 1 for a letter that is not declared. Codes below 8 are unknowns, those from 8 to 15 givens.
-fn undeclared(unknowns: u8, givens: u8, c: u8) -> u8
-    ensures { λ r. ⌜ r ≡ digit (not (isLetterDeclared unknowns givens c)) ⌝ }
+fn undeclared(u: u8, g: u8, c: u8) -> u8
+    ensures { λ r. ⌜ r ≡ digit (not (isLetterDeclared u g c)) ⌝ }
 {
     if c < 8 {
-        if c < unknowns {
+        if c < u {
             return 0;
         }
         return 1;
     }
     if c < 16 {
-        if c - 8 < givens {
+        if c - 8 < g {
             return 0;
         }
         return 1;
@@ -122,13 +122,13 @@ fn undeclared(unknowns: u8, givens: u8, c: u8) -> u8
     0
 }
 
-// Question 6, of a text's symbols.
-pub fn all_declared(unknowns: u8, givens: u8, s: &[u8]) -> bool
-    ensures { λ r. ⌜ r ≡ every (isLetterDeclared unknowns givens) (now (s .entry)) ⌝ }
+// Question 6, of the codes of a text's symbols.
+pub fn all_declared(u: u8, g: u8, s: &[u8]) -> bool
+    ensures { λ r. ⌜ r ≡ every (isLetterDeclared u g) (now (s .entry)) ⌝ }
 {
     let mut fault = 0u8;
     for i in 0..s.len() {
-        fault = fault | undeclared(unknowns, givens, s[i]);
+        fault = fault | undeclared(u, g, s[i]);
     }
     fault == 0
 }
@@ -246,38 +246,38 @@ fn put_letter(stack: &mut [u64], k: usize, j: usize)
     }
 }
 
-// The number of the letter that a symbol stands for.
-fn letter_of(unknowns: usize, c: u8) -> usize
-    requires { ⌜ (unknowns ≤ 6) × (c < 16) ⌝ }
-    ensures { λ r. ⌜ (r ≡ letterOf unknowns c) × (r < 64) ⌝ }
+// The number of the letter that a code stands for.
+fn letter_of(u: usize, c: u8) -> usize
+    requires { ⌜ (u ≤ 6) × (c < 16) ⌝ }
+    ensures { λ r. ⌜ (r ≡ letterOf u c) × (r < 64) ⌝ }
 {
-    let symbol = c as usize;
-    if symbol < 8 {
-        return symbol;
+    let code = c as usize;
+    if code < 8 {
+        return code;
     }
-    unknowns + (symbol - 8)
+    u + (code - 8)
 }
 
-// A block of the words of a symbol's letter. Unknowns and givens share it, so that no branch hangs on which of them it is.
-fn put_symbol(stack: &mut [u64], k: usize, unknowns: usize, c: u8)
-    requires { ⌜ (k ≤ length (now stack)) × (unknowns ≤ 6) × (c < 16) ⌝ }
-    ensures { λ _. ⌜ now (stack .exit) ≡ filled k (wordAt (λ p. bit p (letterOf unknowns c))) (now (stack .entry)) ⌝ }
+// A block of the words of a code's letter. Unknowns and givens share it, so that no branch hangs on which of them it is.
+fn put_symbol(stack: &mut [u64], k: usize, u: usize, c: u8)
+    requires { ⌜ (k ≤ length (now stack)) × (u ≤ 6) × (c < 16) ⌝ }
+    ensures { λ _. ⌜ now (stack .exit) ≡ filled k (wordAt (λ p. bit p (letterOf u c))) (now (stack .entry)) ⌝ }
 {
-    put_letter(stack, k, letter_of(unknowns, c));
+    put_letter(stack, k, letter_of(u, c));
 }
 
-fn sum(s: &[u8], at: usize, unknowns: usize, k: usize, stack: &mut [u64]) -> Place
-    requires { ⌜ (at ≤ length (now s)) × (unknowns ≤ 6) × (k ≤ 16) × (8 * (length (now s) - at) + 8 ≤ length (now stack)) ⌝ }
-    ensures { λ r. ⌜ Agrees reader.Reader.sum unknowns k (now (s .entry)) at (length (now (stack .entry))) (now (stack .exit)) r ⌝ }
+fn sum(s: &[u8], at: usize, u: usize, k: usize, stack: &mut [u64]) -> Place
+    requires { ⌜ (at ≤ length (now s)) × (u ≤ 6) × (k ≤ 16) × (8 * (length (now s) - at) + 8 ≤ length (now stack)) ⌝ }
+    ensures { λ r. ⌜ Agrees reader.Reader.sum u k (now (s .entry)) at (length (now (stack .entry))) (now (stack .exit)) r ⌝ }
 {
-    match product(s, at, unknowns, k, stack) {
+    match product(s, at, u, k, stack) {
         Place::Missing => Place::Missing,
         Place::UpTo(m) => {
             let mut n = m;
             while n < s.len() {
                 let c = s[n];
                 if joins_sum(c) {
-                    match product(s, n + 1, unknowns, k, &mut stack[k..]) {
+                    match product(s, n + 1, u, k, &mut stack[k..]) {
                         Place::Missing => return Place::Missing,
                         Place::UpTo(next) => {
                             n = next;
@@ -293,17 +293,17 @@ fn sum(s: &[u8], at: usize, unknowns: usize, k: usize, stack: &mut [u64]) -> Pla
     }
 }
 
-fn product(s: &[u8], at: usize, unknowns: usize, k: usize, stack: &mut [u64]) -> Place
-    requires { ⌜ (at ≤ length (now s)) × (unknowns ≤ 6) × (k ≤ 16) × (8 * (length (now s) - at) + 8 ≤ length (now stack)) ⌝ }
-    ensures { λ r. ⌜ Agrees reader.Reader.product unknowns k (now (s .entry)) at (length (now (stack .entry))) (now (stack .exit)) r ⌝ }
+fn product(s: &[u8], at: usize, u: usize, k: usize, stack: &mut [u64]) -> Place
+    requires { ⌜ (at ≤ length (now s)) × (u ≤ 6) × (k ≤ 16) × (8 * (length (now s) - at) + 8 ≤ length (now stack)) ⌝ }
+    ensures { λ r. ⌜ Agrees reader.Reader.product u k (now (s .entry)) at (length (now (stack .entry))) (now (stack .exit)) r ⌝ }
 {
-    match factor(s, at, unknowns, k, stack) {
+    match factor(s, at, u, k, stack) {
         Place::Missing => Place::Missing,
         Place::UpTo(m) => {
             let mut n = m;
             while n < s.len() {
                 if s[n] == b'*' {
-                    match factor(s, n + 1, unknowns, k, &mut stack[k..]) {
+                    match factor(s, n + 1, u, k, &mut stack[k..]) {
                         Place::Missing => return Place::Missing,
                         Place::UpTo(next) => {
                             n = next;
@@ -319,9 +319,9 @@ fn product(s: &[u8], at: usize, unknowns: usize, k: usize, stack: &mut [u64]) ->
     }
 }
 
-fn factor(s: &[u8], at: usize, unknowns: usize, k: usize, stack: &mut [u64]) -> Place
-    requires { ⌜ (at ≤ length (now s)) × (unknowns ≤ 6) × (k ≤ 16) × (8 * (length (now s) - at) + 8 ≤ length (now stack)) ⌝ }
-    ensures { λ r. ⌜ Agrees reader.Reader.factor unknowns k (now (s .entry)) at (length (now (stack .entry))) (now (stack .exit)) r ⌝ }
+fn factor(s: &[u8], at: usize, u: usize, k: usize, stack: &mut [u64]) -> Place
+    requires { ⌜ (at ≤ length (now s)) × (u ≤ 6) × (k ≤ 16) × (8 * (length (now s) - at) + 8 ≤ length (now stack)) ⌝ }
+    ensures { λ r. ⌜ Agrees reader.Reader.factor u k (now (s .entry)) at (length (now (stack .entry))) (now (stack .exit)) r ⌝ }
 {
     if at < s.len() {
         let c = s[at];
@@ -335,14 +335,14 @@ fn factor(s: &[u8], at: usize, unknowns: usize, k: usize, stack: &mut [u64]) -> 
                 join_word(PUT, stack, k, ONES);
                 Place::UpTo(next)
             }
-            b'!' => match factor(s, next, unknowns, k, stack) {
+            b'!' => match factor(s, next, u, k, stack) {
                 Place::Missing => Place::Missing,
                 Place::UpTo(n) => {
                     join_word(b'+', stack, k, ONES);
                     Place::UpTo(n)
                 }
             },
-            b'(' => match sum(s, next, unknowns, k, stack) {
+            b'(' => match sum(s, next, u, k, stack) {
                 Place::Missing => Place::Missing,
                 Place::UpTo(n) => {
                     if n < s.len() {
@@ -358,7 +358,7 @@ fn factor(s: &[u8], at: usize, unknowns: usize, k: usize, stack: &mut [u64]) -> 
             },
             // an unknown, a given
             0..=5 | 8..=15 => {
-                put_symbol(stack, k, unknowns, c);
+                put_symbol(stack, k, u, c);
                 Place::UpTo(next)
             }
             _ => Place::Missing,
@@ -369,13 +369,13 @@ fn factor(s: &[u8], at: usize, unknowns: usize, k: usize, stack: &mut [u64]) -> 
 }
 
 // Question 7 of a text's symbols and, where the answer is yes, the values at the points of the words.
-fn read_with(s: &[u8], unknowns: usize, words: &mut [u64], stack: &mut [u64]) -> bool
-    requires { ⌜ (unknowns ≤ 6) × (length (now words) ≤ 16) × (8 * length (now s) + 8 ≤ length (now stack)) ⌝ }
+fn read_with(s: &[u8], u: usize, words: &mut [u64], stack: &mut [u64]) -> bool
+    requires { ⌜ (u ≤ 6) × (length (now words) ≤ 16) × (8 * length (now s) + 8 ≤ length (now stack)) ⌝ }
     ensures { λ r. ⌜ r ≡ isWhole (reads reader.Reader.sum (meanings (now (s .entry)))) ⌝ }
-    ensures { λ _. ⌜ now (words .exit) ≡ wholeWords unknowns (reads reader.Reader.sum (meanings (now (s .entry)))) (now (words .entry)) ⌝ }
+    ensures { λ _. ⌜ now (words .exit) ≡ wholeWords u (reads reader.Reader.sum (meanings (now (s .entry)))) (now (words .entry)) ⌝ }
 {
     let k = words.len();
-    match sum(s, 0, unknowns, k, stack) {
+    match sum(s, 0, u, k, stack) {
         Place::Missing => false,
         Place::UpTo(n) => {
             if n == s.len() {
@@ -389,32 +389,32 @@ fn read_with(s: &[u8], unknowns: usize, words: &mut [u64], stack: &mut [u64]) ->
 }
 
 // A short text needs a small stack. The stacks live here.
-fn read_short(s: &[u8], unknowns: usize, words: &mut [u64]) -> bool
-    requires { ⌜ (length (now s) ≤ 63) × (unknowns ≤ 6) × (length (now words) ≤ 16) ⌝ }
+fn read_short(s: &[u8], u: usize, words: &mut [u64]) -> bool
+    requires { ⌜ (length (now s) ≤ 63) × (u ≤ 6) × (length (now words) ≤ 16) ⌝ }
     ensures { λ r. ⌜ r ≡ isWhole (reads reader.Reader.sum (meanings (now (s .entry)))) ⌝ }
-    ensures { λ _. ⌜ now (words .exit) ≡ wholeWords unknowns (reads reader.Reader.sum (meanings (now (s .entry)))) (now (words .entry)) ⌝ }
+    ensures { λ _. ⌜ now (words .exit) ≡ wholeWords u (reads reader.Reader.sum (meanings (now (s .entry)))) (now (words .entry)) ⌝ }
 {
     let mut stack = [0u64; 512];
-    read_with(s, unknowns, words, &mut stack)
+    read_with(s, u, words, &mut stack)
 }
 
-fn read_long(s: &[u8], unknowns: usize, words: &mut [u64]) -> bool
-    requires { ⌜ (length (now s) ≤ 200) × (unknowns ≤ 6) × (length (now words) ≤ 16) ⌝ }
+fn read_long(s: &[u8], u: usize, words: &mut [u64]) -> bool
+    requires { ⌜ (length (now s) ≤ 200) × (u ≤ 6) × (length (now words) ≤ 16) ⌝ }
     ensures { λ r. ⌜ r ≡ isWhole (reads reader.Reader.sum (meanings (now (s .entry)))) ⌝ }
-    ensures { λ _. ⌜ now (words .exit) ≡ wholeWords unknowns (reads reader.Reader.sum (meanings (now (s .entry)))) (now (words .entry)) ⌝ }
+    ensures { λ _. ⌜ now (words .exit) ≡ wholeWords u (reads reader.Reader.sum (meanings (now (s .entry)))) (now (words .entry)) ⌝ }
 {
     let mut stack = [0u64; 1608];
-    read_with(s, unknowns, words, &mut stack)
+    read_with(s, u, words, &mut stack)
 }
 
 // Question 7 of a text's symbols and, where the answer is yes, the values of its tree in `words`, 64 points to a word.
-pub fn read_values(s: &[u8], unknowns: usize, words: &mut [u64]) -> bool
-    requires { ⌜ (length (now s) ≤ 200) × (unknowns ≤ 6) × (length (now words) ≤ 16) ⌝ }
+pub fn read_values(s: &[u8], u: usize, words: &mut [u64]) -> bool
+    requires { ⌜ (length (now s) ≤ 200) × (u ≤ 6) × (length (now words) ≤ 16) ⌝ }
     ensures { λ r. ⌜ r ≡ isWhole (reads reader.Reader.sum (meanings (now (s .entry)))) ⌝ }
-    ensures { λ _. ⌜ now (words .exit) ≡ wholeWords unknowns (reads reader.Reader.sum (meanings (now (s .entry)))) (now (words .entry)) ⌝ }
+    ensures { λ _. ⌜ now (words .exit) ≡ wholeWords u (reads reader.Reader.sum (meanings (now (s .entry)))) (now (words .entry)) ⌝ }
 {
     if s.len() < 64 {
-        return read_short(s, unknowns, words);
+        return read_short(s, u, words);
     }
-    read_long(s, unknowns, words)
+    read_long(s, u, words)
 }

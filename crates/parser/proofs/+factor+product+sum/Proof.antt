@@ -56,16 +56,16 @@ abbrev sum-below : ℕ → In 2 sum-kinds.ps
 sum-below t = and 2 sum-kinds.ps (falls 2 sum-kinds.ps _<_ μ-sum t) sum.Pre
 
 abbrev product-Inv-loop : product-lts.InvT-loop
-product-Inv-loop s at unknowns k stack₀ m n₀ stack n = Going productLoop unknowns k s at (length stack₀) n stack
+product-Inv-loop s at u k stack₀ m n₀ stack n = Going productLoop u k s at (length stack₀) n stack
 
 abbrev product-μ-loop : product-lts.MeasureT-loop
-product-μ-loop s at unknowns k stack₀ m n₀ stack n = length s - n
+product-μ-loop s at u k stack₀ m n₀ stack n = length s - n
 
 abbrev sum-Inv-loop : sum-lts.InvT-loop
-sum-Inv-loop s at unknowns k stack₀ m n₀ stack n = Going sumLoop unknowns k s at (length stack₀) n stack
+sum-Inv-loop s at u k stack₀ m n₀ stack n = Going sumLoop u k s at (length stack₀) n stack
 
 abbrev sum-μ-loop : sum-lts.MeasureT-loop
-sum-μ-loop s at unknowns k stack₀ m n₀ stack n = length s - n
+sum-μ-loop s at u k stack₀ m n₀ stack n = length s - n
 
 pub +factor+product+sum-spec : {M : Type 1} → statement M
 +factor+product+sum-spec = close μ-factor μ-product μ-sum (λ t. factor-lts.spec (

@@ -12,10 +12,10 @@ use Rattle.parser.proofs.all_declared.Statement.{statement}
 use Rattle.parser.proofs.all_declared.Tie as tie
 
 abbrev Inv-loop : tie.InvT-loop
-Inv-loop unknowns givens s fault₀ i₀ i-end fault i = (i ≤ length s) × (fault ≡ digit (not (every (isLetterDeclared unknowns givens) (take i s))))
+Inv-loop u g s fault₀ i₀ i-end fault i = (i ≤ length s) × (fault ≡ digit (not (every (isLetterDeclared u g) (take i s))))
 
 abbrev μ-loop : tie.MeasureT-loop
-μ-loop unknowns givens s fault₀ i₀ i-end fault i = length s - i
+μ-loop u g s fault₀ i₀ i-end fault i = length s - i
 
 loop-again : tie.Need-loop-again Inv-loop μ-loop
 loop-again c = (search needs, one-noted _ _ _ _ (c .before .before .before .loop .inv .1) _ (c .before .before .loop-test .taken) (c .undeclared .ensures))

@@ -25,7 +25,7 @@ ones = 0xffff_ffff_ffff_ffff
 unfoldable pub wordAt : (ℕ → Bool) → ℕ → ℕ
 wordAt h w = wordOf (λ i. h (64 * w + i))
 
--- the number of the letter that a symbol stands for, over U unknowns
+-- the number of the letter that a code stands for, over U unknowns
 unfoldable pub letterOf : ℕ → ℕ → ℕ
 letterOf U c = cond (ltb c 8) c (U + (c - 8))
 
