@@ -32,7 +32,7 @@ second-entry = refl
 
 wide-table : textTable 1 8 wideText ≡ oneGiven 1 8 7
 unfolding wideText symbols symbol isUnknown isGiven isSingle normalForm
-wide-table = table-derived 1 8 wideText (one-product (one-factor (is-given {i = 7} (omega arith))))
+wide-table = table-derived 1 8 wideText (one-product (one-factor is-given))
 
 pub wide-entry : entry 9 (conditionOf 1 8 (textTable 1 8 wideText)) ≡ wideEntry
 unfolding wideEntry bytes fields bodyOf lowFirst
