@@ -11,7 +11,7 @@ use Rattle.ring.specs.Table.{present, table}
 use Rattle.ring.proofs.Table.{present-table}
 use Rattle.ring.proofs.Value.{value-cong}
 use Rattle.tables.specs.Answered.{after}
-use Rattle.grammar.specs.Symbols.{symbols, every, allSigns, allDeclared}
+use Rattle.grammar.specs.Symbols.{Symbol, symbols, every, allSigns, allDeclared}
 use Rattle.grammar.specs.Meaning.{normalForm}
 use Rattle.grammar.specs.Reader.{sum, reads, isWhole, grammarReads, treeOf}
 use Rattle.grammar.specs.Text.{IsRead, textTable}
@@ -20,23 +20,25 @@ use Rattle.grammar.proofs.Theorems.{text-declared}
 use Rattle.words.specs.Words.{bitAt}
 use Rattle.words.proofs.Words.{words-cong, length-words, at-known}
 use Rattle.words.proofs.Letters.{room, table-back}
+use Rattle.parser.specs.Inner.Codes.{codes}
 use Rattle.parser.specs.Inner.Blocks.{wholeWords}
 use Rattle.parser.specs.Inner.Questions.{isKnown, isLetterDeclared}
 use Rattle.parser.proofs.Decoding.{signs-of-symbols, declared-of-symbols}
 use Rattle.notation.specs.Inner.Work.{textWords}
 use Rattle.notation.proofs.Refusal.{after-all}
 
--- questions 5, 6 and 7
-module _ (text l : List ℕ) (r : Bool) (e : l ≡ symbols text) where
-  pub signs-text : ((i : ℕ) → getD text i 0 < 256) → r ≡ every isKnown l → r ≡ allSigns text
-  signs-text bytes h = h ∙ rw e (signs-of-symbols text bytes)
+-- questions 5 and 6, of a text whose symbols have the codes s
+module _ (text s : List ℕ) (r : Bool) (e : s ≡ codes (symbols text)) (bytes : (i : ℕ) → getD text i 0 < 256) where
+  pub signs-text : r ≡ every isKnown s → r ≡ allSigns text
+  signs-text h = h ∙ rw e (signs-of-symbols text bytes)
 
-  pub declared-text : (U G : ℕ) → ((i : ℕ) → getD text i 0 < 256) → r ≡ every (isLetterDeclared U G) l → r ≡ allDeclared U G text
-  declared-text U G bytes h = h ∙ rw e (declared-of-symbols U G text bytes)
+  pub declared-text : (U G : ℕ) → r ≡ every (isLetterDeclared U G) s → r ≡ allDeclared U G text
+  declared-text U G h = h ∙ rw e (declared-of-symbols U G text bytes)
 
-  pub whole-text : r ≡ isWhole (reads sum l) → r ≡ grammarReads text
-  unfolding grammarReads
-  whole-text h = h ∙ rw e
+-- 7
+pub whole-text : (text : List ℕ) (l : List Symbol) (r : Bool) → l ≡ symbols text → r ≡ isWhole (reads sum l) → r ≡ grammarReads text
+unfolding grammarReads
+whole-text text l r e h = h ∙ rw e
 
 pub length-text : (U G : ℕ) (text : List ℕ) → length (textWords U G text) ≡ 2 ^ (U + G - 6)
 unfolding textWords
@@ -48,13 +50,16 @@ unfolding textTable
 value-table U G text p = value-cong (U + G) _ _ p (λ m l. present-table (U + G) (normalForm U G (treeOf text)) m l)
 
 -- what the readers leave, of a text whose symbols are l
-module _ (U G : ℕ) (text l lent words : List ℕ) (e : words ≡ wholeWords U (reads sum l) lent) where
-  pub words-text : IsRead U G text → l ≡ symbols text → isWhole (reads sum l) ≡ true → length lent ≡ 2 ^ (U + G - 6) → words ≡ textWords U G text
+module _ (U G : ℕ) (text : List ℕ) (l : List Symbol) (lent words : List ℕ) (e : words ≡ wholeWords U (reads sum l) lent) where
+  pub words-text : IsRead U G text → l ≡ symbols text → isWhole (reads sum l) ≡ true → length lent ≡ 2 ^ (U + G - 6)
+      → words ≡ textWords U G text
   unfolding wholeWords textWords treeOf
   words-text a el h size =
-      e ∙ rw h (rw (size, el) (words-cong (2 ^ (U + G - 6)) _ _ (λ p _. sym (value-table U G text p ∙ value-normal U G (treeOf text) p (text-declared U G text a)))))
+      e ∙ rw h (rw (size, el) (words-cong (2 ^ (U + G - 6)) _ _
+      (λ p _. sym (value-table U G text p ∙ value-normal U G (treeOf text) p (text-declared U G text a)))))
 
-pub words-kept : (U : ℕ) (l lent words : List ℕ) → words ≡ wholeWords U (reads sum l) lent → isWhole (reads sum l) ≡ false → words ≡ lent
+pub words-kept : (U : ℕ) (l : List Symbol) (lent words : List ℕ) → words ≡ wholeWords U (reads sum l) lent
+    → isWhole (reads sum l) ≡ false → words ≡ lent
 unfolding wholeWords
 words-kept U l lent words e h = e ∙ rw h
 

@@ -15,6 +15,7 @@ use Rattle.tables.proofs.FirstNo.{ask-then, ask-last}
 use Rattle.tables.proofs.Answered.{after-refused}
 use Rattle.grammar.specs.Symbols.{allSigns, allDeclared}
 use Rattle.words.proofs.Letters.{count-small}
+use Rattle.parser.proofs.Codes.{text-meant}
 use Rattle.notation.proofs.Refusal.{symbols-refused, symbols-declared, symbols-further, after-last}
 use Rattle.notation.proofs.Values.{signs-text, declared-text, whole-text, length-text, words-text, words-kept}
 use Rattle.notation.proofs.symbol_values.Statement.{statement}
@@ -33,7 +34,7 @@ asked c =
     let text-bytes = bytes (written .before .before .before) in
     let same = written .write-symbols .ensures .1 in
     ask-then _ _ _ _ _ _ _ (signed .ask .ensures) (signs-text _ _ _ same text-bytes (signed .before .all-signs .ensures))
-    (ask-last _ _ _ _ _ (c .ask2 .ensures) (declared-text _ _ _ same _ _ text-bytes (c .before .all-declared .ensures)))
+    (ask-last _ _ _ _ _ (c .ask2 .ensures) (declared-text _ _ _ same text-bytes _ _ (c .before .all-declared .ensures)))
 
 returns : tie.Need-returns
 returns c = (symbols-refused _ _ _ _ (asked (c .before)) (c .if1 .taken), after-refused _ _ _ (c .if1 .taken))
@@ -56,7 +57,7 @@ returns-2 c =
     let z = tested .if1 .left in
     let written = tested .before .before .before .before .before .before .before .before in
     let pre = written .before .before .before .before .pre in
-    let same = written .write-symbols .ensures .1 in
+    let same = text-meant _ _ (bytes (written .before .before .before)) (written .write-symbols .ensures .1) in
     let whole = valued .read-values .ensures .0 in
     let reads = whole-text _ _ _ same whole in (
       symbols-further _ _ _ _ two z _ _ (c .ask3 .ensures) reads,
