@@ -94,10 +94,11 @@ module _ (route : ℕ) (c : Condition) (v : Verdict (List ℕ)) where
   -- every one of its records is made
   pub entry-made : AllMade (entryRecords route c v)
   unfolding entryRecords conditionRecords AllMade fields
-  entry-made =
-      (made-is 1 (route ∷ c .U ∷ c .G ∷ []) refl,
-      all-made-append (map conditionRecord (monomials (width c) (present (c .table)))) _ (monomials-made 0 (monomials (width c) (present (c .table))))
-      (all-made-append (verdictRecords (c .U) (width c) v) _ (verdict-made (c .U) (width c) v) (made-is 4 (route ∷ []) refl, tt)))
+  entry-made = (
+    made-is 1 (route ∷ c .U ∷ c .G ∷ []) refl,
+    all-made-append (map conditionRecord (monomials (width c) (present (c .table)))) _ (monomials-made 0 (monomials (width c) (present (c .table))))
+        (all-made-append (verdictRecords (c .U) (width c) v) _ (verdict-made (c .U) (width c) v) (made-is 4 (route ∷ []) refl, tt)),
+  )
 
   abbrev told : List Record
   told = verdictRecords (c .U) (width c) v

@@ -1,4 +1,5 @@
 pub mod Made
+pub mod Fields
 pub mod Records
 pub mod Bytes
 pub mod Back

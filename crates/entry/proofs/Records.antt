@@ -6,13 +6,13 @@ use mathlib.Core.Path.{_≡_, refl, sym, ap, _∙_}
 use mathlib.Core.Bool.{Bool, true, false, cond}
 use mathlib.Core.List.{List, [], _∷_, _++_}
 use mathlib.Core.Logic.{_⊎_, inl, inr}
-use Prim.Native.Nat.{ℕ, zero, suc, _+_, _≤_, _<_}
-use native.Mathlib.Nat.{not-suc-le-zero}
+use Prim.Native.Nat.{ℕ, zero, suc, _+_, _-_, _≤_, _<_}
+use native.Mathlib.Nat.{add-zero, not-suc-le-zero}
 use native.Mathlib.Omega.{arith}
 use lib.Dec.{leb}
 use lib.ListN.{length, getD, take, drop, length-append, length-drop, drop-of-length-le}
-use lib.Seq.{drop-drop, getD-take, length-take-le}
-use borrow.Author.Tests.{leb-true}
+use lib.Seq.{drop-drop, getD-take, getD-drop, length-take-le}
+use borrow.Author.Tests.{leb-true, le-leb, lt-leb}
 use Rattle.ring.proofs.Bool.{bool-cases, never}
 use Rattle.entry.specs.Record.{Record, bytes, size, kind, isEnd, fields, AreBytes}
 use Rattle.entry.specs.Held.{next, untilEnd, firstRecords, records, first}
@@ -55,9 +55,9 @@ pub no-record : IsRecord []
 unfolding size kind fields
 no-record = record { whole = refl; are-bytes = λ i. omega arith }
 
--- it is a whole record, if bytes are bytes
-pub next-is : (bs : List ℕ) → AreBytes bs → IsRecord (next bs)
-next-is bs w = record { whole = go (next-cases bs); are-bytes = λ i. rw (next-front bs) (take-bytes (length (next bs)) bs w i) }
+-- it has as many bytes as its kind fixes
+pub next-whole : (bs : List ℕ) → length (next bs) ≡ size (kind (next bs))
+next-whole bs = go (next-cases bs)
   where
     front : (k : ℕ) → k ≤ length bs → size (kind bs) ≡ k → length (take k bs) ≡ size (kind (take k bs))
     front zero h e = no-record .whole
@@ -66,6 +66,30 @@ next-is bs w = record { whole = go (next-cases bs); are-bytes = λ i. rw (next-f
     go : (next bs ≡ []) ⊎ ((size (kind bs) ≤ length bs) × (next bs ≡ take (size (kind bs)) bs)) → length (next bs) ≡ size (kind (next bs))
     go (inl e) = rw e (no-record .whole)
     go (inr e) = rw (e .1) (front (size (kind bs)) (e .0) refl)
+
+next-is : (bs : List ℕ) → AreBytes bs → IsRecord (next bs)
+next-is bs w = record { whole = next-whole bs; are-bytes = λ i. rw (next-front bs) (take-bytes (length (next bs)) bs w i) }
+
+-- how many bytes it has, by the byte of kind at its place
+module _ (bs : List ℕ) (at : ℕ) where
+  pub sized-out : length bs ≤ at → 0 ≡ length (next (drop at bs))
+  unfolding next kind size fields
+  sized-out h = rw (drop-of-length-le bs h)
+
+  module _ {n : ℕ} (en : n ≡ size (getD bs at 0)) where
+    at-kind : size (kind (drop at bs)) ≡ n
+    unfolding kind
+    at-kind = ap size (getD-drop at bs 0 0) ∙ rw (add-zero at) (sym en)
+
+    pub sized-short : length bs - at < n → 0 ≡ length (next (drop at bs))
+    unfolding next
+    sized-short l = let h : length (drop at bs) < n = rw (length-drop at bs) l in rw (at-kind, lt-leb n (length (drop at bs)) h)
+
+    pub sized-whole : n ≤ length bs - at → n ≡ length (next (drop at bs))
+    unfolding next
+    sized-whole l =
+        let h : n ≤ length (drop at bs) = rw (length-drop at bs) l in
+        rw (at-kind, le-leb n (length (drop at bs)) h) (sym (length-take-le n (drop at bs) h))
 
 -- ---- those behind it
 none-left : (k : ℕ) → firstRecords k [] ≡ []
@@ -114,8 +138,11 @@ module _ (bs : List ℕ) (at : ℕ) {n : ℕ} (en : n ≡ length (next (drop at 
   records-at : records (drop at bs) ≡ untilEnd (take n (drop at bs)) (records (drop (at + n) bs))
   records-at = records-next (drop at bs) ∙ rw (← en, there, drop-drop n at bs)
 
-  some-there : length (take n (drop at bs)) ≡ n
+  pub some-there : length (take n (drop at bs)) ≡ n
   some-there = ap length (sym there) ∙ sym en
+
+  pub there-whole : length (take n (drop at bs)) ≡ size (kind (take n (drop at bs)))
+  there-whole = ap (λ (r : Record). length r) (sym there) ∙ next-whole (drop at bs) ∙ ap (λ (r : Record). size (kind r)) there
 
   -- none stands there
   pub here-none : n ≡ 0 → records (drop at bs) ≡ []
