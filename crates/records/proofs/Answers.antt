@@ -7,97 +7,99 @@ use mathlib.Core.Logic.{_⊎_, inl, inr}
 use Prim.Native.Nat.{ℕ, zero, suc, _+_, _^_, _≤_}
 use native.Mathlib.Omega.{arith}
 use lib.Dec.{eqb, ltb}
-use lib.ListN.{length}
+use lib.ListN.{length, take, drop}
+use lib.Seq.{length-take-le}
 use borrow.Author.Tests.{lt-ltb, ne-eqb}
 use Rattle.ring.proofs.Bool.{bool-cases, never}
 use Rattle.tables.specs.Questions.{firstNo, lettersFit}
 use Rattle.tables.proofs.Questions.{letters-small}
 use Rattle.solution.specs.Elimination.{none}
-use Rattle.entry.specs.declared.Record.{Record}
-use Rattle.entry.specs.declared.Record.the-variants.{Start, Condition, Answer, End, None, Broken}
-use Rattle.entry.specs.Record.{bytes, kind, isEnd, isNone, routeIn, unknownsIn, givensIn, stateIn}
+use Rattle.entry.specs.Record.{Record, routeField, unknownsField, givensField, stateField, bytes, kind, valueOf, isEnd, isNone, inBounds}
 use Rattle.entry.specs.Held.{next, records, first, routeOf, unknownsOf, givensOf, unlessNone, heldVerdict}
-use Rattle.entry.specs.Questions.{hasEnd, mayFollow, kindsFollow, kindsFit, inBounds, numbersFit, entryQuestions}
+use Rattle.entry.specs.Questions.{hasEnd, mayFollow, kindsFollow, kindsFit, numbersFit}
 use Rattle.entry.specs.Inner.Places.{placeOf, standsBehind, fitsBehind}
-use Rattle.entry.proofs.Records.{first-next, some-bytes}
+use Rattle.entry.proofs.Records.{first-next, next-front, next-whole, size-fits, some-bytes}
 use Rattle.entry.proofs.Canonical.{endsThere, records-end, isEmpty}
 use Rattle.entry.proofs.Places.{numbers-by-places}
-use Rattle.calls.specs.declared.Verdict.{Said}
-use Rattle.calls.specs.declared.Verdict.the-variants as said-variants
+use Rattle.calls.specs.Questions.{entryQuestions}
+use Rattle.calls.specs.declared.Heading.{Heading}
+use Rattle.calls.specs.declared.Verdict.{Verdict}
+use Rattle.calls.specs.declared.Verdict.the-variants.{Solved, None}
 use Rattle.records.specs.declared.Seen.{Seen}
 use Rattle.records.specs.declared.Gathered.{Gathered}
-use Rattle.records.specs.Inner.Headings.{lengthUsed, headingOf, said}
-use Rattle.records.specs.Inner.Gathering.{within, saidFirst, seenRecord, seenAll, nothingSeen, gathered, saidBy, gatheredQuestions, surveyOf}
+use Rattle.records.specs.Inner.Headings.{lengthUsed, startOf, headingOf, said}
+use Rattle.records.specs.Inner.Gathering.{Whole, Bounds, saidFirst, seenRecord, seenAll, nothingSeen, gathered, saidBy, gatheredQuestions, surveyOf}
 
 -- ---- question 11
-module _ (route U masks states : ℕ) where
+module _ (route U G : ℕ) where
   turn : (a b c : Bool) → ((a && (b && true)) && c) ≡ (a && (b && c))
   turn false b c = refl
   turn true false c = refl
   turn true true c = refl
 
-  kinds-all : (x : Seen) (rs : List Record) → endsThere rs ≡ true → hasEnd rs ≡ true → seenAll route U masks states x rs .kinds ≡ (x .kinds && kindsFollow (x .kind) route rs)
+  kinds-all : (x : Seen) (rs : List Record) → endsThere rs ≡ true → hasEnd rs ≡ true
+      → seenAll route U G x rs .kinds ≡ (x .kinds && kindsFollow (x .kind) route rs)
   unfolding seenAll kindsFollow endsThere hasEnd seenRecord
   kinds-all x [] e h = never h refl
-  kinds-all x (r ∷ rs) e h = go (bool-cases (isEnd r)) (kinds-all (seenRecord route U masks states x r) rs)
+  kinds-all x (r ∷ rs) e h = go (bool-cases (isEnd r)) (kinds-all (seenRecord route U G x r) rs)
     where
-      alone : isEnd r ≡ true → (ss : List Record) → isEmpty ss ≡ true
-          → seenAll route U masks states (seenRecord route U masks states x r) ss .kinds ≡ (x .kinds && (mayFollow (x .kind) (kind r) && cond (isEnd r) (eqb (routeIn r) route) (kindsFollow (kind r) route ss)))
+      All : List Record → Type 0
+      All ss =
+          seenAll route U G (seenRecord route U G x r) ss .kinds
+          ≡ (x .kinds && (mayFollow (x .kind) (kind r) && cond (isEnd r) (eqb (valueOf routeField r) route) (kindsFollow (kind r) route ss)))
+
+      alone : isEnd r ≡ true → (ss : List Record) → isEmpty ss ≡ true → All ss
       alone f [] z = rw f
       alone f (s ∷ ss) z = never z refl
 
       go : (isEnd r ≡ true) ⊎ (isEnd r ≡ false)
           → (endsThere rs ≡ true → hasEnd rs ≡ true
-          → seenAll route U masks states (seenRecord route U masks states x r) rs .kinds ≡ ((x .kinds && (mayFollow (x .kind) (kind r) && cond (isEnd r) (eqb (routeIn r) route) true)) && kindsFollow (kind r) route rs))
-          → seenAll route U masks states (seenRecord route U masks states x r) rs .kinds ≡ (x .kinds && (mayFollow (x .kind) (kind r) && cond (isEnd r) (eqb (routeIn r) route) (kindsFollow (kind r) route rs)))
+          → seenAll route U G (seenRecord route U G x r) rs .kinds
+          ≡ ((x .kinds && (mayFollow (x .kind) (kind r) && cond (isEnd r) (eqb (valueOf routeField r) route) true)) && kindsFollow (kind r) route rs))
+          → All rs
       go (inl f) ih = alone f rs (rw f at e)
       go (inr f) ih = ih (rw f at e) (rw f at h) ∙ rw f (turn (x .kinds) (mayFollow (x .kind) (kind r)) (kindsFollow (kind r) route rs))
 
 -- ---- question 12
-within-bounds : (U G : ℕ) (r : Record) → within U (2 ^ (U + G)) (2 ^ G) r ≡ inBounds U G r
-within-bounds U G (Start route unknowns givens) = refl
-within-bounds U G (Condition m) = refl
-within-bounds U G (Answer j m) = refl
-within-bounds U G (End route) = refl
-within-bounds U G (None state) = refl
-within-bounds U G Broken = refl
-
-numbers-all : (route U G : ℕ) (x : Seen) (rs : List Record) → seenAll route U (2 ^ (U + G)) (2 ^ G) x rs .numbers ≡ (x .numbers && fitsBehind U G (x .place) rs)
+numbers-all : (route U G : ℕ) (x : Seen) (rs : List Record) → seenAll route U G x rs .numbers ≡ (x .numbers && fitsBehind U G (x .place) rs)
 unfolding seenAll fitsBehind seenRecord
 numbers-all route U G x [] = sym (and-true (x .numbers))
-numbers-all route U G x (r ∷ rs) =
-    numbers-all route U G (seenRecord route U (2 ^ (U + G)) (2 ^ G) x r) rs ∙ rw (within-bounds U G r) (go (inBounds U G r) (x .numbers))
+numbers-all route U G x (r ∷ rs) = numbers-all route U G (seenRecord route U G x r) rs ∙ go (inBounds U G r) (x .numbers)
   where
-    go : (b a : Bool) → ((a && (b && standsBehind (x .place) (placeOf r))) && fitsBehind U G (cond b (placeOf r) 0) rs) ≡ (a && (b && (standsBehind (x .place) (placeOf r) && fitsBehind U G (placeOf r) rs)))
+    go : (b a : Bool) → ((a && (b && standsBehind (x .place) (placeOf r))) && fitsBehind U G (cond b (placeOf r) 0) rs)
+        ≡ (a && (b && (standsBehind (x .place) (placeOf r) && fitsBehind U G (placeOf r) rs)))
     go true a = and-assoc a (standsBehind (x .place) (placeOf r)) (fitsBehind U G (placeOf r) rs)
     go false true = refl
     go false false = refl
 
 -- ---- solved or 'none': the first kind 5 counts, and what stands for the answers plays no part
-orElse : Said → Said → Said
-orElse said-variants.Solved v = v
-orElse (said-variants.None state) v = said-variants.None state
+orElse : Verdict → Verdict → Verdict
+orElse Solved v = v
+orElse (None state) v = None state
 
-said-all : {A : Type 0} (a : A) (route U masks states : ℕ) (x : Seen) (rs : List Record) → saidBy (seenAll route U masks states x rs .none) ≡ orElse (saidBy (x .none)) (said (unlessNone a rs))
+said-all : {A : Type 0} (a : A) (route U G : ℕ) (x : Seen) (rs : List Record)
+    → saidBy (seenAll route U G x rs .none) ≡ orElse (saidBy (x .none)) (said (unlessNone a rs))
 unfolding seenAll unlessNone seenRecord saidFirst orElse
-said-all a route U masks states x [] = last (x .none)
+said-all a route U G x [] = last (x .none)
   where
-    last : (n : ℕ) → saidBy n ≡ orElse (saidBy n) said-variants.Solved
+    last : (n : ℕ) → saidBy n ≡ orElse (saidBy n) Solved
     last zero = refl
     last (suc n) = refl
-said-all a route U masks states x (r ∷ rs) = said-all a route U masks states (seenRecord route U masks states x r) rs ∙ go (x .none) (isNone r)
+said-all a route U G x (r ∷ rs) = said-all a route U G (seenRecord route U G x r) rs ∙ go (x .none) (isNone r)
   where
     go : (n : ℕ) (b : Bool)
-        → orElse (saidBy (cond b (cond (eqb n 0) (suc (stateIn r)) n) n)) (said (unlessNone a rs)) ≡ orElse (saidBy n) (said (cond b (none (record { 0 = stateIn r })) (unlessNone a rs)))
+        → orElse (saidBy (cond b (cond (eqb n 0) (suc (valueOf stateField r)) n) n)) (said (unlessNone a rs))
+        ≡ orElse (saidBy n) (said (cond b (none (record { 0 = valueOf stateField r })) (unlessNone a rs)))
     go zero true = refl
     go zero false = refl
     go (suc n) true = let f : eqb (suc n) 0 ≡ false = ne-eqb (suc n) 0 (λ e. omega arith) in rw f
     go (suc n) false = refl
 
 -- ---- the first no
-module _ (rs : List Record) (ends : endsThere rs ≡ true) {fits : Bool} (ef : fits ≡ lettersFit (unknownsOf rs) (givensOf rs)) {u g : ℕ} (eu : u ≡ cond fits (unknownsOf rs) 0) (eg : g ≡ cond fits (givensOf rs) 0) where
+module _ (rs : List Record) (ends : endsThere rs ≡ true) {fits : Bool} (ef : fits ≡ lettersFit (unknownsOf rs) (givensOf rs))
+    {u g : ℕ} (eu : u ≡ cond fits (unknownsOf rs) 0) (eg : g ≡ cond fits (givensOf rs) 0) where
   abbrev all : Gathered
-  all = gathered (routeOf rs) u (2 ^ (u + g)) (2 ^ g) rs
+  all = gathered (routeOf rs) u g rs
 
   no-end : hasEnd rs ≡ false → firstNo (gatheredQuestions all fits (routeOf rs)) ≡ firstNo (entryQuestions rs)
   unfolding firstNo entryQuestions gathered lengthUsed
@@ -110,7 +112,7 @@ module _ (rs : List Record) (ends : endsThere rs ≡ true) {fits : Bool} (ef : f
 
     kinds : all .kinds ≡ kindsFit rs
     unfolding gathered kindsFit
-    kinds = kinds-all (routeOf rs) u (2 ^ (u + g)) (2 ^ g) nothingSeen rs ends h
+    kinds = kinds-all (routeOf rs) u g nothingSeen rs ends h
 
     no-fit : fits ≡ false → firstNo (gatheredQuestions all fits (routeOf rs)) ≡ firstNo (entryQuestions rs)
     unfolding firstNo entryQuestions
@@ -123,7 +125,8 @@ module _ (rs : List Record) (ends : endsThere rs ≡ true) {fits : Bool} (ef : f
       numbers : all .numbers ≡ numbersFit rs
       unfolding gathered numbersFit
       numbers =
-          numbers-all (routeOf rs) u g nothingSeen rs ∙ rw (eu, eg, f) (numbers-by-places (unknownsOf rs) (givensOf rs) (letters-small (unknownsOf rs) (givensOf rs) letters) rs)
+          numbers-all (routeOf rs) u g nothingSeen rs
+          ∙ rw (eu, eg, f) (numbers-by-places (unknownsOf rs) (givensOf rs) (letters-small (unknownsOf rs) (givensOf rs) letters) rs)
 
       all-fit : firstNo (gatheredQuestions all fits (routeOf rs)) ≡ firstNo (entryQuestions rs)
       unfolding firstNo entryQuestions
@@ -132,49 +135,57 @@ module _ (rs : List Record) (ends : endsThere rs ≡ true) {fits : Bool} (ef : f
   first-no : firstNo (gatheredQuestions all fits (routeOf rs)) ≡ firstNo (entryQuestions rs)
   first-no = go (bool-cases (hasEnd rs)) (bool-cases fits)
     where
-      go : (hasEnd rs ≡ true) ⊎ (hasEnd rs ≡ false) → (fits ≡ true) ⊎ (fits ≡ false) → firstNo (gatheredQuestions all fits (routeOf rs)) ≡ firstNo (entryQuestions rs)
+      go : (hasEnd rs ≡ true) ⊎ (hasEnd rs ≡ false) → (fits ≡ true) ⊎ (fits ≡ false)
+          → firstNo (gatheredQuestions all fits (routeOf rs)) ≡ firstNo (entryQuestions rs)
       go (inr h) f = no-end h
       go (inl h) (inr f) = no-fit h f
       go (inl h) (inl f) = all-fit h f
 
+-- ---- what the first record says: n bytes of it stand first
+module _ (bs : List ℕ) {n : ℕ} (en : n ≡ length (next (drop 0 bs))) where
+  start : take n bs ≡ first (records bs)
+  start = ap (λ (k : ℕ). take k bs) en ∙ sym (next-front bs) ∙ sym (first-next bs)
+
+  pub start-long : n ≡ length (take n bs)
+  start-long = let h : n ≤ length bs = rw en (size-fits bs) in sym (length-take-le n bs h)
+
+  pub start-whole : Whole (take n bs)
+  start-whole = rw (start, first-next bs) (next-whole bs)
+
+  pub start-is : {route unknowns givens : ℕ} → route ≡ valueOf routeField (take n bs) → unknowns ≡ valueOf unknownsField (take n bs)
+      → givens ≡ valueOf givensField (take n bs) → record { route = route; unknowns = unknowns; givens = givens; used = 0 } ≡ startOf (records bs)
+  start-is er eu eg = rw (er, eu, eg, start)
+
 -- ---- the survey
-module _ (bs : List ℕ) {r : Record} (er : r ≡ next bs) {un gi u g : ℕ} {fits : Bool} (eun : un ≡ unknownsIn r) (egi : gi ≡ givensIn r) (ef : fits ≡ lettersFit un gi) (eu : u ≡ cond fits un 0) (eg : g ≡ cond fits gi 0) where
+module _ (bs : List ℕ) {h : Heading} (eh : h ≡ startOf (records bs)) {u g : ℕ} {fits : Bool} (ef : fits ≡ lettersFit (h .unknowns) (h .givens))
+    (eu : u ≡ cond fits (h .unknowns) 0) (eg : g ≡ cond fits (h .givens) 0) where
   -- the letters are so few that the bounds can be formed
   pub few-letters : u + g ≤ 10
   few-letters = go (bool-cases fits)
     where
       go : (fits ≡ true) ⊎ (fits ≡ false) → u + g ≤ 10
-      go (inl f) = let l : un + gi ≤ 10 = letters-small un gi (sym ef ∙ f) in rw (eu, eg, f) l
+      go (inl f) = let l : h .unknowns + h .givens ≤ 10 = letters-small (h .unknowns) (h .givens) (sym ef ∙ f) in rw (eu, eg, f) l
       go (inr f) = rw (eu, eg, f) (omega arith)
 
-  module _ {route masks states : ℕ} (eroute : route ≡ routeIn r) (em : masks ≡ 2 ^ (u + g)) (es : states ≡ 2 ^ g) {x : Gathered} (ex : x ≡ gathered route u masks states (records bs)) {q : ℕ} (eq : q ≡ firstNo (gatheredQuestions x fits route)) {v : Said} (ev : v ≡ saidBy (x .none)) where
-    start : r ≡ first (records bs)
-    start = er ∙ sym (first-next bs)
+  pub survey-bounds : {masks states : ℕ} → masks ≡ 2 ^ (u + g) → states ≡ 2 ^ g → Bounds u g masks states
+  survey-bounds em es = record { few = few-letters; of-masks = em; of-states = es }
 
-    of-route : route ≡ routeOf (records bs)
-    of-route = eroute ∙ ap routeIn start
-
-    of-unknowns : un ≡ unknownsOf (records bs)
-    of-unknowns = eun ∙ ap unknownsIn start
-
-    of-givens : gi ≡ givensOf (records bs)
-    of-givens = egi ∙ ap givensIn start
-
-    over : x ≡ gathered (routeOf (records bs)) u (2 ^ (u + g)) (2 ^ g) (records bs)
-    over = ex ∙ rw (em, es, of-route)
+  module _ {x : Gathered} (ex : x ≡ gathered (h .route) u g (records bs)) {q : ℕ} (eq : q ≡ firstNo (gatheredQuestions x fits (h .route)))
+      {v : Verdict} (ev : v ≡ saidBy (x .none)) where
+    over : x ≡ gathered (routeOf (records bs)) u g (records bs)
+    over = ex ∙ rw eh
 
     refusal-is : q ≡ firstNo (entryQuestions (records bs))
-    refusal-is =
-        eq ∙ rw (over, of-route)
-        (first-no (records bs) (records-end bs) (rw (← of-unknowns, ← of-givens) ef) (rw (← of-unknowns) eu) (rw (← of-givens) eg))
+    refusal-is = eq ∙ rw (over, eh) (first-no (records bs) (records-end bs) (rw eh at ef) (rw eh at eu) (rw eh at eg))
 
-    heading-is : record { route = route; unknowns = un; givens = gi; used = x .used } ≡ headingOf (records bs)
+    heading-is : record { route = h .route; unknowns = h .unknowns; givens = h .givens; used = x .used } ≡ headingOf (records bs)
     unfolding headingOf gathered
-    heading-is = rw (over, of-route, of-unknowns, of-givens)
+    heading-is = rw (over, eh)
 
-    said-is : v ≡ said (heldVerdict (records bs))
+    verdict-is : v ≡ said (heldVerdict (records bs))
     unfolding gathered heldVerdict orElse
-    said-is = ev ∙ rw over (said-all _ (routeOf (records bs)) u (2 ^ (u + g)) (2 ^ g) nothingSeen (records bs))
+    verdict-is = ev ∙ rw over (said-all _ (routeOf (records bs)) u g nothingSeen (records bs))
 
-    pub survey-is : record { refusal = q; heading = record { route = route; unknowns = un; givens = gi; used = x .used }; said = v } ≡ surveyOf (records bs)
-    survey-is = rw (refusal-is, heading-is, said-is)
+    pub survey-is : record { refusal = q; heading = record { route = h .route; unknowns = h .unknowns; givens = h .givens; used = x .used }; verdict = v }
+        ≡ surveyOf (records bs)
+    survey-is = rw (refusal-is, heading-is, verdict-is)

@@ -7,7 +7,7 @@ use Prim.Native.Nat.{ℕ}
 use native.Mathlib.Omega.{arith}
 use Rattle.ring.specs.declared.State.{State}
 use Rattle.solution.specs.Elimination.{Verdict, solved, none}
-use Rattle.entry.specs.declared.Record.{Record}
+use Rattle.entry.specs.Record.{Record}
 use Rattle.entry.specs.Held.{unknownsOf, givensOf, unlessNone}
 use Rattle.entry.proofs.Canonical.{unless-cases}
 use Rattle.calls.specs.declared.Heading.{Heading}
@@ -34,4 +34,7 @@ said-solved a rs e = go (unless-cases a rs)
   where
     go : (unlessNone a rs ≡ solved a) ⊎ ((state : State) × (unlessNone a rs ≡ none state)) → unlessNone a rs ≡ solved a
     go (inl f) = f
-    go (inr f) = let g : said-variants.None (f .0) ≡ said-variants.Solved = sym (ap said (f .1)) ∙ e in let z : _≡_ {A = ℕ} 0 1 = (cc) in absurd (omega arith)
+    go (inr f) =
+        let g : said-variants.None (f .0) ≡ said-variants.Solved = sym (ap said (f .1)) ∙ e in
+        let z : _≡_ {A = ℕ} 0 1 = (cc) in
+        absurd (omega arith)

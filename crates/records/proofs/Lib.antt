@@ -1,4 +1,4 @@
 pub mod OneRecord
-pub mod Loops
 pub mod Headings
+pub mod Loops
 pub mod Answers

@@ -5,86 +5,113 @@ use mathlib.Core.Path.{_≡_, refl, sym, ap, _∙_}
 use mathlib.Core.Bool.{true, false, cond, _||_}
 use mathlib.Core.List.{List, [], _∷_, _++_, append-nil}
 use mathlib.Core.Logic.{_⊎_, inl, inr}
-use Prim.Native.Nat.{ℕ, _+_, _≤_}
+use Prim.Native.Nat.{ℕ, _+_, _-_, _≤_, _<_}
 use native.Mathlib.Nat.{zero-add}
 use native.Mathlib.Omega.{arith}
-use lib.ListN.{length, drop, length-append}
+use lib.ListN.{length, take, drop, length-append}
 use borrow.Author.Tests.{ne-eqb}
 use Rattle.ring.proofs.Bool.{bool-cases}
-use Rattle.entry.specs.declared.Record.{Record}
-use Rattle.entry.specs.Record.{recordBytes, bytes, size, kind, isEnd}
+use Rattle.entry.specs.Record.{Record, bytes, size, kind, isEnd}
 use Rattle.entry.specs.Held.{next, records}
 use Rattle.entry.specs.Questions.{hasEnd}
-use Rattle.entry.proofs.Records.{records-none, here-none, here, fits-at}
+use Rattle.entry.proofs.Records.{records-none, here-none, here, fits-at, there-whole, some-there}
 use Rattle.entry.proofs.Canonical.{endsThere, records-end, isEmpty}
 use Rattle.records.specs.declared.Seen.{Seen}
 use Rattle.records.specs.declared.Gathered.{Gathered}
 use Rattle.records.specs.Inner.Headings.{lengthUsed}
-use Rattle.records.specs.Inner.Gathering.{seenRecord, seenAll, nothingSeen, gathered}
+use Rattle.records.specs.Inner.Gathering.{Whole, seenRecord, seenAll, nothingSeen, gathered}
 
 -- ---- the length used
 -- where the first kind 4 ends, counted from `at`
 unfoldable pub endFrom : ℕ → List Record → ℕ
 endFrom at [] = 0
-endFrom at (r ∷ rs) = cond (isEnd r) (at + size r) (endFrom (at + size r) rs)
+endFrom at (r ∷ rs) = cond (isEnd r) (at + length r) (endFrom (at + length r) rs)
 
 end-from : (at : ℕ) (rs : List Record) → endsThere rs ≡ true → cond (hasEnd rs) (at + length (bytes rs)) 0 ≡ endFrom at rs
 unfolding endFrom hasEnd bytes endsThere
 end-from at [] e = refl
-end-from at (r ∷ rs) e = go (bool-cases (isEnd r)) (end-from (at + size r) rs)
+end-from at (r ∷ rs) e = go (bool-cases (isEnd r)) (end-from (at + length r) rs)
   where
-    alone : (ss : List Record) → isEmpty ss ≡ true → length (recordBytes r ++ bytes ss) ≡ size r
-    alone [] f = ap length (append-nil (recordBytes r))
+    alone : (ss : List Record) → isEmpty ss ≡ true → length (r ++ bytes ss) ≡ length r
+    alone [] f = ap length (append-nil r)
     alone (s ∷ ss) f = let z : _≡_ {A = ℕ} 0 1 = (cc) in absurd (omega arith)
 
-    further : at + length (recordBytes r ++ bytes rs) ≡ at + size r + length (bytes rs)
-    further = omega (arith, length-append (recordBytes r) (bytes rs))
+    further : at + length (r ++ bytes rs) ≡ at + length r + length (bytes rs)
+    further = omega (arith, length-append r (bytes rs))
 
-    go : (isEnd r ≡ true) ⊎ (isEnd r ≡ false) → (endsThere rs ≡ true → cond (hasEnd rs) (at + size r + length (bytes rs)) 0 ≡ endFrom (at + size r) rs)
-        → cond (isEnd r || hasEnd rs) (at + length (recordBytes r ++ bytes rs)) 0 ≡ cond (isEnd r) (at + size r) (endFrom (at + size r) rs)
+    go : (isEnd r ≡ true) ⊎ (isEnd r ≡ false)
+        → (endsThere rs ≡ true → cond (hasEnd rs) (at + length r + length (bytes rs)) 0 ≡ endFrom (at + length r) rs)
+        → cond (isEnd r || hasEnd rs) (at + length (r ++ bytes rs)) 0 ≡ cond (isEnd r) (at + length r) (endFrom (at + length r) rs)
     go (inl f) ih = rw f (ap (λ (i : ℕ). at + i) (alone rs (rw f at e)))
     go (inr f) ih = rw (f, further) (ih (rw f at e))
 
--- ---- the loop
--- the record that was found ends within the bytes
-pub on-fits : (bs : List ℕ) (at : ℕ) {r : Record} {n : ℕ} → at ≤ length bs → r ≡ next (drop at bs) → n ≡ size r → at + n ≤ length bs
-on-fits bs at {r} {n} h er en = let f : at + size r ≤ length bs = fits-at bs at h er in omega arith
+-- ---- the loop: a record of n bytes stands at `at`, as the code lends it
+module _ (bs : List ℕ) (at : ℕ) {n : ℕ} (en : n ≡ length (next (drop at bs))) where
+  -- the part that is lent
+  pub lent : {behind : ℕ} → behind ≡ at + n → take (behind - at) (drop at bs) ≡ take n (drop at bs)
+  lent {behind} eb = let e : behind - at ≡ n = omega arith in ap (λ (k : ℕ). take k (drop at bs)) e
 
-pub record Gathering (bs : List ℕ) (route U masks states : ℕ) (x : Seen) (at : ℕ) : Type 0 where
+  pub lent-whole : {behind : ℕ} → behind ≡ at + n → Whole (take (behind - at) (drop at bs))
+  lent-whole eb = rw (lent eb) (there-whole bs at en)
+
+  pub lent-some : {behind : ℕ} → behind ≡ at + n → (n ≡ 0 → ⊥) → 0 < length (take (behind - at) (drop at bs))
+  lent-some eb s = rw (lent eb, some-there bs at en) (omega arith)
+
+pub record Gathering (bs : List ℕ) (route U G : ℕ) (x : Seen) (at : ℕ) : Type 0 where
   pub inside : at ≤ length bs
   pub used : lengthUsed (records bs) ≡ endFrom at (records (drop at bs))
-  pub seen : seenAll route U masks states nothingSeen (records bs) ≡ seenAll route U masks states x (records (drop at bs))
+  pub seen : seenAll route U G nothingSeen (records bs) ≡ seenAll route U G x (records (drop at bs))
 
-pub gather-start : (bs : List ℕ) (route U masks states : ℕ) → Gathering bs route U masks states nothingSeen 0
+pub gather-start : (bs : List ℕ) (route U G : ℕ) → Gathering bs route U G nothingSeen 0
 unfolding lengthUsed
-gather-start bs route U masks states =
+gather-start bs route U G =
     record {
       inside = omega arith;
       used = ap (λ (i : ℕ). cond (hasEnd (records bs)) i 0) (sym (zero-add (length (bytes (records bs))))) ∙ end-from 0 (records bs) (records-end bs);
       seen = refl;
     }
 
-module _ (bs : List ℕ) (route U masks states : ℕ) (x : Seen) (at : ℕ) (w : Gathering bs route U masks states x at) where
-  pub gather-out : length bs ≤ at → {y : Gathered} → y ≡ record { used = 0; kinds = x .kinds; numbers = x .numbers; none = x .none } → y ≡ gathered route U masks states (records bs)
+module _ (bs : List ℕ) (route U G : ℕ) (x : Seen) (at : ℕ) (w : Gathering bs route U G x at) where
+  pub gather-out : length bs ≤ at → {y : Gathered} → y ≡ record { used = 0; kinds = x .kinds; numbers = x .numbers; none = x .none }
+      → y ≡ gathered route U G (records bs)
   unfolding gathered seenAll endFrom
   gather-out h e = e ∙ rw (w .used, w .seen, records-none bs at h)
 
-  module _ {r : Record} (er : r ≡ next (drop at bs)) {n : ℕ} (en : n ≡ size r) where
-    pub gather-broken : n ≡ 0 → {y : Gathered} → y ≡ record { used = 0; kinds = x .kinds; numbers = x .numbers; none = x .none } → y ≡ gathered route U masks states (records bs)
+  module _ {n : ℕ} (en : n ≡ length (next (drop at bs))) where
+    pub gather-broken : n ≡ 0 → {y : Gathered} → y ≡ record { used = 0; kinds = x .kinds; numbers = x .numbers; none = x .none }
+        → y ≡ gathered route U G (records bs)
     unfolding gathered seenAll endFrom
-    gather-broken z e = e ∙ rw (w .used, w .seen, here-none bs at er en z)
+    gather-broken z e = e ∙ rw (w .used, w .seen, here-none bs at en z)
 
-    module _ (s : n ≡ 0 → ⊥) {x′ : Seen} (ex : x′ ≡ seenRecord route U masks states x r) {k : ℕ} (ek : k ≡ kind r) where
-      pub gather-end : k ≡ 4 → {y : Gathered} → y ≡ record { used = at + n; kinds = x′ .kinds; numbers = x′ .numbers; none = x′ .none } → y ≡ gathered route U masks states (records bs)
-      unfolding gathered seenAll endFrom
-      gather-end t e = let f : kind r ≡ 4 = sym ek ∙ t in e ∙ rw (w .used, w .seen, here bs at er en s, f, en, ← ex)
+    module _ (s : n ≡ 0 → ⊥) {behind : ℕ} (eb : behind ≡ at + n) {x′ : Seen} (ex : x′ ≡ seenRecord route U G x (take (behind - at) (drop at bs))) where
+      r : Record
+      r = take n (drop at bs)
 
-      pub gather-next : (k ≡ 4 → ⊥) → Gathering bs route U masks states x′ (at + n)
-      unfolding seenAll endFrom
+      seen-there : x′ ≡ seenRecord route U G x r
+      unfolding r
+      seen-there = ex ∙ rw (lent bs at en eb)
+
+      kind-there : x′ .kind ≡ kind r
+      unfolding seenRecord
+      kind-there = ap (λ (y : Seen). y .kind) seen-there
+
+      behind-there : behind ≡ at + length r
+      unfolding r
+      behind-there = eb ∙ ap (λ (i : ℕ). at + i) (sym (some-there bs at en))
+
+      pub gather-end : x′ .kind ≡ 4 → {y : Gathered} → y ≡ record { used = behind; kinds = x′ .kinds; numbers = x′ .numbers; none = x′ .none }
+          → y ≡ gathered route U G (records bs)
+      unfolding gathered seenAll endFrom r
+      gather-end t e =
+          let f : kind r ≡ 4 = sym kind-there ∙ t in
+          e ∙ rw (w .used, w .seen, here bs at en s, f, ← behind-there, ← seen-there)
+
+      pub gather-next : (x′ .kind ≡ 4 → ⊥) → Gathering bs route U G x′ behind
+      unfolding seenAll endFrom r
       gather-next t =
-          let not-end : isEnd r ≡ false = rw (← ek) (ne-eqb k 4 t) in
+          let not-end : isEnd r ≡ false = ne-eqb (kind r) 4 (λ f. t (kind-there ∙ f)) in
           record {
-            inside = on-fits bs at (w .inside) er en;
-            used = w .used ∙ rw (here bs at er en s, not-end, en);
-            seen = w .seen ∙ rw (here bs at er en s, not-end, ex);
+            inside = rw eb (fits-at bs at (w .inside) en);
+            used = w .used ∙ rw (here bs at en s, not-end, ← behind-there, ← eb);
+            seen = w .seen ∙ rw (here bs at en s, not-end, seen-there, eb);
           }

@@ -1,74 +1,126 @@
--- One record: which stands first, as `decode` finds it, and what the small functions on a record answer.
+-- One record: how many bytes it has, what it says, which kinds may follow which, and what has been seen with it.
 -- Assumes nothing.
-use mathlib.Core.Path.{_≡_, refl, sym, _∙_}
-use mathlib.Core.Bool.{Bool, true, false, cond, not, _&&_, and-true}
-use mathlib.Core.List.{List}
-use Prim.Native.Nat.{ℕ, zero, suc, _+_, _-_, _*_, _≤_, _<_}
+use mathlib.Core.Path.{_≡_, refl, sym, ap, _∙_}
+use mathlib.Core.Bool.{Bool, true, false, cond, not, _&&_, _||_, and-true, or-false}
+use mathlib.Core.List.{List, [], _∷_}
+use Prim.Native.Nat.{ℕ, zero, suc, _+_, _-_, _*_, _^_, _≤_, _<_}
 use native.Mathlib.Numerals.{add-one}
 use native.Mathlib.Omega.{arith}
-use lib.Dec.{leb, ltb, eqb}
+use lib.Dec.{ltb, eqb}
 use lib.ListN.{length, getD}
-use borrow.Author.Tests.{le-leb, lt-leb, lt-ltb, ltb-true, ne-eqb, not-true, not-false}
+use lib.Pow.{pow-mono}
+use borrow.Author.Tests.{ltb-true, eqb-true, ne-eqb, not-true, not-false}
+use Rattle.ring.specs.Polynomial.{everyBelow}
+use Rattle.ring.specs.Lists.{has}
 use Rattle.ring.proofs.Bool.{and-right}
-use Rattle.tables.specs.Questions.{firstNo}
-use Rattle.tables.proofs.Questions.{failed, passed}
+use Rattle.ring.proofs.Every.{every-all}
+use Rattle.tables.specs.declared.Question.the-variants.{Letters, Route, Records, Kinds, Numbers}
+use Rattle.tables.specs.Questions.{asks, firstNo}
+use Rattle.tables.specs.Inner.Asking.{also}
+use Rattle.tables.proofs.FirstNo.{also-none, ask-then}
 use Rattle.order.specs.Inner.Place.{rank}
-use Rattle.entry.specs.declared.Record.{Record}
-use Rattle.entry.specs.declared.Record.the-variants.{Start, Condition, Answer, End, None, Broken}
-use Rattle.entry.specs.Held.{next}
+use Rattle.entry.specs.Record.{Record, routeField, unknownsField, givensField, unknownField, maskField, stateField, fields, widths, size, kind, among, valueOf, isEnd, isNone, isMonomial, tableIn, fieldFits, inBounds}
 use Rattle.entry.specs.Questions.{routeFits, mayFollow}
 use Rattle.entry.specs.Inner.Places.{place, placeOf, standsBehind}
-use Rattle.entry.proofs.Places.{rank-small}
-use Rattle.calls.specs.declared.Verdict.the-variants as said-variants
+use Rattle.entry.proofs.Fields.{start-route, start-unknowns, start-givens, condition-mask, answer-unknown, answer-mask, end-route, none-state, lacks, lacking, of-every, unbounded, in-bounds, condition-fits, answer-fits, none-fits, no-size}
+use Rattle.entry.proofs.Places.{rank-small, place-monomial, place-other}
+use Rattle.calls.specs.declared.Verdict.the-variants.{None}
 use Rattle.records.specs.declared.Seen.{Seen}
 use Rattle.records.specs.declared.Gathered.{Gathered}
-use Rattle.records.specs.Inner.Gathering.{endFollows, saidFirst, seenMonomial, seenRecord, saidBy, gatheredQuestions}
+use Rattle.records.specs.Inner.Gathering.{Bounds, saidFirst, seenMonomial, seenRecord, saidBy, gatheredQuestions}
 
 same : {A : Type 0} (b : Bool) (a : A) → cond b a a ≡ a
 same true a = refl
 same false a = refl
 
--- ---- the record that stands first
-module _ (bs : List ℕ) where
-  pub next-short : length bs < 2 → Broken ≡ next bs
-  unfolding next
-  next-short h = simp (lt-leb 4 (length bs) (omega arith), lt-leb 3 (length bs) (omega arith), lt-leb 2 (length bs) (omega arith), same)
+-- ---- sizes
+-- those of the kinds, as the code lists them
+abbrev pub sizes : List ℕ
+sizes = 0 ∷ 4 ∷ 3 ∷ 4 ∷ 2 ∷ 2 ∷ []
 
-  pub next-end : 2 ≤ length bs → getD bs 0 0 ≡ 4 → End (getD bs 1 0) ≡ next bs
-  unfolding next
-  next-end l e = simp (e, le-leb 2 (length bs) l)
+pub sized : (k : ℕ) {w : ℕ} → w ≡ k → w < 6 → getD sizes w 0 ≡ size k
+unfolding everyBelow size fields widths
+sized k {w} e h = eqb-true _ _ (every-all 6 (λ k. eqb (getD sizes k 0) (size k)) refl w h) ∙ ap size e
 
-  pub next-none : 2 ≤ length bs → getD bs 0 0 ≡ 5 → None (getD bs 1 0) ≡ next bs
-  unfolding next
-  next-none l e = simp (e, le-leb 2 (length bs) l)
+pub no-kind : (k : ℕ) {w : ℕ} → w ≡ k → 6 ≤ w → 0 ≡ size k
+unfolding everyBelow has size fields widths
+no-kind k q h = sym (no-size (0 ∷ 1 ∷ 2 ∷ 3 ∷ 4 ∷ 5 ∷ []) refl k far)
+  where
+    far : has k (0 ∷ 1 ∷ 2 ∷ 3 ∷ 4 ∷ 5 ∷ []) ≡ false
+    far =
+        rw (ne-eqb k 0 (λ e. absurd (omega arith)), ne-eqb k 1 (λ e. absurd (omega arith)), ne-eqb k 2 (λ e. absurd (omega arith)), ne-eqb k 3 (λ e. absurd (omega arith)), ne-eqb k 4 (λ e. absurd (omega arith)), ne-eqb k 5 (λ e. absurd (omega arith)))
 
-  pub next-start : 4 ≤ length bs → getD bs 0 0 ≡ 1 → Start (getD bs 1 0) (getD bs 2 0) (getD bs 3 0) ≡ next bs
-  unfolding next
-  next-start h e = simp (e, le-leb 4 (length bs) h)
+-- how many bytes a record of a kind has
+module _ (r : Record) (w : length r ≡ size (kind r)) where
+  pub long-1 : getD r 0 0 ≡ 1 → length r ≡ 4
+  unfolding kind size fields widths
+  long-1 e = w ∙ rw e
 
-  pub next-no-start : length bs < 4 → getD bs 0 0 ≡ 1 → Broken ≡ next bs
-  unfolding next
-  next-no-start h e = simp (e, lt-leb 4 (length bs) h)
+  pub long-2 : getD r 0 0 ≡ 2 → length r ≡ 3
+  unfolding kind size fields widths
+  long-2 e = w ∙ rw e
 
-  pub next-condition : {m : ℕ} → 3 ≤ length bs → getD bs 0 0 ≡ 2 → m ≡ getD bs 1 0 + 256 * getD bs 2 0 → Condition m ≡ next bs
-  unfolding next
-  next-condition {m} h e em = simp (e, le-leb 3 (length bs) h, em)
+  pub long-3 : getD r 0 0 ≡ 3 → length r ≡ 4
+  unfolding kind size fields widths
+  long-3 e = w ∙ rw e
 
-  pub next-no-condition : length bs < 3 → getD bs 0 0 ≡ 2 → Broken ≡ next bs
-  unfolding next
-  next-no-condition h e = simp (e, lt-leb 3 (length bs) h)
+  pub long-4 : getD r 0 0 ≡ 4 → length r ≡ 2
+  unfolding kind size fields widths
+  long-4 e = w ∙ rw e
 
-  pub next-answer : {m : ℕ} → 4 ≤ length bs → getD bs 0 0 ≡ 3 → m ≡ getD bs 2 0 + 256 * getD bs 3 0 → Answer (getD bs 1 0) m ≡ next bs
-  unfolding next
-  next-answer {m} h e em = simp (e, le-leb 4 (length bs) h, em)
+  pub long-5 : getD r 0 0 ≡ 5 → length r ≡ 2
+  unfolding kind size fields widths
+  long-5 e = w ∙ rw e
 
-  pub next-no-answer : length bs < 4 → getD bs 0 0 ≡ 3 → Broken ≡ next bs
-  unfolding next
-  next-no-answer h e = simp (e, lt-leb 4 (length bs) h)
+-- ---- what the first record says
+module _ (r : Record) where
+  kind-is : (k : ℕ) → getD r 0 0 ≡ k → kind r ≡ k
+  unfolding kind
+  kind-is k e = e
 
-  pub next-other : (getD bs 0 0 ≡ 1 → ⊥) → (getD bs 0 0 ≡ 2 → ⊥) → (getD bs 0 0 ≡ 3 → ⊥) → (getD bs 0 0 ≡ 4 → ⊥) → (getD bs 0 0 ≡ 5 → ⊥) → Broken ≡ next bs
-  unfolding next
-  next-other n1 n2 n3 n4 n5 = simp (ne-eqb _ _ n1, ne-eqb _ _ n2, ne-eqb _ _ n3, ne-eqb _ _ n4, ne-eqb _ _ n5)
+  no-kind-none : length r ≡ 0 → kind r ≡ 0
+  unfolding kind
+  no-kind-none = go r
+    where
+      go : (r : List ℕ) → length r ≡ 0 → getD r 0 0 ≡ 0
+      go [] e = refl
+      go (b ∷ r) e = absurd (omega arith)
+
+  pub route-empty : length r ≡ 0 → 0 ≡ valueOf routeField r
+  unfolding among fields
+  route-empty e = sym (lacking routeField r (rw (no-kind-none e)))
+
+  pub unknowns-empty : length r ≡ 0 → 0 ≡ valueOf unknownsField r
+  unfolding among fields
+  unknowns-empty e = sym (lacking unknownsField r (rw (no-kind-none e)))
+
+  pub givens-empty : length r ≡ 0 → 0 ≡ valueOf givensField r
+  unfolding among fields
+  givens-empty e = sym (lacking givensField r (rw (no-kind-none e)))
+
+  pub route-start : getD r 0 0 ≡ 1 → getD r 1 0 ≡ valueOf routeField r
+  route-start e = sym (start-route r (kind-is 1 e))
+
+  pub route-end : getD r 0 0 ≡ 4 → getD r 1 0 ≡ valueOf routeField r
+  route-end e = sym (end-route r (kind-is 4 e))
+
+  pub route-none : (getD r 0 0 ≡ 1 → ⊥) → (getD r 0 0 ≡ 4 → ⊥) → 0 ≡ valueOf routeField r
+  unfolding kind everyBelow among fields has
+  route-none n m = sym (lacking routeField r (lacks routeField (1 ∷ 4 ∷ []) refl (kind r) (rw (ne-eqb (kind r) 1 n, ne-eqb (kind r) 4 m))))
+
+  pub unknowns-start : {v : ℕ} → getD r 0 0 ≡ 1 → v ≡ getD r 2 0 → v ≡ valueOf unknownsField r
+  unknowns-start e f = f ∙ sym (start-unknowns r (kind-is 1 e))
+
+  pub unknowns-none : (getD r 0 0 ≡ 1 → ⊥) → 0 ≡ valueOf unknownsField r
+  unfolding kind everyBelow among fields has
+  unknowns-none n = sym (lacking unknownsField r (lacks unknownsField (1 ∷ []) refl (kind r) (rw (ne-eqb (kind r) 1 n))))
+
+  pub givens-start : {v : ℕ} → getD r 0 0 ≡ 1 → v ≡ getD r 3 0 → v ≡ valueOf givensField r
+  givens-start e f = f ∙ sym (start-givens r (kind-is 1 e))
+
+  pub givens-none : (getD r 0 0 ≡ 1 → ⊥) → 0 ≡ valueOf givensField r
+  unfolding kind everyBelow among fields has
+  givens-none n = sym (lacking givensField r (lacks givensField (1 ∷ []) refl (kind r) (rw (ne-eqb (kind r) 1 n))))
 
 -- ---- which kinds may follow which
 module _ (p k : ℕ) where
@@ -76,124 +128,161 @@ module _ (p k : ℕ) where
   unfolding mayFollow
   follow-first e = rw e
 
-  module _ (n0 : p ≡ 0 → ⊥) where
-    pub follow-answer-yes : p ≡ 3 → k ≡ 3 → eqb k 3 ≡ mayFollow p k
-    unfolding mayFollow
-    follow-answer-yes e h = rw (e, h)
+  pub follow-start : {a b c : Bool} → p ≡ 1 → a ≡ (eqb k 4 || eqb k 5) → b ≡ (eqb k 3 || a) → c ≡ (eqb k 2 || b) → c ≡ mayFollow p k
+  unfolding mayFollow has
+  follow-start e ea eb ec = rw (e, ec, eb, ea, or-false (eqb k 5))
 
-    pub follow-answer : p ≡ 3 → (k ≡ 3 → ⊥) → eqb k 4 ≡ mayFollow p k
-    unfolding mayFollow
-    follow-answer e h = rw (e, ne-eqb k 3 h)
+  pub follow-condition : {a b c : Bool} → p ≡ 2 → a ≡ (eqb k 4 || eqb k 5) → b ≡ (eqb k 3 || a) → c ≡ (eqb k 2 || b) → c ≡ mayFollow p k
+  unfolding mayFollow has
+  follow-condition e ea eb ec = rw (e, ec, eb, ea, or-false (eqb k 5))
 
-    module _ (n3 : p ≡ 3 → ⊥) where
-      pub follow-none : p ≡ 5 → eqb k 4 ≡ mayFollow p k
-      unfolding mayFollow
-      follow-none e = rw e
+  pub follow-answer : {c : Bool} → p ≡ 3 → c ≡ (eqb k 3 || eqb k 4) → c ≡ mayFollow p k
+  unfolding mayFollow has
+  follow-answer e ec = rw (e, ec, or-false (eqb k 4))
 
-      pub follow-other : (p ≡ 5 → ⊥) → leb 2 k ≡ mayFollow p k
-      unfolding mayFollow
-      follow-other n5 = rw (ne-eqb p 0 n0, ne-eqb p 3 n3, ne-eqb p 5 n5)
+  pub follow-none : p ≡ 5 → eqb k 4 ≡ mayFollow p k
+  unfolding mayFollow has
+  follow-none e = rw (e, or-false (eqb k 4))
+
+pub follow-other : (p k : ℕ) → (p ≡ 0 → ⊥) → (p ≡ 1 → ⊥) → (p ≡ 2 → ⊥) → (p ≡ 3 → ⊥) → (p ≡ 5 → ⊥) → false ≡ mayFollow p k
+unfolding mayFollow has
+follow-other zero k a b c d e = absurd (a refl)
+follow-other (suc zero) k a b c d e = absurd (b refl)
+follow-other (suc (suc zero)) k a b c d e = absurd (c refl)
+follow-other (suc (suc (suc zero))) k a b c d e = absurd (d refl)
+follow-other (suc (suc (suc (suc zero)))) k a b c d e = refl
+follow-other (suc (suc (suc (suc (suc zero))))) k a b c d e = absurd (e refl)
+follow-other (suc (suc (suc (suc (suc (suc p)))))) k a b c d e = refl
 
 -- ---- what is said
-pub said-now : (state : ℕ) {none : ℕ} → none ≡ 0 → state + 1 ≡ saidFirst none state
+pub said-now : (state : ℕ) {none v : ℕ} → none ≡ 0 → v ≡ state → v + 1 ≡ saidFirst none state
 unfolding saidFirst
-said-now state e = rw (e, add-one)
+said-now state e ev = rw (e, ev, add-one)
 
 pub said-before : (state : ℕ) {none : ℕ} → (none ≡ 0 → ⊥) → none ≡ saidFirst none state
 unfolding saidFirst
 said-before state {none} e = rw (ne-eqb none 0 e)
 
-pub said-state : (none : ℕ) → (none ≡ 0 → ⊥) → said-variants.None (record { 0 = none - 1 }) ≡ saidBy none
+pub said-state : (none : ℕ) → (none ≡ 0 → ⊥) → None (record { 0 = none - 1 }) ≡ saidBy none
 said-state zero e = absurd (e refl)
 said-state (suc state) e = let f : suc state - 1 ≡ state = (omega arith) in rw f
 
 -- ---- what has been seen with one more record
 pub seen-is : (x : Seen) {k p none : ℕ} (follows fits : Bool) {kinds numbers : Bool} → kinds ≡ (x .kinds && follows) → numbers ≡ (x .numbers && fits)
-    → _≡_ {A = Seen} (record { kind = k; place = p; kinds = kinds; numbers = numbers; none = none }) (record { kind = k; place = p; kinds = x .kinds && follows; numbers = x .numbers && fits; none = none })
+    → _≡_ {A = Seen} (record { kind = k; place = p; kinds = kinds; numbers = numbers; none = none })
+    (record { kind = k; place = p; kinds = x .kinds && follows; numbers = x .numbers && fits; none = none })
 seen-is x follows fits e f = rw (e, f)
 
 module _ (x : Seen) (k i m : ℕ) (fits : Bool) {follows : Bool} (ef : follows ≡ mayFollow (x .kind) k) {y : Seen} where
-  pub monomial-out : not fits ≡ true → y ≡ record { kind = k; place = 0; kinds = x .kinds && follows; numbers = x .numbers && false; none = x .none } → y ≡ seenMonomial x k i m fits
+  pub monomial-out : not fits ≡ true → y ≡ record { kind = k; place = 0; kinds = x .kinds && follows; numbers = x .numbers && false; none = x .none }
+      → y ≡ seenMonomial x k i m fits
   unfolding seenMonomial
   monomial-out h e = e ∙ rw (ef, not-true fits h)
 
   pub monomial-in : {n : ℕ} → not fits ≡ false → n ≡ rank 10 m
-      → y ≡ record { kind = k; place = 16384 * i + n + 1; kinds = x .kinds && follows; numbers = x .numbers && ltb (x .place) (16384 * i + n + 1); none = x .none } → y ≡ seenMonomial x k i m fits
+      → y ≡ record { kind = k; place = 16384 * i + n + 1; kinds = x .kinds && follows; numbers = x .numbers && ltb (x .place) (16384 * i + n + 1); none = x .none }
+      → y ≡ seenMonomial x k i m fits
   unfolding seenMonomial place
   monomial-in {n} h en e = e ∙ rw (ef, not-false fits h, en, add-one)
 
 behind-place : (q i m : ℕ) → standsBehind q (place i m) ≡ ltb q (place i m)
 unfolding standsBehind place
-behind-place q i m = let f : eqb (suc (16384 * i + rank 10 m)) 0 ≡ false = ne-eqb (suc (16384 * i + rank 10 m)) 0 (λ e. omega arith) in rw f
+behind-place q i m =
+    let f : eqb (suc (16384 * i + rank 10 m)) 0 ≡ false = ne-eqb (suc (16384 * i + rank 10 m)) 0 (λ e. omega arith) in
+    rw f
 
-module _ (route U masks states : ℕ) (x : Seen) {r : Record} {y : Seen} where
-  pub see-start : {a b c : ℕ} {f : Bool} → r ≡ Start a b c → f ≡ mayFollow (x .kind) 1
-      → y ≡ record { kind = 1; place = 0; kinds = x .kinds && f; numbers = x .numbers && true; none = x .none } → y ≡ seenRecord route U masks states x r
-  unfolding seenRecord placeOf standsBehind
-  see-start er ef e = e ∙ rw (er, ef, and-true (mayFollow (x .kind) 1))
+behind-none : (q : ℕ) → standsBehind q 0 ≡ true
+unfolding standsBehind
+behind-none q = refl
 
-  pub see-broken : {f : Bool} → r ≡ Broken → f ≡ mayFollow (x .kind) 0
-      → y ≡ record { kind = 0; place = 0; kinds = x .kinds && f; numbers = x .numbers && true; none = x .none } → y ≡ seenRecord route U masks states x r
-  unfolding seenRecord placeOf standsBehind
-  see-broken er ef e = e ∙ rw (er, ef, and-true (mayFollow (x .kind) 0))
+module _ (route U G : ℕ) (x : Seen) (r : Record) where
+  -- with a monomial
+  seen-monomial : (k i m : ℕ) (fits : Bool) → kind r ≡ k → isEnd r ≡ false → isNone r ≡ false → inBounds U G r ≡ fits → placeOf r ≡ place i m
+      → seenMonomial x k i m fits ≡ seenRecord route U G x r
+  unfolding seenRecord seenMonomial
+  seen-monomial k i m fits ek ee en ef ep = rw (ee, en, ef, ep, ek, and-true (mayFollow (x .kind) k), behind-place (x .place) i m)
 
-  pub see-condition : {m : ℕ} → r ≡ Condition m → y ≡ seenMonomial x 2 0 m (ltb m masks) → y ≡ seenRecord route U masks states x r
-  unfolding seenRecord seenMonomial placeOf
-  see-condition {m} er e = e ∙ rw (er, and-true (mayFollow (x .kind) 2), behind-place)
+  -- with none
+  seen-other : {k : ℕ} (follows fits : Bool) {none : ℕ} → kind r ≡ k → isMonomial r ≡ false
+      → follows ≡ (mayFollow (x .kind) k && cond (isEnd r) (eqb (valueOf routeField r) route) true) → fits ≡ inBounds U G r
+      → none ≡ cond (isNone r) (saidFirst (x .none) (valueOf stateField r)) (x .none)
+      → record { kind = k; place = 0; kinds = x .kinds && follows; numbers = x .numbers && fits; none = none } ≡ seenRecord route U G x r
+  unfolding seenRecord
+  seen-other follows fits ek em ef ei en =
+      rw (ef, en, place-other r em, ← ei, behind-none (x .place), ek, and-true fits, same {A = ℕ} fits 0)
 
-  pub see-answer : {i j m w : ℕ} {f : Bool} → r ≡ Answer j m → i ≡ j + 1 → w ≡ j → f ≡ (ltb w U && ltb m masks) → y ≡ seenMonomial x 3 i m f → y ≡ seenRecord route U masks states x r
-  unfolding seenRecord seenMonomial placeOf
-  see-answer {i} {j} {m} {w} er ei ew ef e = e ∙ rw (er, ei, add-one, ef, ew, and-true (mayFollow (x .kind) 3), behind-place)
+  pub see-condition : {y : Seen} {m masks states : ℕ} → Bounds U G masks states → getD r 0 0 ≡ 2 → m ≡ getD r 1 0 + 256 * getD r 2 0
+      → y ≡ seenMonomial x 2 0 m (ltb m masks) → y ≡ seenRecord route U G x r
+  unfolding among fields
+  see-condition {m = m} b ek em e =
+      let k : kind r ≡ 2 = kind-is r 2 ek in
+      let v : valueOf maskField r ≡ m = condition-mask r k ∙ sym em in
+      e ∙ seen-monomial 2 0 m _ k (rw k) (rw k) (condition-fits U G r k ∙ rw (v, ← b .of-masks))
+      (place-monomial r (rw k) ∙ rw (v, k))
 
-  pub see-end : {again : ℕ} {f : Bool} → r ≡ End again → f ≡ endFollows (x .kind) again route
-      → y ≡ record { kind = 4; place = 0; kinds = x .kinds && f; numbers = x .numbers && true; none = x .none } → y ≡ seenRecord route U masks states x r
-  unfolding seenRecord placeOf standsBehind
-  see-end er ef e = e ∙ rw (er, ef)
+  pub see-answer : {y : Seen} {j m masks states : ℕ} {f : Bool} → Bounds U G masks states → getD r 0 0 ≡ 3 → j ≡ getD r 1 0 → m ≡ getD r 2 0 + 256 * getD r 3 0
+      → f ≡ (ltb j U && ltb m masks) → y ≡ seenMonomial x 3 (j + 1) m f → y ≡ seenRecord route U G x r
+  unfolding among fields
+  see-answer {j = j} {m = m} b ek ej em ef e =
+      let k : kind r ≡ 3 = kind-is r 3 ek in
+      let v : valueOf maskField r ≡ m = answer-mask r k ∙ sym em in
+      let u : valueOf unknownField r ≡ j = answer-unknown r k ∙ sym ej in
+      e ∙ seen-monomial 3 (j + 1) m _ k (rw k) (rw k) (answer-fits U G r k ∙ rw (v, u, ← b .of-masks) (sym ef))
+      (place-monomial r (rw k) ∙ rw (k, u, v, add-one))
 
-  pub see-none : {state v w none : ℕ} {f : Bool} → r ≡ None state → f ≡ mayFollow (x .kind) 5 → v ≡ state → none ≡ saidFirst (x .none) v → w ≡ state
-      → y ≡ record { kind = 5; place = 0; kinds = x .kinds && f; numbers = x .numbers && ltb w states; none = none } → y ≡ seenRecord route U masks states x r
-  unfolding seenRecord placeOf standsBehind
-  see-none {state} er ef ev en ew e = e ∙ rw (er, ef, en, ev, ew, and-true (mayFollow (x .kind) 5), and-true (ltb state states), same {A = ℕ} (ltb state states) 0)
+  pub see-end : {y : Seen} {f g : Bool} → getD r 0 0 ≡ 4 → f ≡ mayFollow (x .kind) 4 → g ≡ (f && eqb (getD r 1 0) route)
+      → y ≡ record { kind = 4; place = 0; kinds = x .kinds && g; numbers = x .numbers && true; none = x .none } → y ≡ seenRecord route U G x r
+  unfolding everyBelow among fields unbounded
+  see-end ek ef eg e =
+      let k : kind r ≡ 4 = kind-is r 4 ek in
+      e ∙ seen-other _ true k (rw k) (eg ∙ rw (k, ef, end-route r k)) (sym (in-bounds U G r (rw k))) (rw k)
+
+  pub see-none : {y : Seen} {masks states v none : ℕ} {f : Bool} → Bounds U G masks states → getD r 0 0 ≡ 5 → f ≡ mayFollow (x .kind) 5
+      → none ≡ saidFirst (x .none) (getD r 1 0) → v ≡ getD r 1 0
+      → y ≡ record { kind = 5; place = 0; kinds = x .kinds && f; numbers = x .numbers && ltb v states; none = none } → y ≡ seenRecord route U G x r
+  unfolding among fields
+  see-none b ek ef en ev e =
+      let k : kind r ≡ 5 = kind-is r 5 ek in
+      e ∙ seen-other _ _ k (rw k) (ef ∙ rw k (sym (and-true _))) (sym (none-fits U G r k ∙ rw (none-state r k, ← ev, ← b .of-states)))
+      (en ∙ rw (k, none-state r k))
+
+  pub see-other : {y : Seen} {f : Bool} → (getD r 0 0 ≡ 2 → ⊥) → (getD r 0 0 ≡ 3 → ⊥) → (getD r 0 0 ≡ 4 → ⊥) → (getD r 0 0 ≡ 5 → ⊥)
+      → f ≡ mayFollow (x .kind) (getD r 0 0)
+      → y ≡ record { kind = getD r 0 0; place = 0; kinds = x .kinds && f; numbers = x .numbers && true; none = x .none } → y ≡ seenRecord route U G x r
+  unfolding kind everyBelow among fields unbounded has
+  see-other n2 n3 n4 n5 ef e =
+      e ∙ seen-other _ true refl (lacks maskField (2 ∷ 3 ∷ []) refl (kind r) (rw (ne-eqb (kind r) 2 n2, ne-eqb (kind r) 3 n3)))
+      (ef ∙ rw (ne-eqb (kind r) 4 n4) (sym (and-true _)))
+      (sym (in-bounds U G r (free (of-every (λ k. has k (2 ∷ 3 ∷ 5 ∷ []) || unbounded (fields k)) refl (λ k z. right (has k (2 ∷ 3 ∷ 5 ∷ [])) (rw z)) (kind r)))))
+      (rw (ne-eqb (kind r) 5 n5))
+    where
+      right : (a : Bool) {b : Bool} → b ≡ true → (a || b) ≡ true
+      right true f = refl
+      right false f = f
+
+      free : (has (kind r) (2 ∷ 3 ∷ 5 ∷ []) || unbounded (fields (kind r))) ≡ true → unbounded (fields (kind r)) ≡ true
+      free t = rw (ne-eqb (kind r) 2 n2, ne-eqb (kind r) 3 n3, ne-eqb (kind r) 5 n5) at t
 
 -- a mask within its bounds is one of the ten-letter order
-pub mask-below : {m masks : ℕ} → masks ≤ 1024 → ltb m masks ≡ true → m < 1024
-mask-below {m} {masks} l e = let h : m < masks = ltb-true m masks e in omega arith
+pub mask-below : (U G : ℕ) {m masks states : ℕ} → Bounds U G masks states → ltb m masks ≡ true → m < 1024
+mask-below U G {m} {masks} b e =
+    let p : 2 ^ (U + G) ≤ 1024 = pow-mono (b .few) in
+    let h : m < masks = ltb-true m masks e in
+    omega (arith, b .of-masks)
 
-pub answer-below : (w u m masks : ℕ) {f : Bool} → masks ≤ 1024 → f ≡ (ltb w u && ltb m masks) → f ≡ true → m < 1024
-answer-below w u m masks l ef e = mask-below l (and-right (ltb w u) (ltb m masks) (sym ef ∙ e))
-
--- ---- the first no of what has been gathered
-module _ (x : Gathered) (fits : Bool) (route : ℕ) where
-  pub no-records : x .used ≡ 0 → 10 ≡ firstNo (gatheredQuestions x fits route)
-  unfolding firstNo
-  no-records e = rw e
-
-  module _ (some : x .used ≡ 0 → ⊥) where
-    used : ltb 0 (x .used) ≡ true
-    used = lt-ltb 0 (x .used) (omega (arith, some))
-
-    pub no-kinds : not (x .kinds) ≡ true → 11 ≡ firstNo (gatheredQuestions x fits route)
-    unfolding firstNo
-    no-kinds h = rw (used, not-true (x .kinds) h)
-
-    module _ (k : not (x .kinds) ≡ false) where
-      pub no-letters : not fits ≡ true → 1 ≡ firstNo (gatheredQuestions x fits route)
-      unfolding firstNo
-      no-letters h = rw (used, not-false (x .kinds) k, not-true fits h)
-
-      module _ (l : not fits ≡ false) {b : Bool} (eb : b ≡ routeFits route) where
-        pub no-route : not b ≡ true → 2 ≡ firstNo (gatheredQuestions x fits route)
-        unfolding firstNo
-        no-route h = rw (used, not-false (x .kinds) k, not-false fits l, failed eb h)
-
-        module _ (t : not b ≡ false) where
-          pub no-numbers : not (x .numbers) ≡ true → 12 ≡ firstNo (gatheredQuestions x fits route)
-          unfolding firstNo
-          no-numbers h = rw (used, not-false (x .kinds) k, not-false fits l, passed eb t, not-true (x .numbers) h)
-
-          pub no-refusal : not (x .numbers) ≡ false → 0 ≡ firstNo (gatheredQuestions x fits route)
-          unfolding firstNo
-          no-refusal h = rw (used, not-false (x .kinds) k, not-false fits l, passed eb t, not-false (x .numbers) h)
+pub answer-below : (U G w m : ℕ) {masks states : ℕ} {f : Bool} → Bounds U G masks states → f ≡ (ltb w U && ltb m masks) → f ≡ true → m < 1024
+answer-below U G w m {masks} b ef e = mask-below U G b (and-right (ltb w U) (ltb m masks) (sym ef ∙ e))
 
 pub rank-fits : (m : ℕ) {k : ℕ} → m < 1024 → k ≡ rank 10 m → k < 16384
 rank-fits m h e = rw e (rank-small m h)
+
+-- ---- the first no of what has been gathered, question by question
+pub chain : (x : Gathered) (fits : Bool) (route : ℕ) {q1 q2 q3 q4 q5 w : ℕ} {b : Bool} → q1 ≡ also 0 (asks Records (ltb 0 (x .used)) ∷ [])
+    → q2 ≡ also q1 (asks Kinds (x .kinds) ∷ []) → q3 ≡ also q2 (asks Letters fits ∷ []) → w ≡ route → b ≡ routeFits w
+    → q4 ≡ also q3 (asks Route b ∷ []) → q5 ≡ also q4 (asks Numbers (x .numbers) ∷ []) → q5 ≡ firstNo (gatheredQuestions x fits route)
+chain x fits route {q1} {q2} {q3} {q4} {q5} {w} {b} e1 e2 e3 ew eb e4 e5 =
+    ask-then 0 q1 q5 Records _ _ _ e1 refl
+    (ask-then q1 q2 q5 Kinds _ _ _ e2 refl
+    (ask-then q2 q3 q5 Letters _ _ _ e3 refl
+    (ask-then q3 q4 q5 Route b (routeFits route) _ e4 (eb ∙ ap routeFits ew) e5)))
+    ∙ sym (also-none (gatheredQuestions x fits route))

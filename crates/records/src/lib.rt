@@ -1,42 +1,32 @@
-// The records that stand in bytes, one by one: decoding them, and going over an entry once for what reading and audit ask of it and for
-// what it says. Nothing here is a public call of the library: the functions are for the crates above, which meet what they require.
+// The records that stand in bytes, one by one, and going over an entry once for what reading and audit ask of it and for what it says.
+// A record is its slice of the bytes. Nothing here is a public call of the library: the functions are for the crates above, which meet
+// what they require.
 ghost use mathlib.Core.Path.{_≡_};
-ghost use mathlib.Core.Bool.{true, _&&_, cond};
-ghost use Prim.Native.Nat.{_+_, _*_, _≤_, _<_};
+ghost use mathlib.Core.Bool.{true, _&&_, _||_, cond};
+ghost use Prim.Native.Nat.{_+_, _*_, _^_, _≤_, _<_};
 ghost use lib.Dec.{ltb};
 ghost use lib.ListN.{length, drop};
 ghost use Rattle.tables.specs.Questions.{firstNo};
-ghost use Rattle.entry.specs.Record.{size, kind, routeIn, unknownsIn, givensIn};
+ghost use Rattle.entry.specs.Record.{routeField, unknownsField, givensField, size, kind, valueOf};
 ghost use Rattle.entry.specs.Held.{next, records};
 ghost use Rattle.entry.specs.Questions.{mayFollow};
-ghost use Rattle.records.specs.Inner.Gathering.{endFollows, saidFirst, seenMonomial, seenRecord, gathered, saidBy, gatheredQuestions, surveyOf};
-use entry::Record;
+ghost use Rattle.records.specs.Inner.Headings.{startOf};
+ghost use Rattle.records.specs.Inner.Gathering.{Whole, Bounds, saidFirst, seenMonomial, seenRecord, gathered, saidBy, gatheredQuestions, surveyOf};
+use calls::Heading;
+use calls::Verdict;
 use ring::State;
-
-// What the start of an entry says, and the length used.
-pub struct Heading {
-    pub route: u8,
-    pub unknowns: usize,
-    pub givens: usize,
-    pub used: usize,
-}
-
-// Whether an entry says 'none', and in which state.
-pub enum Said {
-    Solved,
-    None(State),
-}
+use tables::Question;
 
 // What going over an entry gives: the first no of 10, 11, 1, 2 and 12, or 0, and what the entry says.
 pub struct Survey {
     pub refusal: u8,
     pub heading: Heading,
-    pub said: Said,
+    pub verdict: Verdict,
 }
 
 // What has been seen of the records up to a place.
 pub struct Seen {
-    pub kind: usize, // of the last record, 0 at the start
+    pub kind: u8, // of the last record, 0 at the start
     pub place: usize, // of the last record's monomial, 0 if it has none
     pub kinds: bool, // question 11 of the records so far
     pub numbers: bool, // question 12 of the records so far
@@ -51,143 +41,109 @@ pub struct Gathered {
     pub none: usize,
 }
 
-fn wide(x: u8) -> usize
+pub fn wide(x: u8) -> usize
     ensures { λ r. ⌜ r ≡ x ⌝ }
 {
     x as usize
 }
 
 // 'Masks are two bytes, low byte first'
-fn mask_of(low: u8, high: u8) -> usize
+pub fn mask_of(low: u8, high: u8) -> usize
     ensures { λ r. ⌜ r ≡ low + 256 * high ⌝ }
 {
     wide(low) + 256 * wide(high)
 }
 
-// The record that the bytes begin with.
-fn decode(s: &[u8]) -> Record
-    ensures { λ r. ⌜ r ≡ next (now (s .entry)) ⌝ }
+// 'one byte of kind, then a body whose length the kind fixes': the sizes of the kinds, 0 where there is no such kind.
+const SIZES: [usize; 6] = [0, 4, 3, 4, 2, 2];
+
+fn size_of(kind: u8) -> usize
+    ensures { λ n. ⌜ n ≡ size kind ⌝ }
 {
-    let n = s.len();
-    if n < 2 {
-        return Record::Broken;
+    let k = wide(kind);
+    if k < 6 {
+        return SIZES[k];
     }
-    match s[0] {
-        1 => {
-            if n < 4 {
-                return Record::Broken;
-            }
-            Record::Start(s[1], s[2], s[3])
-        }
-        2 => {
-            if n < 3 {
-                return Record::Broken;
-            }
-            Record::Condition(mask_of(s[1], s[2]))
-        }
-        3 => {
-            if n < 4 {
-                return Record::Broken;
-            }
-            Record::Answer(s[1], mask_of(s[2], s[3]))
-        }
-        4 => Record::End(s[1]),
-        5 => Record::None(s[1]),
-        _ => Record::Broken,
-    }
+    0
 }
 
-pub fn record_at(s: &[u8], at: usize) -> Record
+// The size of the whole record at a place, 0 if there is none.
+pub fn size_at(s: &[u8], at: usize) -> usize
     requires { ⌜ at ≤ length (now s) ⌝ }
-    ensures { λ r. ⌜ r ≡ next (drop at (now (s .entry))) ⌝ }
+    ensures { λ n. ⌜ n ≡ length (next (drop at (now (s .entry)))) ⌝ }
 {
-    decode(&s[at..])
+    if s.len() <= at {
+        return 0;
+    }
+    let n = size_of(s[at]);
+    if s.len() - at < n {
+        return 0;
+    }
+    n
 }
 
-pub fn size_of(r: Record) -> usize
-    ensures { λ n. ⌜ n ≡ size r ⌝ }
+// The route that a record says, 0 if none.
+fn route_in(r: &[u8]) -> u8
+    requires { ⌜ Whole (now r) ⌝ }
+    ensures { λ v. ⌜ v ≡ valueOf routeField (now (r .entry)) ⌝ }
 {
-    match r {
-        Record::Start(_, _, _) => 4,
-        Record::Condition(_) => 3,
-        Record::Answer(_, _) => 4,
-        Record::End(_) => 2,
-        Record::None(_) => 2,
-        Record::Broken => 0,
+    if r.len() == 0 {
+        return 0;
+    }
+    match r[0] {
+        1 => r[1],
+        4 => r[1],
+        _ => 0,
     }
 }
 
-pub fn kind_of(r: Record) -> usize
-    ensures { λ k. ⌜ k ≡ kind r ⌝ }
+fn unknowns_in(r: &[u8]) -> usize
+    requires { ⌜ Whole (now r) ⌝ }
+    ensures { λ v. ⌜ v ≡ valueOf unknownsField (now (r .entry)) ⌝ }
 {
-    match r {
-        Record::Start(_, _, _) => 1,
-        Record::Condition(_) => 2,
-        Record::Answer(_, _) => 3,
-        Record::End(_) => 4,
-        Record::None(_) => 5,
-        Record::Broken => 0,
+    if r.len() == 0 {
+        return 0;
+    }
+    match r[0] {
+        1 => wide(r[2]),
+        _ => 0,
     }
 }
 
-fn behind(j: u8) -> usize
-    ensures { λ i. ⌜ (i ≡ j + 1) × (i ≤ 256) ⌝ }
+fn givens_in(r: &[u8]) -> usize
+    requires { ⌜ Whole (now r) ⌝ }
+    ensures { λ v. ⌜ v ≡ valueOf givensField (now (r .entry)) ⌝ }
 {
-    wide(j) + 1
-}
-
-fn route_in(r: Record) -> u8
-    ensures { λ route. ⌜ route ≡ routeIn r ⌝ }
-{
-    match r {
-        Record::Start(route, _, _) => route,
-        Record::Condition(_) => 0,
-        Record::Answer(_, _) => 0,
-        Record::End(route) => route,
-        Record::None(_) => 0,
-        Record::Broken => 0,
+    if r.len() == 0 {
+        return 0;
+    }
+    match r[0] {
+        1 => wide(r[3]),
+        _ => 0,
     }
 }
 
-fn unknowns_in(r: Record) -> usize
-    ensures { λ u. ⌜ u ≡ unknownsIn r ⌝ }
+fn either(a: bool, b: bool) -> bool
+    ensures { λ r. ⌜ r ≡ (a || b) ⌝ }
 {
-    match r {
-        Record::Start(_, u, _) => wide(u),
-        Record::Condition(_) => 0,
-        Record::Answer(_, _) => 0,
-        Record::End(_) => 0,
-        Record::None(_) => 0,
-        Record::Broken => 0,
+    if a {
+        return true;
     }
+    b
 }
 
-fn givens_in(r: Record) -> usize
-    ensures { λ g. ⌜ g ≡ givensIn r ⌝ }
-{
-    match r {
-        Record::Start(_, _, g) => wide(g),
-        Record::Condition(_) => 0,
-        Record::Answer(_, _) => 0,
-        Record::End(_) => 0,
-        Record::None(_) => 0,
-        Record::Broken => 0,
-    }
-}
-
-fn may_follow(p: usize, k: usize) -> bool
+// May kind k stand right behind kind p, or first, where p is 0?
+fn may_follow(p: u8, k: u8) -> bool
     ensures { λ b. ⌜ b ≡ mayFollow p k ⌝ }
 {
-    if p == 0 {
-        return k == 1;
+    match p {
+        0 => k == 1,
+        1 => either(k == 2, either(k == 3, either(k == 4, k == 5))),
+        2 => either(k == 2, either(k == 3, either(k == 4, k == 5))),
+        3 => either(k == 3, k == 4),
+        5 => k == 4,
+        _ => false,
     }
-    if p == 3 {
-        return k == 3 || k == 4;
-    }
-    if p == 5 {
-        return k == 4;
-    }
-    2 <= k
 }
 
 fn both(a: bool, b: bool) -> bool
@@ -199,32 +155,17 @@ fn both(a: bool, b: bool) -> bool
     false
 }
 
-// Question 11 of the end, behind a record of kind p.
-fn end_follows(p: usize, again: u8, route: u8) -> bool
-    ensures { λ b. ⌜ b ≡ endFollows p again route ⌝ }
-{
-    both(may_follow(p, 4), again == route)
-}
-
-// Question 12 of an answer's monomial.
-fn answer_fits(u: usize, masks: usize, j: usize, m: usize) -> bool
-    ensures { λ b. ⌜ b ≡ (ltb j u && ltb m masks) ⌝ }
-{
-    both(j < u, m < masks)
-}
-
 // 1 above the state that is said first.
-fn said_first(none: usize, state: usize) -> usize
-    requires { ⌜ state < 256 ⌝ }
+fn said_first(none: usize, state: u8) -> usize
     ensures { λ r. ⌜ r ≡ saidFirst none state ⌝ }
 {
     if none == 0 {
-        return state + 1;
+        return wide(state) + 1;
     }
     none
 }
 
-fn seen_next(seen: Seen, k: usize, p: usize, follows: bool, fits: bool, none: usize) -> Seen
+fn seen_next(seen: Seen, k: u8, p: usize, follows: bool, fits: bool, none: usize) -> Seen
     ensures { λ x. ⌜ x ≡ record { kind = k; place = p; kinds = seen .kinds && follows; numbers = seen .numbers && fits; none = none } ⌝ }
 {
     let kinds = both(seen.kinds, follows);
@@ -239,7 +180,7 @@ fn seen_next(seen: Seen, k: usize, p: usize, follows: bool, fits: bool, none: us
 }
 
 // A monomial of table i. One rising number tells its place: its table, then its rank in the written order.
-fn see_monomial(seen: Seen, k: usize, i: usize, m: usize, fits: bool) -> Seen
+fn see_monomial(seen: Seen, k: u8, i: usize, m: usize, fits: bool) -> Seen
     requires { ⌜ (i ≤ 256) × (fits ≡ true → m < 1024) ⌝ }
     ensures { λ x. ⌜ x ≡ seenMonomial seen k i m fits ⌝ }
 {
@@ -254,31 +195,35 @@ fn see_monomial(seen: Seen, k: usize, i: usize, m: usize, fits: bool) -> Seen
 }
 
 // What has been seen with one more record.
-fn see(seen: Seen, route: u8, u: usize, masks: usize, states: usize, r: Record) -> Seen
-    requires { ⌜ masks ≤ 1024 ⌝ }
-    ensures { λ x. ⌜ x ≡ seenRecord route u masks states seen r ⌝ }
+fn see(seen: Seen, route: u8, u: usize, g: usize, masks: usize, states: usize, r: &[u8]) -> Seen
+    requires { ⌜ Bounds u g masks states × Whole (now r) × (0 < length (now r)) ⌝ }
+    ensures { λ x. ⌜ x ≡ seenRecord route u g seen (now (r .entry)) ⌝ }
 {
-    let before = seen.kind;
+    let k = r[0];
     let none = seen.none;
-    match r {
-        Record::Start(_, _, _) => seen_next(seen, 1, 0, may_follow(before, 1), true, none),
-        Record::Condition(m) => see_monomial(seen, 2, 0, m, m < masks),
-        Record::Answer(j, m) => {
-            see_monomial(seen, 3, behind(j), m, answer_fits(u, masks, wide(j), m))
+    match k {
+        2 => {
+            let m = mask_of(r[1], r[2]);
+            see_monomial(seen, 2, 0, m, m < masks)
         }
-        Record::End(again) => seen_next(seen, 4, 0, end_follows(before, again, route), true, none),
-        Record::None(state) => {
-            let said = said_first(none, wide(state));
-            seen_next(
-                seen,
-                5,
-                0,
-                may_follow(before, 5),
-                wide(state) < states,
-                said,
-            )
+        3 => {
+            let j = wide(r[1]);
+            let m = mask_of(r[2], r[3]);
+            see_monomial(seen, 3, j + 1, m, both(j < u, m < masks))
         }
-        Record::Broken => seen_next(seen, 0, 0, may_follow(before, 0), true, none),
+        4 => {
+            let follows = both(may_follow(seen.kind, 4), r[1] == route);
+            seen_next(seen, 4, 0, follows, true, none)
+        }
+        5 => {
+            let follows = may_follow(seen.kind, 5);
+            let said = said_first(none, r[1]);
+            seen_next(seen, 5, 0, follows, wide(r[1]) < states, said)
+        }
+        _ => {
+            let follows = may_follow(seen.kind, k);
+            seen_next(seen, k, 0, follows, true, none)
+        }
     }
 }
 
@@ -297,9 +242,9 @@ fn gathered_at(used: usize, seen: Seen) -> Gathered
 }
 
 // Goes over the records to the first kind 4, or to where no whole record stands.
-fn gather(s: &[u8], route: u8, u: usize, masks: usize, states: usize) -> Gathered
-    requires { ⌜ masks ≤ 1024 ⌝ }
-    ensures { λ r. ⌜ r ≡ gathered route u masks states (records (now (s .entry))) ⌝ }
+fn gather(s: &[u8], route: u8, u: usize, g: usize, masks: usize, states: usize) -> Gathered
+    requires { ⌜ Bounds u g masks states ⌝ }
+    ensures { λ r. ⌜ r ≡ gathered route u g (records (now (s .entry))) ⌝ }
 {
     let mut at = 0;
     let mut seen = Seen {
@@ -310,14 +255,14 @@ fn gather(s: &[u8], route: u8, u: usize, masks: usize, states: usize) -> Gathere
         none: 0,
     };
     while at < s.len() {
-        let r = record_at(s, at);
-        let n = size_of(r);
+        let n = size_at(s, at);
         if n == 0 {
             return gathered_at(0, seen);
         }
-        seen = see(seen, route, u, masks, states, r);
-        at += n;
-        if kind_of(r) == 4 {
+        let behind = at + n;
+        seen = see(seen, route, u, g, masks, states, &s[at..behind]);
+        at = behind;
+        if seen.kind == 4 {
             return gathered_at(at, seen);
         }
     }
@@ -328,31 +273,20 @@ fn gather(s: &[u8], route: u8, u: usize, masks: usize, states: usize) -> Gathere
 fn refusal_of(gathered: Gathered, fits: bool, route: u8) -> u8
     ensures { λ r. ⌜ r ≡ firstNo (gatheredQuestions gathered fits route) ⌝ }
 {
-    if gathered.used == 0 {
-        return tables::RECORDS;
-    }
-    if !gathered.kinds {
-        return tables::KINDS;
-    }
-    if !fits {
-        return tables::LETTERS;
-    }
-    if !entry::route_fits(route as usize) {
-        return tables::ROUTE;
-    }
-    if !gathered.numbers {
-        return tables::MASKS;
-    }
-    0
+    let q = tables::ask(0, Question::Records, 0 < gathered.used);
+    let q = tables::ask(q, Question::Kinds, gathered.kinds);
+    let q = tables::ask(q, Question::Letters, fits);
+    let q = tables::ask(q, Question::Route, entry::route_fits(wide(route)));
+    tables::ask(q, Question::Numbers, gathered.numbers)
 }
 
-fn said_of(none: usize) -> Said
+fn verdict_of(none: usize) -> Verdict
     ensures { λ v. ⌜ v ≡ saidBy none ⌝ }
 {
     if none == 0 {
-        return Said::Solved;
+        return Verdict::Solved;
     }
-    Said::None(State(none - 1))
+    Verdict::None(State(none - 1))
 }
 
 // No number of letters where question 1 is answered no, so that the bounds of 12 can be formed.
@@ -365,18 +299,34 @@ fn fitting(fits: bool, letters: usize) -> usize
     0
 }
 
+// What the first record says.
+fn start_of(s: &[u8]) -> Heading
+    ensures { λ h. ⌜ h ≡ startOf (records (now (s .entry))) ⌝ }
+{
+    let n = size_at(s, 0);
+    let route = route_in(&s[..n]);
+    let unknowns = unknowns_in(&s[..n]);
+    let givens = givens_in(&s[..n]);
+    Heading {
+        route,
+        unknowns,
+        givens,
+        used: 0,
+    }
+}
+
 // Goes over the entry that the bytes begin with.
 pub fn survey_entry(s: &[u8]) -> Survey
     ensures { λ r. ⌜ r ≡ surveyOf (records (now (s .entry))) ⌝ }
 {
-    let first = record_at(s, 0);
-    let route = route_in(first);
-    let unknowns = unknowns_in(first);
-    let givens = givens_in(first);
+    let start = start_of(s);
+    let route = start.route;
+    let unknowns = start.unknowns;
+    let givens = start.givens;
     let fits = tables::letters_fit(unknowns, givens);
     let u = fitting(fits, unknowns);
     let g = fitting(fits, givens);
-    let gathered = gather(s, route, u, tables::pow2(u + g), tables::pow2(g));
+    let gathered = gather(s, route, u, g, tables::pow2(u + g), tables::pow2(g));
     let refusal = refusal_of(gathered, fits, route);
     let used = gathered.used;
     let heading = Heading {
@@ -385,10 +335,10 @@ pub fn survey_entry(s: &[u8]) -> Survey
         givens,
         used,
     };
-    let said = said_of(gathered.none);
+    let verdict = verdict_of(gathered.none);
     Survey {
         refusal,
         heading,
-        said,
+        verdict,
     }
 }

@@ -1,3 +1,4 @@
+-- The first state that is said stays.
 -- Assumes nothing.
 use borrow.Author.Needs.{needs}
 use Rattle.records.proofs.OneRecord.{said-now, said-before}
@@ -8,6 +9,7 @@ pub said-first-spec : {M : Type 1} → statement M
 said-first-spec =
     tie.close
     (tie.spec
+    (λ c κs. search needs)
     (λ c. search needs)
     (λ c. search said-now)
     (λ c. search said-before))

@@ -1,7 +1,8 @@
--- Each arm is one case of the record. Assumes nothing.
+-- Each arm is one case of the kind.
+-- Assumes nothing.
 use native.Mathlib.Omega.{arith}
 use borrow.Author.Needs.{needs}
-use Rattle.records.proofs.OneRecord.{see-start, see-condition, see-answer, see-end, see-none, see-broken, mask-below, answer-below}
+use Rattle.records.proofs.OneRecord.{long-2, long-3, long-4, long-5, see-condition, see-answer, see-end, see-none, see-other, mask-below, answer-below}
 use Rattle.records.proofs.see.Statement.{statement}
 use Rattle.records.proofs.see.Tie as tie
 
@@ -10,30 +11,32 @@ see-spec =
     tie.close
     (tie.spec
     (λ c. search needs)
+    (λ c. omega (arith, long-2 _ (c .before .before .before .before .pre .1) (c .before .match .keys1)))
+    (λ c. omega (arith, long-2 _ (c .before .before .before .before .before .pre .1) (c .before .before .match .keys1)))
     (λ c κs. search needs)
-    (λ c κs. search needs)
-    (λ c. search needs)
     (λ c κs. (omega arith, λ e. search mask-below))
-    (λ c. search needs)
+    (λ c. omega (arith, long-3 _ (c .before .before .before .before .pre .1) (c .before .match .keys2)))
+    (λ c κs. search needs)
+    (λ c. omega (arith, long-3 _ (c .before .before .before .before .before .before .pre .1) (c .before .before .before .match .keys2)))
+    (λ c. omega (arith, long-3 _ (c .before .before .before .before .before .before .before .pre .1) (c .before .before .before .before .match .keys2)))
+    (λ c κs. search needs)
+    (λ c. omega (arith, c .before .before .before .wide .ensures, c .before .before .before .before .before .before .before .shared-slice-known .given 1))
+    (λ c κs. search needs)
+    (λ c κs. (omega (arith, c .before .before .before .before .wide .ensures, c .before .before .before .before .before .before .before .before .shared-slice-known .given 1), λ e. search answer-below))
+    (λ c κs. search needs)
+    (λ c. omega (arith, long-4 _ (c .before .before .before .before .before .pre .1) (c .before .before .match .keys3)))
     (λ c κs. search needs)
     (λ c κs. search needs)
     (λ c κs. search needs)
-    (λ c κs. (search needs, λ e. search answer-below))
-    (λ c. search needs)
+    (λ c. omega (arith, long-5 _ (c .before .before .before .before .before .pre .1) (c .before .before .match .keys4)))
     (λ c κs. search needs)
-    (λ c κs. search needs)
-    (λ c. search needs)
-    (λ c κs. search needs)
+    (λ c. omega (arith, long-5 _ (c .before .before .before .before .before .before .before .pre .1) (c .before .before .before .before .match .keys4)))
     (λ c κs. search needs)
     (λ c κs. search needs)
     (λ c κs. search needs)
     (λ c κs. search needs)
-    (λ c. search needs)
-    (λ c κs. search needs)
-    (λ c κs. search needs)
-    (λ c. search see-start)
     (λ c. search see-condition)
     (λ c. search see-answer)
     (λ c. search see-end)
     (λ c. search see-none)
-    (λ c. search see-broken))
+    (λ c. search see-other))

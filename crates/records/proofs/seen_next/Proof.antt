@@ -1,3 +1,4 @@
+-- What both conjunctions give.
 -- Assumes nothing.
 use borrow.Author.Needs.{needs}
 use Rattle.records.proofs.OneRecord.{seen-is}

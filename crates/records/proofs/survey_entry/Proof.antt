@@ -1,9 +1,9 @@
--- The bounds of question 12 are formed of letters that fit, so that they are small. Assumes nothing.
-use Prim.Native.Nat.{_+_, _≤_}
+-- The bounds of question 12 are formed of letters that fit, so that they are small.
+-- Assumes nothing.
 use native.Mathlib.Omega.{arith}
 use borrow.Author.Needs.{needs}
-use Rattle.tables.proofs.Questions.{pow-small}
-use Rattle.records.proofs.Answers.{few-letters, survey-is}
+use Prim.Native.Nat.{_+_, _≤_}
+use Rattle.records.proofs.Answers.{few-letters, survey-bounds, survey-is}
 use Rattle.records.proofs.survey_entry.Statement.{statement}
 use Rattle.records.proofs.survey_entry.Tie as tie
 
@@ -18,13 +18,10 @@ survey-entry-spec =
     (λ c κs. search needs)
     (λ c κs. search needs)
     (λ c κs. search needs)
-    (λ c κs. search needs)
-    (λ c κs. search needs)
-    (λ c κs. search needs)
     (λ c. omega (arith, few c))
     (λ c κs. few c)
     (λ c κs. omega (arith, few (c .before)))
-    (λ c κs. pow-small _ _ (c .before .pow2 .ensures) (few (c .before .before)))
+    (λ c κs. search survey-bounds)
     (λ c κs. search needs)
     (λ c κs. search needs)
     (λ c. search survey-is))
