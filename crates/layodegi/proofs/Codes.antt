@@ -2,85 +2,111 @@
 -- whatever the caller lends. For numbers of questions are at most 16, a state is below 256, an entry has at most 27,654 bytes, and a volume
 -- at most 250 entries, since their routes rise.
 -- Assumes nothing.
-use mathlib.Core.Path.{_≡_, refl, ap, _∙_, subst}
+use mathlib.Core.Path.{_≡_, refl, sym, ap, _∙_, subst}
 use mathlib.Core.Bool.{Bool, true, false, cond}
-use mathlib.Core.List.{List, [], _∷_}
-use mathlib.Core.Logic.{_⊎_, inl, inr}
+use mathlib.Core.List.{List, [], _∷_, _++_}
 use Prim.Native.Nat.{ℕ, zero, suc, _+_, _*_, _/_, _%_, _^_, _≤_, _<_}
+use native.Mathlib.Decide.{ℕ-discrete}
 use native.Mathlib.Omega.{arith}
-use lib.Dec.{eqb, leb}
-use lib.ListN.{length, take, drop}
+use lib.Dec.{leb}
+use lib.ListN.{length, drop}
 use lib.Pow.{pow-mono}
-use borrow.Author.Tests.{leb-true, eqb-true, ne-eqb}
+use borrow.Author.Tests.{leb-true, ne-eqb}
 use Rattle.ring.specs.declared.State.{State}
 use Rattle.ring.specs.declared.Choice.{Choice}
 use Rattle.ring.specs.Polynomial.{value}
 use Rattle.ring.specs.Letters.{point}
 use Rattle.ring.specs.Table.{present}
-use Rattle.ring.proofs.Bool.{and-left, and-right, bool-cases, digit-lt}
-use Rattle.tables.specs.Questions.{firstNo, lettersFit, tableQuestions}
+use Rattle.ring.proofs.Bool.{and-left, and-right, digit-lt}
+use Rattle.tables.specs.declared.Question.the-variants.{Letters, Solution}
+use Rattle.tables.specs.Questions.{Asked, asks, asksGiving, number, firstNo, lettersFit, reads, writes, roomQuestions, bitQuestions, bufferQuestions}
 use Rattle.tables.specs.Answered.{Reply, accepted, refused, reply}
-use Rattle.tables.proofs.FirstNo.{yes-to, asked-before, numbersBelow, first-below}
+use Rattle.tables.proofs.FirstNo.{number-some, yes-to, asked-before, numbersBelow, first-below}
+use Rattle.tables.proofs.Answered.{givesNothing, reply-behind, reply-stops}
 use Rattle.tables.proofs.Questions.{letters-small, unknowns-small}
-use Rattle.calls.specs.GONE.{valueRefusal, pairRefusal, substituteRefusal}
-use Rattle.calls.specs.Operations.{valueAt}
-use Rattle.calls.specs.Questions.{textQuestions}
-use Rattle.calls.specs.GONE.{textRefusal}
+use Rattle.solution.specs.Condition.{conditionOf, polynomial}
 use Rattle.solution.specs.Elimination.{Verdict, solved, none, smallestBelow, blocked, smallestBlocked}
-use Rattle.calls.specs.GONE.{solvingRefusal, solvingReply, handedRefusal}
-use Rattle.entry.specs.declared.Record.{Record}
-use Rattle.entry.specs.Record.{AreBytes, bytes}
+use Rattle.entry.specs.Record.{Record, AreBytes, bytes}
 use Rattle.entry.specs.Held.{records, routeOf, unknownsOf, givensOf, heldCondition, heldVerdict}
 use Rattle.entry.specs.Entry.{entryRecords}
-use Rattle.entry.specs.Questions.{routeFits, entryQuestions, readQuestions, auditQuestions}
+use Rattle.entry.specs.Questions.{routeFits}
 use Rattle.entry.proofs.Bound.{entry-most}
 use Rattle.entry.proofs.Canonical.{records-end, held-fits, canonical}
-use Rattle.entry.proofs.Passes.{Passes, passes}
+use Rattle.entry.proofs.Records.{records-made}
+use Rattle.entry.proofs.Passes.{Passes}
 use Rattle.entry.proofs.Verdicts.{VerdictFits}
 use Rattle.entry.proofs.Theorems.{entry-bound}
-use Rattle.calls.specs.GONE.{archived, writeRefusal}
-use Rattle.calls.specs.Questions.{writeQuestions}
-use Rattle.calls.specs.GONE.{readRefusal}
-use Rattle.calls.specs.Entries.{readValues, stateOf}
-use Rattle.calls.specs.GONE.{auditRefusal, auditReply}
-use Rattle.calls.specs.Questions.{walkQuestions}
-use Rattle.calls.specs.Walk.{walkRefusal, walkReply, Ends, Walks}
-use Rattle.calls.specs.GONE.{at-end, refused-at}
-use Rattle.volume.proofs.Theorems.{walk-exact, entries-most}
-use Rattle.layodegi.specs.Codes.{narrow, code, headingCode, entryCode, stateIn, plainReply, valueReply, stateReply, countReply, entryReply}
+use Rattle.calls.specs.Questions.{lentCondition, asksSolution, valueQuestions, pairQuestions, substituteQuestions, textQuestions, solvingQuestions, handedQuestions, writeQuestions, entryQuestions, readQuestions, auditQuestions, walkQuestions}
+use Rattle.calls.specs.Operations.{valueAt}
+use Rattle.calls.specs.Entries.{lentEntry, readValues, stateOf}
+use Rattle.calls.specs.Walk.{walkRefusal, walkReply, Ends, at-end, refused-at, Walks}
+use Rattle.calls.proofs.Questions.{passes-exactly}
+use Rattle.calls.proofs.Volume.{walk-exact, entries-most}
+use Rattle.layodegi.specs.Codes.{narrow, code, headingCode, entryCode, numbered, stateIn, plainReply, valueReply, stateReply, countReply, entryReply}
 
 -- ---- one code
 narrow-small : (v : ℕ) → v < 4294967296 → narrow v ≡ v
 narrow-small v h = omega arith
 
-plain-back : (q : ℕ) → q < 256 → plainReply (code (reply q [])) ≡ reply q []
-unfolding reply
-plain-back zero h = refl
-plain-back (suc n) h = let e : suc n % 256 ≡ suc n = omega arith in rw e
+numbered-some : (q : ℕ) (values : List ℕ) → (q ≡ 0 → ⊥) → refused q [] ≡ numbered q values
+unfolding numbered
+numbered-some zero values n = absurd (n refl)
+numbered-some (suc q) values n = refl
 
-value-back : (q v : ℕ) → q < 256 → (q ≡ 0 → v < 4294967296) → valueReply (code (reply q (v ∷ []))) ≡ reply q (v ∷ [])
-unfolding reply
-value-back zero v h f =
-    let e : 256 * v % 256 ≡ 0 = omega arith in
-    let d : 256 * v / 256 ≡ v = omega arith in
-    rw (narrow-small v (f refl), e, d)
-value-back (suc n) v h f = let e : suc n % 256 ≡ suc n = omega arith in rw e
+-- the answer of a call whose questions give their numbers alone
+reply-numbered : (questions : List Asked) (values : List ℕ) → givesNothing questions ≡ true → reply questions values ≡ numbered (firstNo questions) values
+unfolding reply firstNo numbered
+reply-numbered [] values p = refl
+reply-numbered (asksGiving question true [] ∷ rest) values p = reply-numbered rest values p
+reply-numbered (asksGiving question false [] ∷ rest) values p = numbered-some (number question) values (number-some question)
+reply-numbered (asksGiving question answer (x ∷ given) ∷ rest) values p = let z : _≡_ {A = ℕ} 0 1 = (cc) in absurd (omega arith)
 
-state-back : (q s : ℕ) → q < 256 → (q ≡ 9 → s < 4294967296)
-    → stateReply (code (cond (eqb q 9) (refused 9 (s ∷ [])) (reply q []))) ≡ cond (eqb q 9) (refused 9 (s ∷ [])) (reply q [])
-unfolding reply
-state-back q s h f = go (bool-cases (eqb q 9))
+plain-back : (questions : List Asked) → givesNothing questions ≡ true → firstNo questions < 256 → plainReply (code (reply questions [])) ≡ reply questions []
+unfolding numbered
+plain-back questions p h = rw (reply-numbered questions [] p) (go (firstNo questions) h)
   where
-    other : (q : ℕ) → q < 256 → eqb q 9 ≡ false → stateReply (code (reply q [])) ≡ reply q []
-    other zero l e = refl
-    other (suc n) l e = let d : suc n % 256 ≡ suc n = omega arith in rw (d, e)
+    go : (q : ℕ) → q < 256 → plainReply (code (numbered q [])) ≡ numbered q []
+    go zero l = refl
+    go (suc n) l = let e : suc n % 256 ≡ suc n = omega arith in rw e
 
-    go : (eqb q 9 ≡ true) ⊎ (eqb q 9 ≡ false) → stateReply (code (cond (eqb q 9) (refused 9 (s ∷ [])) (reply q []))) ≡ cond (eqb q 9) (refused 9 (s ∷ [])) (reply q [])
-    go (inl e) =
+value-back : (questions : List Asked) (v : ℕ) → givesNothing questions ≡ true → firstNo questions < 256 → (firstNo questions ≡ 0 → v < 4294967296)
+    → valueReply (code (reply questions (v ∷ []))) ≡ reply questions (v ∷ [])
+unfolding numbered
+value-back questions v p h f = rw (reply-numbered questions (v ∷ []) p) (go (firstNo questions) h f)
+  where
+    go : (q : ℕ) → q < 256 → (q ≡ 0 → v < 4294967296) → valueReply (code (numbered q (v ∷ []))) ≡ numbered q (v ∷ [])
+    go zero l small =
+        let e : 256 * v % 256 ≡ 0 = omega arith in
+        let d : 256 * v / 256 ≡ v = omega arith in
+        rw (narrow-small v (small refl), e, d)
+    go (suc n) l small = let e : suc n % 256 ≡ suc n = omega arith in rw e
+
+-- question 9 behind questions with smaller numbers
+state-back : (front : List Asked) (answer : Bool) (s : ℕ) → givesNothing front ≡ true → firstNo front < 9 → (firstNo front ≡ 0 → s < 4294967296)
+    → stateReply (code (reply (front ++ (asksGiving Solution answer (s ∷ []) ∷ [])) [])) ≡ reply (front ++ (asksGiving Solution answer (s ∷ []) ∷ [])) []
+unfolding numbered reply
+state-back front answer s p h f = go (ℕ-discrete (firstNo front) 0)
+  where
+    last : List Asked
+    last = asksGiving Solution answer (s ∷ []) ∷ []
+
+    earlier : (q : ℕ) → q < 9 → (q ≡ 0 → ⊥) → stateReply (code (refused q [])) ≡ refused q []
+    earlier q l n =
+        let e : q % 256 ≡ q = omega arith in
+        let other : q ≡ 9 → ⊥ = λ z. omega arith in
+        rw (e, ne-eqb q 9 other) (sym (numbered-some q [] n))
+
+    asked-last : (b : Bool) → s < 4294967296
+        → stateReply (code (reply (asksGiving Solution b (s ∷ []) ∷ []) [])) ≡ reply (asksGiving Solution b (s ∷ []) ∷ []) []
+    asked-last true l = refl
+    asked-last false l =
         let n : (9 + 256 * s) % 256 ≡ 9 = omega arith in
         let v : (9 + 256 * s) / 256 ≡ s = omega arith in
-        rw (e, narrow-small s (f (eqb-true q 9 e)), n, v)
-    go (inr e) = rw e (other q h e)
+        rw (narrow-small s l, n, v)
+
+    go : Dec (firstNo front ≡ 0) → stateReply (code (reply (front ++ last) [])) ≡ reply (front ++ last) []
+    go (yes z) = rw (← reply-behind front last [] z) (asked-last answer (f z))
+    go (no n) = rw (← reply-stops front last [] p n) (earlier (firstNo front) h n)
 
 count-back : (count : ℕ) → count < 4294967296 → countReply (code (accepted (count ∷ []))) ≡ accepted (count ∷ [])
 count-back count h =
@@ -126,7 +152,7 @@ module _ (route U G used k : ℕ) (hr : route < 256) (hu : U < 256) (hg : G < 25
   back-state = omega arith
 
   fields-back : entryReply whole ≡ accepted (route ∷ U ∷ G ∷ used ∷ stateIn k)
-  unfolding reply
+  unfolding numbered
   fields-back = rw (low, back-route, back-unknowns, back-givens, back-used, back-state)
 
 module _ (route U G used : ℕ) where
@@ -139,47 +165,58 @@ module _ (route U G used : ℕ) where
       fields-back route U G used (1 + state .0 % 256) (f .of-route) (f .of-unknowns) (f .of-givens) (f .of-length)
       ∙ ap (λ (k : ℕ). accepted (route ∷ U ∷ G ∷ used ∷ stateIn k)) e
 
-  entry-back : (v : Verdict (List ℕ)) (q : ℕ) → q < 256 → (q ≡ 0 → Fit route U G used v)
-      → entryReply (entryCode (reply q (route ∷ U ∷ G ∷ used ∷ stateOf v))) ≡ reply q (route ∷ U ∷ G ∷ used ∷ stateOf v)
-  unfolding reply
-  entry-back v zero h f = values-back v (f refl)
-  entry-back v (suc n) h f = let e : suc n % 256 ≡ suc n = omega arith in rw e
+  entry-back : (questions : List Asked) (v : Verdict (List ℕ)) → givesNothing questions ≡ true → firstNo questions < 256
+      → (firstNo questions ≡ 0 → Fit route U G used v)
+      → entryReply (entryCode (reply questions (route ∷ U ∷ G ∷ used ∷ stateOf v))) ≡ reply questions (route ∷ U ∷ G ∷ used ∷ stateOf v)
+  unfolding numbered
+  entry-back questions v p h f = rw (reply-numbered questions (route ∷ U ∷ G ∷ used ∷ stateOf v) p) (go (firstNo questions) h f)
+    where
+      go : (q : ℕ) → q < 256 → (q ≡ 0 → Fit route U G used v)
+          → entryReply (entryCode (numbered q (route ∷ U ∷ G ∷ used ∷ stateOf v))) ≡ numbered q (route ∷ U ∷ G ∷ used ∷ stateOf v)
+      go zero l fit = values-back v (fit refl)
+      go (suc n) l fit = let e : suc n % 256 ≡ suc n = omega arith in rw e
 
 -- ---- the answers of the calls
 -- the sum, the product, handed polynomials put into a condition, reading a text, handed Löwenheim
-pub pair-decoded : (U G : ℕ) (a b out : List ℕ) → plainReply (code (reply (pairRefusal U G a b out) [])) ≡ reply (pairRefusal U G a b out) []
-unfolding pairRefusal tableQuestions numbersBelow
-pair-decoded U G a b out = plain-back _ (first-below 256 _ (omega arith) refl)
+pub pair-decoded : (U G : ℕ) (a b : List ℕ) (room : ℕ)
+    → plainReply (code (reply (pairQuestions U G a b room) [])) ≡ reply (pairQuestions U G a b room) []
+unfolding pairQuestions bufferQuestions roomQuestions bitQuestions numbersBelow
+pair-decoded U G a b room = plain-back (pairQuestions U G a b room) refl (first-below 256 (pairQuestions U G a b room) (omega arith) refl)
 
-pub substitute-decoded : (U G : ℕ) (condition handed out : List ℕ)
-    → plainReply (code (reply (substituteRefusal U G condition handed out) [])) ≡ reply (substituteRefusal U G condition handed out) []
-unfolding substituteRefusal tableQuestions numbersBelow
-substitute-decoded U G condition handed out = plain-back _ (first-below 256 _ (omega arith) refl)
+pub substitute-decoded : (U G : ℕ) (condition handed : List ℕ) (room : ℕ)
+    → plainReply (code (reply (substituteQuestions U G condition handed room) [])) ≡ reply (substituteQuestions U G condition handed room) []
+unfolding substituteQuestions bufferQuestions roomQuestions bitQuestions numbersBelow
+substitute-decoded U G condition handed room =
+    plain-back (substituteQuestions U G condition handed room) refl (first-below 256 (substituteQuestions U G condition handed room) (omega arith) refl)
 
-pub text-decoded : (U G : ℕ) (text : List ℕ) (room : ℕ) → plainReply (code (reply (textRefusal U G text room) [])) ≡ reply (textRefusal U G text room) []
-unfolding textRefusal textQuestions numbersBelow
-text-decoded U G text room = plain-back _ (first-below 256 _ (omega arith) refl)
+pub text-decoded : (U G : ℕ) (text : List ℕ) (room : ℕ)
+    → plainReply (code (reply (textQuestions U G text room) [])) ≡ reply (textQuestions U G text room) []
+unfolding textQuestions bufferQuestions roomQuestions bitQuestions numbersBelow
+text-decoded U G text room = plain-back (textQuestions U G text room) refl (first-below 256 (textQuestions U G text room) (omega arith) refl)
 
-pub handed-decoded : (U G : ℕ) (condition handed answers : List ℕ)
-    → plainReply (code (reply (handedRefusal U G condition handed answers) [])) ≡ reply (handedRefusal U G condition handed answers) []
-unfolding handedRefusal tableQuestions numbersBelow
-handed-decoded U G condition handed answers = plain-back _ (first-below 256 _ (omega arith) refl)
+pub handed-decoded : (U G : ℕ) (condition handed : List ℕ) (room : ℕ)
+    → plainReply (code (reply (handedQuestions U G condition handed room) [])) ≡ reply (handedQuestions U G condition handed room) []
+unfolding handedQuestions bufferQuestions roomQuestions bitQuestions numbersBelow
+handed-decoded U G condition handed room =
+    plain-back (handedQuestions U G condition handed room) refl (first-below 256 (handedQuestions U G condition handed room) (omega arith) refl)
 
 -- the value of a table, 0 or 1
 pub value-decoded : (U G : ℕ) (t : List ℕ) (state : State) (choice : Choice)
-    → valueReply (code (reply (valueRefusal U G t state choice) (valueAt U G t state choice ∷ []))) ≡ reply (valueRefusal U G t state choice) (valueAt U G t state choice ∷ [])
-unfolding valueRefusal valueAt tableQuestions numbersBelow
+    → valueReply (code (reply (valueQuestions U G t state choice) (valueAt U G t state choice ∷ [])))
+    ≡ reply (valueQuestions U G t state choice) (valueAt U G t state choice ∷ [])
+unfolding valueQuestions valueAt bufferQuestions roomQuestions bitQuestions numbersBelow
 value-decoded U G t state choice =
-    value-back _ _ (first-below 256 _ (omega arith) refl) (λ z. omega (arith, digit-lt (value (U + G) (present t) (point U state choice))))
+    value-back (valueQuestions U G t state choice) _ refl (first-below 256 (valueQuestions U G t state choice) (omega arith) refl)
+    (λ z. omega (arith, digit-lt (value (U + G) (present t) (point U state choice))))
 
 -- the length written, which is an entry's
 pub written-decoded : (route U G : ℕ) (condition : List ℕ) (room : ℕ)
-    → valueReply (code (reply (writeRefusal route U G condition room) (length (archived route U G condition) ∷ [])))
-    ≡ reply (writeRefusal route U G condition room) (length (archived route U G condition) ∷ [])
-unfolding writeRefusal writeQuestions numbersBelow archived firstNo
+    → valueReply (code (reply (writeQuestions route U G condition room) (length (lentEntry route U G condition) ∷ [])))
+    ≡ reply (writeQuestions route U G condition room) (length (lentEntry route U G condition) ∷ [])
+unfolding writeQuestions bufferQuestions roomQuestions bitQuestions numbersBelow
 written-decoded route U G condition room =
-    value-back _ _ (first-below 256 (writeQuestions route U G condition room) (omega arith) refl)
-    (λ z. omega (arith, entry-bound route U G (take (2 ^ (U + G)) condition) (yes-to (lettersFit U G) _ 0 z .0)))
+    value-back (writeQuestions route U G condition room) _ refl (first-below 256 (writeQuestions route U G condition room) (omega arith) refl)
+    (λ z. omega (arith, entry-bound route (lentCondition U G condition) (yes-to Letters (lettersFit U G) [] _ z .0)))
 
 -- Boole, the particular solution, own Löwenheim: the state is one of G givens, at most 8
 givens-few : (U G : ℕ) → lettersFit U G ≡ true → 2 ^ G ≤ 256
@@ -195,55 +232,55 @@ smallest-most (suc k) test = go (test 0) (smallest-most k (λ i. test (suc i)))
     go true l = omega arith
     go false l = omega arith
 
-asked-first : (letters : Bool) (behind : ℕ) → cond letters behind 1 ≡ 9 → letters ≡ true
-asked-first true behind e = refl
-asked-first false behind e = absurd (omega arith)
+module _ (U G : ℕ) (condition : List ℕ) (room : ℕ) where
+  -- those before question 9
+  before-solution : List Asked
+  before-solution = asks Letters (lettersFit U G) ∷ bufferQuestions (reads (2 ^ (U + G)) condition ∷ writes (U * 2 ^ (U + G)) room ∷ [])
 
-module _ (U G : ℕ) (condition answers : List ℕ) where
-  solving-below : solvingRefusal U G condition answers < 256
-  unfolding solvingRefusal tableQuestions numbersBelow
-  solving-below = first-below 256 _ (omega arith) refl
+  state-small : firstNo before-solution ≡ 0 → smallestBlocked U G (polynomial (lentCondition U G condition)) .0 < 4294967296
+  unfolding before-solution smallestBlocked
+  state-small z =
+      let letters = yes-to Letters (lettersFit U G) [] _ z .0 in
+      omega (arith, smallest-most (2 ^ G) (λ s. blocked U G (polynomial (lentCondition U G condition)) (record { 0 = s })), givens-few U G letters)
 
-  state-small : solvingRefusal U G condition answers ≡ 9 → smallestBlocked U G (present condition) .0 < 4294967296
-  unfolding solvingRefusal tableQuestions firstNo smallestBlocked
-  state-small e = omega (arith, smallest-most (2 ^ G) (λ s. blocked U G (present condition) (record { 0 = s })), givens-few U G (asked-first (lettersFit U G) _ e))
-
-  pub solving-decoded : stateReply (code (solvingReply U G condition answers)) ≡ solvingReply U G condition answers
-  unfolding solvingReply
-  solving-decoded = state-back (solvingRefusal U G condition answers) _ solving-below state-small
+  pub solving-decoded : stateReply (code (reply (solvingQuestions U G condition room) [])) ≡ reply (solvingQuestions U G condition room) []
+  unfolding before-solution solvingQuestions bufferQuestions roomQuestions bitQuestions numbersBelow
+  solving-decoded = state-back before-solution _ _ refl (first-below 9 before-solution (omega arith) refl) state-small
 
 -- reading and the audit: what passes 10, 11, 1, 2 and 12 is an entry of what it holds
-module _ (bs : List ℕ) where
+module _ (bs : List ℕ) (are : AreBytes bs) where
   entry-fits : firstNo (entryQuestions (records bs)) ≡ 0
       → Fit (routeOf (records bs)) (unknownsOf (records bs)) (givensOf (records bs)) (length (bytes (records bs))) (heldVerdict (records bs))
-  unfolding routeFits
+  unfolding routeFits heldCondition
   entry-fits z =
       let rs : List Record = records bs in
-      let p : Passes rs = passes rs z in
+      let p : Passes rs = passes-exactly rs .0 z in
       let n : unknownsOf rs + givensOf rs ≤ 10 = letters-small _ _ (p .letters) in
-      let c : rs ≡ entryRecords (routeOf rs) (unknownsOf rs) (givensOf rs) (heldCondition rs) (heldVerdict rs) = canonical rs (p .kinds) (records-end bs) n (p .numbers) in
-      let m : length (bytes rs) ≡ length (bytes (entryRecords (routeOf rs) (unknownsOf rs) (givensOf rs) (heldCondition rs) (heldVerdict rs))) = ap (λ (l : List Record). length (bytes l)) c in
+      let c : rs ≡ entryRecords (routeOf rs) (heldCondition rs) (heldVerdict rs) = canonical rs (records-made bs are) (p .kinds) (records-end bs) n (p .numbers) in
+      let m : length (bytes rs) ≡ length (bytes (entryRecords (routeOf rs) (heldCondition rs) (heldVerdict rs))) = ap (λ (l : List Record). length (bytes l)) c in
       record {
         of-route = omega (arith, leb-true (routeOf rs) 250 (and-right (leb 1 (routeOf rs)) (leb (routeOf rs) 250) (p .route)));
         of-unknowns = omega arith;
         of-givens = omega arith;
-        of-length = omega (arith, entry-most (routeOf rs) (unknownsOf rs) (givensOf rs) (heldCondition rs) (heldVerdict rs) (unknowns-small _ _ (p .letters)) n);
+        of-length = omega (arith, entry-most (routeOf rs) (heldCondition rs) (heldVerdict rs) (unknowns-small _ _ (p .letters)) n);
         of-state = λ state e.
-            let f : state .0 < 2 ^ givensOf rs = subst (VerdictFits (unknownsOf rs) (givensOf rs)) e (held-fits rs (p .kinds) (records-end bs) n (p .numbers)) in
+            let f : state .0 < 2 ^ givensOf rs = subst (VerdictFits (unknownsOf rs) (givensOf rs)) e (held-fits rs (records-made bs are) (p .kinds) (records-end bs) n (p .numbers)) in
             omega (arith, givens-few (unknownsOf rs) (givensOf rs) (p .letters));
       }
 
   pub read-decoded : (room answerRoom : ℕ)
-      → entryReply (entryCode (reply (readRefusal bs room answerRoom) (readValues (records bs)))) ≡ reply (readRefusal bs room answerRoom) (readValues (records bs))
-  unfolding readRefusal readQuestions readValues entryQuestions numbersBelow
+      → entryReply (entryCode (reply (readQuestions (records bs) room answerRoom) (readValues (records bs))))
+      ≡ reply (readQuestions (records bs) room answerRoom) (readValues (records bs))
+  unfolding readQuestions readValues entryQuestions bufferQuestions roomQuestions bitQuestions numbersBelow
   read-decoded room answerRoom =
-      entry-back _ _ _ _ (heldVerdict (records bs)) (firstNo (readQuestions (records bs) room answerRoom)) (first-below 256 (readQuestions (records bs) room answerRoom) (omega arith) refl)
+      entry-back _ _ _ _ (readQuestions (records bs) room answerRoom) (heldVerdict (records bs)) refl
+      (first-below 256 (readQuestions (records bs) room answerRoom) (omega arith) refl)
       (λ z. entry-fits (asked-before (entryQuestions (records bs)) _ z))
 
-  pub audit-decoded : entryReply (entryCode (auditReply bs)) ≡ auditReply bs
-  unfolding auditReply auditRefusal auditQuestions readValues entryQuestions numbersBelow
+  pub audit-decoded : entryReply (entryCode (reply (auditQuestions (records bs)) (readValues (records bs)))) ≡ reply (auditQuestions (records bs)) (readValues (records bs))
+  unfolding auditQuestions readValues entryQuestions numbersBelow
   audit-decoded =
-      entry-back _ _ _ _ (heldVerdict (records bs)) (firstNo (auditQuestions (records bs))) (first-below 256 (auditQuestions (records bs)) (omega arith) refl)
+      entry-back _ _ _ _ (auditQuestions (records bs)) (heldVerdict (records bs)) refl (first-below 256 (auditQuestions (records bs)) (omega arith) refl)
       (λ z. entry-fits (asked-before (entryQuestions (records bs)) _ z))
 
 -- a walk

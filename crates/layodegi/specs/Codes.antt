@@ -6,7 +6,7 @@ use mathlib.Core.List.{List, [], _∷_}
 use Prim.Native.Nat.{ℕ, zero, suc, _+_, _*_, _/_, _%_}
 use lib.Dec.{eqb}
 use lib.ListN.{getD, drop}
-use Rattle.tables.specs.Answered.{Reply, accepted, refused, reply}
+use Rattle.tables.specs.Answered.{Reply, accepted, refused}
 
 -- a value as 32 bits; every value that a call gives is smaller
 abbrev pub narrow : ℕ → ℕ
@@ -43,17 +43,22 @@ numberIn c = c % 256
 abbrev pub valueIn : ℕ → ℕ
 valueIn c = c / 256
 
+-- the answer of a call whose first no has this number, 0 for none, and gives nothing with it
+unfoldable pub numbered : ℕ → List ℕ → Reply
+numbered zero values = accepted values
+numbered (suc number) values = refused (suc number) []
+
 -- the answer of a call that gives no value
 abbrev pub plainReply : ℕ → Reply
-plainReply c = reply (numberIn c) []
+plainReply c = numbered (numberIn c) []
 
 -- of one that gives a value: that of a table, or the length written
 abbrev pub valueReply : ℕ → Reply
-valueReply c = reply (numberIn c) (valueIn c ∷ [])
+valueReply c = numbered (numberIn c) (valueIn c ∷ [])
 
 -- of a solving call: question 9 'also gives the state'
 abbrev pub stateReply : ℕ → Reply
-stateReply c = cond (eqb (numberIn c) 9) (refused 9 (valueIn c ∷ [])) (reply (numberIn c) [])
+stateReply c = cond (eqb (numberIn c) 9) (refused 9 (valueIn c ∷ [])) (numbered (numberIn c) [])
 
 -- of a walk: 'the count of entries .., or the refusal with the count passed before it'
 abbrev pub countReply : ℕ → Reply
@@ -66,4 +71,4 @@ stateIn (suc state) = state ∷ []
 
 -- .. behind the route, U, G and the length used
 abbrev pub entryReply : ℕ → Reply
-entryReply c = reply (numberIn c) (c / 256 % 256 ∷ c / 65536 % 256 ∷ c / 16777216 % 256 ∷ c / 4294967296 % 65536 ∷ stateIn (c / 281474976710656))
+entryReply c = numbered (numberIn c) (c / 256 % 256 ∷ c / 65536 % 256 ∷ c / 16777216 % 256 ∷ c / 4294967296 % 65536 ∷ stateIn (c / 281474976710656))

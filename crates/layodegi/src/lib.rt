@@ -1,35 +1,24 @@
 // The library as C and Rust see it: one exported function for each public call, on numbers and byte slices.
 // A slice passes as a pointer and then a length. Each function has the contract of its call, with the answer as a code (`specs/Codes.antt`).
-use calls::Read;
-use calls::Valued;
-use calls::Read;
 use calls::Heading;
-use calls::Verdict;
-use ring::Choice;
-use ring::State;
-use calls::Solving;
 use calls::Outcome;
+use calls::Read;
+use calls::Solving;
+use calls::Valued;
+use calls::Verdict;
 use calls::Walked;
 use calls::Written;
+use ring::Choice;
+use ring::State;
 ghost use mathlib.Core.Path.{_≡_};
 ghost use mathlib.Core.List.{[], _∷_};
 ghost use Prim.Native.Nat.{_%_, _<_, _≤_};
-ghost use lib.ListN.{length};
-ghost use Rattle.tables.specs.Answered.{reply, after, outcome};
-ghost use Rattle.calls.specs.Operations.{valued, valueAt, sumTable, productTable, substituteTable};
-ghost use Rattle.calls.specs.GONE.{valueRefusal, pairRefusal, substituteRefusal};
-ghost use Rattle.grammar.specs.Text.{textTable};
-ghost use Rattle.calls.specs.GONE.{textRefusal};
-ghost use Rattle.calls.specs.Solving.{solving, handedTable};
-ghost use Rattle.calls.specs.GONE.{solvingReply, solvingRefusal, booleTable, particularTable, lowenheimTable, handedRefusal};
-ghost use Rattle.entry.specs.Held.{records, heldCondition};
-ghost use Rattle.calls.specs.Entries.{reading, readValues};
-ghost use Rattle.calls.specs.GONE.{readRefusal, heldAnswers};
-ghost use Rattle.calls.specs.Entries.{written};
-ghost use Rattle.calls.specs.GONE.{writeRefusal, archived};
-ghost use Rattle.calls.specs.GONE.{audited, auditReply};
-ghost use Rattle.calls.specs.Entries.{stateSaid};
-ghost use Rattle.calls.specs.Walk.{walked, walkReply};
+ghost use Rattle.tables.specs.Answered.{answered, coded};
+ghost use Rattle.calls.specs.Operations.{outcome, valued, valueCall, sumCall, productCall, substituteCall};
+ghost use Rattle.calls.specs.Text.{textCall};
+ghost use Rattle.calls.specs.Solving.{solving, booleCall, particularCall, lowenheimCall, handedCall};
+ghost use Rattle.calls.specs.Entries.{written, writeCall, stateSaid, reading, readCall, auditCall};
+ghost use Rattle.calls.specs.Walk.{walked, walkCall};
 ghost use Rattle.layodegi.specs.Codes.{code, stateCode, headingCode, entryCode};
 
 // A value as 32 bits; every value that a call gives is smaller.
@@ -61,8 +50,10 @@ fn solving_code(r: Solving) -> u64
     ensures { λ c. ⌜ c ≡ code (solving r) ⌝ }
 {
     match r {
-        Solving::Solved => 0,
-        Solving::None(state) => 9 + 256 * narrow(state.0),
+        Solving::Said(verdict) => match verdict {
+            Verdict::Solved => 0,
+            Verdict::None(state) => 9 + 256 * narrow(state.0),
+        },
         Solving::Refused(q) => q as u64,
     }
 }
@@ -106,12 +97,12 @@ fn heading_code(h: Heading) -> u64
         + 4294967296 * two_bytes_of(h.used)
 }
 
-fn said_code(s: Said) -> u64
-    ensures { λ c. ⌜ (c ≡ stateCode (stateSaid s)) × (c ≤ 256) ⌝ }
+fn verdict_code(verdict: Verdict) -> u64
+    ensures { λ c. ⌜ (c ≡ stateCode (stateSaid verdict)) × (c ≤ 256) ⌝ }
 {
-    match s {
-        Said::Solved => 0,
-        Said::None(state) => 1 + byte_of(state.0),
+    match verdict {
+        Verdict::Solved => 0,
+        Verdict::None(state) => 1 + byte_of(state.0),
     }
 }
 
@@ -119,176 +110,141 @@ fn read_code(r: Read) -> u64
     ensures { λ c. ⌜ c ≡ entryCode (reading r) ⌝ }
 {
     match r {
-        Read::Solved(heading) => heading_code(heading),
-        Read::None(heading, state) => {
-            heading_code(heading) + 281474976710656 * said_code(Said::None(state))
-        }
+        Read::Entry(heading, verdict) => heading_code(heading)
+            + 281474976710656 * verdict_code(verdict),
         Read::Refused(q) => q as u64,
-    }
-}
-
-fn audit_code(r: Audited) -> u64
-    ensures { λ c. ⌜ c ≡ entryCode (audited r) ⌝ }
-{
-    match r {
-        Audited::Passed(heading, said) => {
-            heading_code(heading) + 281474976710656 * said_code(said)
-        }
-        Audited::Refused(q) => q as u64,
     }
 }
 
 // The value of a table at a state and a choice.
 #[no_mangle]
 pub extern "C" fn layodegi_value(
-    unknowns: usize,
-    givens: usize,
+    u: usize,
+    g: usize,
     table: &[u8],
     state: usize,
     choice: usize,
 ) -> u64
-    ensures { λ c. ⌜ c ≡ code (reply (valueRefusal unknowns givens (now (table .entry)) (record { 0 = state }) (record { 0 = choice })) (valueAt unknowns givens (now (table .entry)) (record { 0 = state }) (record { 0 = choice }) ∷ [])) ⌝ }
+    ensures { λ c. ⌜ answered c []
+        ≡ coded code (valueCall u g (now (table .entry)) (record { 0 = state }) (record { 0 = choice })) ⌝ }
 {
-    value_code(operations::value(unknowns, givens, table, State(state), Choice(choice)))
+    value_code(operations::value(u, g, table, State(state), Choice(choice)))
 }
 
 // The sum of two tables.
 #[no_mangle]
-pub extern "C" fn layodegi_sum(
-    unknowns: usize,
-    givens: usize,
-    a: &[u8],
-    b: &[u8],
-    out: &mut [u8],
-) -> u64
-    ensures { λ c. ⌜ c ≡ code (reply (pairRefusal unknowns givens (now (a .entry)) (now (b .entry)) (now (out .entry))) []) ⌝ }
-    ensures { λ _. ⌜ now (out .exit) ≡ after (pairRefusal unknowns givens (now (a .entry)) (now (b .entry)) (now (out .entry))) (sumTable unknowns givens (now (a .entry)) (now (b .entry))) (now (out .entry)) ⌝ }
+pub extern "C" fn layodegi_sum(u: usize, g: usize, a: &[u8], b: &[u8], out: &mut [u8]) -> u64
+    ensures { λ c. ⌜ answered c (now (out .exit) ∷ [])
+        ≡ coded code (sumCall u g (now (a .entry)) (now (b .entry)) (now (out .entry))) ⌝ }
 {
-    outcome_code(operations::sum(unknowns, givens, a, b, out))
+    outcome_code(operations::sum(u, g, a, b, out))
 }
 
 // The product of two tables.
 #[no_mangle]
-pub extern "C" fn layodegi_product(
-    unknowns: usize,
-    givens: usize,
-    a: &[u8],
-    b: &[u8],
-    out: &mut [u8],
-) -> u64
-    ensures { λ c. ⌜ c ≡ code (reply (pairRefusal unknowns givens (now (a .entry)) (now (b .entry)) (now (out .entry))) []) ⌝ }
-    ensures { λ _. ⌜ now (out .exit) ≡ after (pairRefusal unknowns givens (now (a .entry)) (now (b .entry)) (now (out .entry))) (productTable unknowns givens (now (a .entry)) (now (b .entry))) (now (out .entry)) ⌝ }
+pub extern "C" fn layodegi_product(u: usize, g: usize, a: &[u8], b: &[u8], out: &mut [u8]) -> u64
+    ensures { λ c. ⌜ answered c (now (out .exit) ∷ [])
+        ≡ coded code (productCall u g (now (a .entry)) (now (b .entry)) (now (out .entry))) ⌝ }
 {
-    outcome_code(operations::product(unknowns, givens, a, b, out))
+    outcome_code(operations::product(u, g, a, b, out))
 }
 
 // Handed polynomials put for the unknowns of a condition.
 #[no_mangle]
 pub extern "C" fn layodegi_substitute(
-    unknowns: usize,
-    givens: usize,
+    u: usize,
+    g: usize,
     condition: &[u8],
     handed: &[u8],
     out: &mut [u8],
 ) -> u64
-    ensures { λ c. ⌜ c ≡ code (reply (substituteRefusal unknowns givens (now (condition .entry)) (now (handed .entry)) (now (out .entry))) []) ⌝ }
-    ensures { λ _. ⌜ now (out .exit) ≡ after (substituteRefusal unknowns givens (now (condition .entry)) (now (handed .entry)) (now (out .entry))) (substituteTable unknowns givens (now (condition .entry)) (now (handed .entry))) (now (out .entry)) ⌝ }
+    ensures { λ c. ⌜ answered c (now (out .exit) ∷ [])
+        ≡ coded code (substituteCall u g (now (condition .entry)) (now (handed .entry)) (now (out .entry))) ⌝ }
 {
-    outcome_code(operations::substitute(unknowns, givens, condition, handed, out))
+    outcome_code(operations::substitute(u, g, condition, handed, out))
 }
 
 // The table that a text is read into.
 #[no_mangle]
-pub extern "C" fn layodegi_read_text(
-    unknowns: usize,
-    givens: usize,
-    text: &[u8],
-    condition: &mut [u8],
-) -> u64
-    ensures { λ c. ⌜ c ≡ code (reply (textRefusal unknowns givens (now (text .entry)) (length (now (condition .entry)))) []) ⌝ }
-    ensures { λ _. ⌜ now (condition .exit) ≡ after (textRefusal unknowns givens (now (text .entry)) (length (now (condition .entry)))) (textTable unknowns givens (now (text .entry))) (now (condition .entry)) ⌝ }
+pub extern "C" fn layodegi_read_text(u: usize, g: usize, text: &[u8], condition: &mut [u8]) -> u64
+    ensures { λ c. ⌜ answered c (now (condition .exit) ∷ [])
+        ≡ coded code (textCall u g (now (text .entry)) (now (condition .entry))) ⌝ }
 {
-    outcome_code(notation::read_text(unknowns, givens, text, condition))
+    outcome_code(notation::read_text(u, g, text, condition))
 }
 
 // Boole's answers.
 #[no_mangle]
-pub extern "C" fn layodegi_boole(
-    unknowns: usize,
-    givens: usize,
-    condition: &[u8],
-    answers: &mut [u8],
-) -> u64
-    ensures { λ c. ⌜ c ≡ code (solvingReply unknowns givens (now (condition .entry)) (now (answers .entry))) ⌝ }
-    ensures { λ _. ⌜ now (answers .exit) ≡ after (solvingRefusal unknowns givens (now (condition .entry)) (now (answers .entry))) (booleTable unknowns givens (now (condition .entry))) (now (answers .entry)) ⌝ }
+pub extern "C" fn layodegi_boole(u: usize, g: usize, condition: &[u8], answers: &mut [u8]) -> u64
+    ensures { λ c. ⌜ answered c (now (answers .exit) ∷ [])
+        ≡ coded code (booleCall u g (now (condition .entry)) (now (answers .entry))) ⌝ }
 {
-    solving_code(solver::boole(unknowns, givens, condition, answers))
+    solving_code(solver::boole(u, g, condition, answers))
 }
 
 // The particular solution.
 #[no_mangle]
 pub extern "C" fn layodegi_particular(
-    unknowns: usize,
-    givens: usize,
+    u: usize,
+    g: usize,
     condition: &[u8],
     answers: &mut [u8],
 ) -> u64
-    ensures { λ c. ⌜ c ≡ code (solvingReply unknowns givens (now (condition .entry)) (now (answers .entry))) ⌝ }
-    ensures { λ _. ⌜ now (answers .exit) ≡ after (solvingRefusal unknowns givens (now (condition .entry)) (now (answers .entry))) (particularTable unknowns givens (now (condition .entry))) (now (answers .entry)) ⌝ }
+    ensures { λ c. ⌜ answered c (now (answers .exit) ∷ [])
+        ≡ coded code (particularCall u g (now (condition .entry)) (now (answers .entry))) ⌝ }
 {
-    solving_code(solver::particular(unknowns, givens, condition, answers))
+    solving_code(solver::particular(u, g, condition, answers))
 }
 
 // Löwenheim's answers from the particular solution.
 #[no_mangle]
 pub extern "C" fn layodegi_lowenheim(
-    unknowns: usize,
-    givens: usize,
+    u: usize,
+    g: usize,
     condition: &[u8],
     answers: &mut [u8],
 ) -> u64
-    ensures { λ c. ⌜ c ≡ code (solvingReply unknowns givens (now (condition .entry)) (now (answers .entry))) ⌝ }
-    ensures { λ _. ⌜ now (answers .exit) ≡ after (solvingRefusal unknowns givens (now (condition .entry)) (now (answers .entry))) (lowenheimTable unknowns givens (now (condition .entry))) (now (answers .entry)) ⌝ }
+    ensures { λ c. ⌜ answered c (now (answers .exit) ∷ [])
+        ≡ coded code (lowenheimCall u g (now (condition .entry)) (now (answers .entry))) ⌝ }
 {
-    solving_code(solver::lowenheim(unknowns, givens, condition, answers))
+    solving_code(solver::lowenheim(u, g, condition, answers))
 }
 
 // Löwenheim's formula on handed polynomials.
 #[no_mangle]
 pub extern "C" fn layodegi_lowenheim_handed(
-    unknowns: usize,
-    givens: usize,
+    u: usize,
+    g: usize,
     condition: &[u8],
     handed: &[u8],
     answers: &mut [u8],
 ) -> u64
-    ensures { λ c. ⌜ c ≡ code (reply (handedRefusal unknowns givens (now (condition .entry)) (now (handed .entry)) (now (answers .entry))) []) ⌝ }
-    ensures { λ _. ⌜ now (answers .exit) ≡ after (handedRefusal unknowns givens (now (condition .entry)) (now (handed .entry)) (now (answers .entry))) (handedTable unknowns givens (now (condition .entry)) (now (handed .entry))) (now (answers .entry)) ⌝ }
+    ensures { λ c. ⌜ answered c (now (answers .exit) ∷ [])
+        ≡ coded code (handedCall u g (now (condition .entry)) (now (handed .entry)) (now (answers .entry))) ⌝ }
 {
-    outcome_code(solver::lowenheim_handed(unknowns, givens, condition, handed, answers))
+    outcome_code(solver::lowenheim_handed(u, g, condition, handed, answers))
 }
 
 // Writes the entry of a condition: the code has its length.
 #[no_mangle]
 pub extern "C" fn layodegi_write_entry(
     route: usize,
-    unknowns: usize,
-    givens: usize,
+    u: usize,
+    g: usize,
     condition: &[u8],
     out: &mut [u8],
 ) -> u64
-    ensures { λ c. ⌜ c ≡ code (reply (writeRefusal route unknowns givens (now (condition .entry)) (length (now (out .entry)))) (length (archived route unknowns givens (now (condition .entry))) ∷ [])) ⌝ }
-    ensures { λ _. ⌜ now (out .exit) ≡ after (writeRefusal route unknowns givens (now (condition .entry)) (length (now (out .entry)))) (archived route unknowns givens (now (condition .entry))) (now (out .entry)) ⌝ }
+    ensures { λ c. ⌜ answered c (now (out .exit) ∷ [])
+        ≡ coded code (writeCall route u g (now (condition .entry)) (now (out .entry))) ⌝ }
 {
-    written_code(writer::write_entry(route, unknowns, givens, condition, out))
+    written_code(writer::write_entry(route, u, g, condition, out))
 }
 
 // Reads an entry into a condition table and, if it is solved, answer tables.
 #[no_mangle]
 pub extern "C" fn layodegi_read_entry(bytes: &[u8], condition: &mut [u8], answers: &mut [u8]) -> u64
-    ensures { λ c. ⌜ c ≡ entryCode (reply (readRefusal (now (bytes .entry)) (length (now (condition .entry))) (length (now (answers .entry)))) (readValues (records (now (bytes .entry))))) ⌝ }
-    ensures { λ _. ⌜ now (condition .exit) ≡ after (readRefusal (now (bytes .entry)) (length (now (condition .entry))) (length (now (answers .entry)))) (heldCondition (records (now (bytes .entry)))) (now (condition .entry)) ⌝ }
-    ensures { λ _. ⌜ now (answers .exit) ≡ after (readRefusal (now (bytes .entry)) (length (now (condition .entry))) (length (now (answers .entry)))) (heldAnswers (records (now (bytes .entry)))) (now (answers .entry)) ⌝ }
+    ensures { λ c. ⌜ answered c (now (condition .exit) ∷ now (answers .exit) ∷ [])
+        ≡ coded entryCode (readCall (now (bytes .entry)) (now (condition .entry)) (now (answers .entry))) ⌝ }
 {
     read_code(reader::read_entry(bytes, condition, answers))
 }
@@ -296,15 +252,15 @@ pub extern "C" fn layodegi_read_entry(bytes: &[u8], condition: &mut [u8], answer
 // Audits an entry.
 #[no_mangle]
 pub extern "C" fn layodegi_audit(bytes: &[u8]) -> u64
-    ensures { λ c. ⌜ c ≡ entryCode (auditReply (now (bytes .entry))) ⌝ }
+    ensures { λ c. ⌜ answered c [] ≡ coded entryCode (auditCall (now (bytes .entry))) ⌝ }
 {
-    audit_code(audit::audit(bytes))
+    read_code(audit::audit(bytes))
 }
 
 // Walks a volume from a place: the code has the count of entries that passed.
 #[no_mangle]
 pub extern "C" fn layodegi_walk(volume: &[u8], place: usize) -> u64
-    ensures { λ c. ⌜ c ≡ code (walkReply (now (volume .entry)) place) ⌝ }
+    ensures { λ c. ⌜ answered c [] ≡ coded code (walkCall (now (volume .entry)) place) ⌝ }
 {
     walk_code(volume::walk_volume(volume, place))
 }
