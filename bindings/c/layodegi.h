@@ -46,62 +46,61 @@ extern "C" {
 
 /* The questions, and the number if the answer is no. */
 enum layodegi_question {
-    LAYODEGI_YES = 0,               /* no question is answered no */
-    LAYODEGI_LETTERS = 1,           /* Are U at most 6, G at most 8, n at most 10? */
-    LAYODEGI_ROUTE = 2,             /* Is the route 1 to 250? */
-    LAYODEGI_TEXT_LENGTH = 3,       /* Has the text 1 to 200 bytes? */
-    LAYODEGI_BUFFER_LENGTH = 4,     /* Has each condition buffer 2^n bytes or more, and each answer or handed
-                                       buffer U times 2^n or more? */
-    LAYODEGI_SIGNS = 5,             /* Is every byte a sign of the notation or a space? */
-    LAYODEGI_DECLARED = 6,          /* Is every letter declared? */
-    LAYODEGI_GRAMMAR = 7,           /* Does the grammar read the whole text? */
-    LAYODEGI_TABLE_BYTES = 8,       /* Is each byte of a table lent to be read, as far as question 4's length,
-                                       0 or 1? */
-    LAYODEGI_SOLUTION = 9,          /* Has the condition a solution? (a no also gives the state) */
-    LAYODEGI_RECORDS = 10,          /* Does every record, to the first kind 4, have kind 1 to 5 and a whole body,
-                                       and is there a kind 4? */
-    LAYODEGI_KINDS = 11,            /* Are the kinds in the entry's order, both routes equal? */
-    LAYODEGI_NUMBERS = 12,          /* Are masks below 2^n, unknowns below U, the state below 2^G, all in order,
-                                       none twice? */
-    LAYODEGI_ANSWERS = 13,          /* Do the answers, or the state, equal those solved afresh? */
-    LAYODEGI_OUTPUT_LENGTH = 14,    /* Is the output at least as long as what is to be written? */
-    LAYODEGI_RISING_ROUTE = 15,     /* Is the route above the one before? */
-    LAYODEGI_STATE_AND_CHOICE = 16  /* Is the state below 2^G and the choice below 2^U? */
+    LAYODEGI_YES = 0,         /* no question is answered no */
+    LAYODEGI_LETTERS = 1,     /* Are U at most 6, G at most 8, n at most 10? */
+    LAYODEGI_ROUTE = 2,       /* Is the route 1 to 250? */
+    LAYODEGI_TEXT_LENGTH = 3, /* Has the text 1 to 200 bytes? */
+    LAYODEGI_ROOM = 4,        /* Has each condition buffer 2^n bytes or more, and each answer or handed buffer U
+                                 times 2^n or more? */
+    LAYODEGI_SIGNS = 5,       /* Is every byte a sign of the notation or a space? */
+    LAYODEGI_DECLARED = 6,    /* Is every letter declared? */
+    LAYODEGI_GRAMMAR = 7,     /* Does the grammar read the whole text? */
+    LAYODEGI_BITS = 8,        /* Is each byte of a table lent to be read, as far as question 4's length, 0 or 1? */
+    LAYODEGI_SOLUTION = 9,    /* Has the condition a solution? (a no also gives the state) */
+    LAYODEGI_RECORDS = 10,    /* Does every record, to the first kind 4, have kind 1 to 5 and a whole body, and is
+                                 there a kind 4? */
+    LAYODEGI_KINDS = 11,      /* Are the kinds in the entry's order, both routes equal? */
+    LAYODEGI_NUMBERS = 12,    /* Are masks below 2^n, unknowns below U, the state below 2^G, all in order, none
+                                 twice? */
+    LAYODEGI_AFRESH = 13,     /* Do the answers, or the state, equal those solved afresh? */
+    LAYODEGI_OUTPUT = 14,     /* Is the output at least as long as what is to be written? */
+    LAYODEGI_RISING = 15,     /* Is the route above the one before? */
+    LAYODEGI_RANGE = 16       /* Is the state below 2^G and the choice below 2^U? */
 };
 
 /*
  * Reads a text into the table of its polynomial. Questions 1, 3, 4, 5, 6, 7.
  * condition, written: 2^n bytes.
  */
-uint64_t layodegi_read_text(size_t unknowns, size_t givens, const uint8_t *text, size_t text_length,
+uint64_t layodegi_read_text(size_t u, size_t g, const uint8_t *text, size_t text_length,
                             uint8_t *condition, size_t condition_length);
 
 /*
  * The value of a table at a state and a choice. Questions 1, 4, 8, 16.
  * table: 2^n bytes. The code holds the value, 0 or 1 (layodegi_code_number).
  */
-uint64_t layodegi_value(size_t unknowns, size_t givens, const uint8_t *table, size_t table_length,
+uint64_t layodegi_value(size_t u, size_t g, const uint8_t *table, size_t table_length,
                         size_t state, size_t choice);
 
 /*
  * The sum of two tables. Questions 1, 4, 8.
  * a and b: 2^n bytes each; out, written: 2^n bytes.
  */
-uint64_t layodegi_sum(size_t unknowns, size_t givens, const uint8_t *a, size_t a_length,
+uint64_t layodegi_sum(size_t u, size_t g, const uint8_t *a, size_t a_length,
                       const uint8_t *b, size_t b_length, uint8_t *out, size_t out_length);
 
 /*
  * The product of two tables. Questions 1, 4, 8.
  * a and b: 2^n bytes each; out, written: 2^n bytes.
  */
-uint64_t layodegi_product(size_t unknowns, size_t givens, const uint8_t *a, size_t a_length,
+uint64_t layodegi_product(size_t u, size_t g, const uint8_t *a, size_t a_length,
                           const uint8_t *b, size_t b_length, uint8_t *out, size_t out_length);
 
 /*
  * A condition with the handed polynomials put for its unknowns, all at once. Questions 1, 4, 8.
  * condition: 2^n bytes; handed: U * 2^n bytes; out, written: 2^n bytes.
  */
-uint64_t layodegi_substitute(size_t unknowns, size_t givens, const uint8_t *condition, size_t condition_length,
+uint64_t layodegi_substitute(size_t u, size_t g, const uint8_t *condition, size_t condition_length,
                              const uint8_t *handed, size_t handed_length, uint8_t *out, size_t out_length);
 
 /*
@@ -109,28 +108,28 @@ uint64_t layodegi_substitute(size_t unknowns, size_t givens, const uint8_t *cond
  * condition: 2^n bytes; answers, written: U * 2^n bytes. With a no to 9 the code holds the smallest state in which
  * every choice gives the condition the value 1 (layodegi_code_number).
  */
-uint64_t layodegi_boole(size_t unknowns, size_t givens, const uint8_t *condition, size_t condition_length,
+uint64_t layodegi_boole(size_t u, size_t g, const uint8_t *condition, size_t condition_length,
                         uint8_t *answers, size_t answers_length);
 
 /*
  * The particular solution: Boole's answers with 0 put for all parameters. Questions 1, 4, 8, 9.
  * Buffers and code as for layodegi_boole.
  */
-uint64_t layodegi_particular(size_t unknowns, size_t givens, const uint8_t *condition, size_t condition_length,
+uint64_t layodegi_particular(size_t u, size_t g, const uint8_t *condition, size_t condition_length,
                              uint8_t *answers, size_t answers_length);
 
 /*
  * Loewenheim's answers, from the particular solution. Questions 1, 4, 8, 9.
  * Buffers and code as for layodegi_boole.
  */
-uint64_t layodegi_lowenheim(size_t unknowns, size_t givens, const uint8_t *condition, size_t condition_length,
+uint64_t layodegi_lowenheim(size_t u, size_t g, const uint8_t *condition, size_t condition_length,
                             uint8_t *answers, size_t answers_length);
 
 /*
  * Loewenheim's formula on handed polynomials, whether or not they solve the condition. Questions 1, 4, 8.
  * condition: 2^n bytes; handed: U * 2^n bytes; answers, written: U * 2^n bytes.
  */
-uint64_t layodegi_lowenheim_handed(size_t unknowns, size_t givens,
+uint64_t layodegi_lowenheim_handed(size_t u, size_t g,
                                    const uint8_t *condition, size_t condition_length,
                                    const uint8_t *handed, size_t handed_length,
                                    uint8_t *answers, size_t answers_length);
@@ -140,7 +139,7 @@ uint64_t layodegi_lowenheim_handed(size_t unknowns, size_t givens,
  * condition: 2^n bytes; out, written: as long as the entry, LAYODEGI_LONGEST_ENTRY is always enough. The code holds
  * the entry's length (layodegi_code_number).
  */
-uint64_t layodegi_write_entry(size_t route, size_t unknowns, size_t givens,
+uint64_t layodegi_write_entry(size_t route, size_t u, size_t g,
                               const uint8_t *condition, size_t condition_length,
                               uint8_t *out, size_t out_length);
 
@@ -167,16 +166,15 @@ uint64_t layodegi_audit(const uint8_t *bytes, size_t bytes_length);
 uint64_t layodegi_walk(const uint8_t *volume, size_t volume_length, size_t place);
 
 /* The bytes of a table, 2^n, and of an answer table, U * 2^n; 0 where question 1 is answered no. */
-static inline size_t layodegi_table_length(size_t unknowns, size_t givens)
+static inline size_t layodegi_table_length(size_t u, size_t g)
 {
-    int permitted = unknowns <= LAYODEGI_MOST_UNKNOWNS && givens <= LAYODEGI_MOST_GIVENS
-                    && unknowns + givens <= LAYODEGI_MOST_LETTERS;
-    return permitted ? (size_t)1 << (unknowns + givens) : 0;
+    int permitted = u <= LAYODEGI_MOST_UNKNOWNS && g <= LAYODEGI_MOST_GIVENS && u + g <= LAYODEGI_MOST_LETTERS;
+    return permitted ? (size_t)1 << (u + g) : 0;
 }
 
-static inline size_t layodegi_answers_length(size_t unknowns, size_t givens)
+static inline size_t layodegi_answers_length(size_t u, size_t g)
 {
-    return unknowns * layodegi_table_length(unknowns, givens);
+    return u * layodegi_table_length(u, g);
 }
 
 /* Of any code: the number of the first no, LAYODEGI_YES if there is none. */
@@ -235,7 +233,7 @@ static inline const char *layodegi_question_words(unsigned question)
         return "Is the route 1 to 250?";
     case LAYODEGI_TEXT_LENGTH:
         return "Has the text 1 to 200 bytes?";
-    case LAYODEGI_BUFFER_LENGTH:
+    case LAYODEGI_ROOM:
         return "Has each condition buffer 2^n bytes or more, "
                "and each answer or handed buffer U times 2^n or more?";
     case LAYODEGI_SIGNS:
@@ -244,7 +242,7 @@ static inline const char *layodegi_question_words(unsigned question)
         return "Is every letter declared?";
     case LAYODEGI_GRAMMAR:
         return "Does the grammar read the whole text?";
-    case LAYODEGI_TABLE_BYTES:
+    case LAYODEGI_BITS:
         return "Is each byte of a table lent to be read, as far as question 4's length, 0 or 1?";
     case LAYODEGI_SOLUTION:
         return "Has the condition a solution?";
@@ -255,13 +253,13 @@ static inline const char *layodegi_question_words(unsigned question)
         return "Are the kinds in the entry's order, both routes equal?";
     case LAYODEGI_NUMBERS:
         return "Are masks below 2^n, unknowns below U, the state below 2^G, all in order, none twice?";
-    case LAYODEGI_ANSWERS:
+    case LAYODEGI_AFRESH:
         return "Do the answers, or the state, equal those solved afresh?";
-    case LAYODEGI_OUTPUT_LENGTH:
+    case LAYODEGI_OUTPUT:
         return "Is the output at least as long as what is to be written?";
-    case LAYODEGI_RISING_ROUTE:
+    case LAYODEGI_RISING:
         return "Is the route above the one before?";
-    case LAYODEGI_STATE_AND_CHOICE:
+    case LAYODEGI_RANGE:
         return "Is the state below 2^G and the choice below 2^U?";
     default:
         return "no question of the paper";

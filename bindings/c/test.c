@@ -44,7 +44,7 @@ static void check_tables(void)
     CHECK(holds(out, "\0\1\1\1", 4));
     CHECK(layodegi_code_number(layodegi_value(1, 1, A, 4, 1, 0)) == 1);
     CHECK(layodegi_code_number(layodegi_value(1, 1, A, 4, 0, 1)) == 0);
-    CHECK(layodegi_code_question(layodegi_value(1, 1, A, 4, 2, 0)) == LAYODEGI_STATE_AND_CHOICE);
+    CHECK(layodegi_code_question(layodegi_value(1, 1, A, 4, 2, 0)) == LAYODEGI_RANGE);
     CHECK(layodegi_sum(2, 0, U_PLUS_V, 4, U_TIMES_V, 4, out, 4) == 0);
     CHECK(holds(out, "\0\1\1\1", 4));
     CHECK(layodegi_product(2, 0, U_PLUS_V, 4, U_TIMES_V, 4, out, 4) == 0);
@@ -52,7 +52,7 @@ static void check_tables(void)
     CHECK(layodegi_substitute(2, 0, U_TIMES_V, 4, SAME, 8, out, 4) == 0);
     CHECK(holds(out, "\0\0\1\0", 4));
     CHECK(layodegi_sum(6, 5, U_PLUS_V, 4, U_TIMES_V, 4, out, 4) == LAYODEGI_LETTERS);
-    CHECK(layodegi_sum(2, 0, U_PLUS_V, 4, U_TIMES_V, 4, out, 3) == LAYODEGI_BUFFER_LENGTH);
+    CHECK(layodegi_sum(2, 0, U_PLUS_V, 4, U_TIMES_V, 4, out, 3) == LAYODEGI_ROOM);
     CHECK(holds(out, "\0\0\1\0", 4));
 }
 
@@ -88,7 +88,7 @@ static void check_entries(void)
     CHECK(holds(volume, SHEET, 31));
     CHECK(layodegi_write_entry(251, 2, 0, U_PLUS_V, 4, volume, 32) == LAYODEGI_ROUTE);
     CHECK(layodegi_write_entry(263, 2, 0, U_PLUS_V, 4, volume, 32) == LAYODEGI_ROUTE);
-    CHECK(layodegi_write_entry(7, 2, 0, U_PLUS_V, 4, volume, 19) == LAYODEGI_OUTPUT_LENGTH);
+    CHECK(layodegi_write_entry(7, 2, 0, U_PLUS_V, 4, volume, 19) == LAYODEGI_OUTPUT);
 
     uint64_t solved = layodegi_read_entry(volume, 31, condition, 4, answers, 8);
     CHECK(layodegi_code_question(solved) == LAYODEGI_YES && layodegi_entry_route(solved) == 7);
@@ -106,8 +106,8 @@ static void check_entries(void)
     CHECK(layodegi_walk(volume, 31, 20) == 1 << 8);
     CHECK(layodegi_walk(volume, 31, SIZE_MAX) == 0);
     volume[28] = 0; /* 'none' at state 0 */
-    CHECK(layodegi_audit(volume + 20, 11) == LAYODEGI_ANSWERS);
-    CHECK(layodegi_walk(volume, 31, 0) == (LAYODEGI_ANSWERS | 1 << 8));
+    CHECK(layodegi_audit(volume + 20, 11) == LAYODEGI_AFRESH);
+    CHECK(layodegi_walk(volume, 31, 0) == (LAYODEGI_AFRESH | 1 << 8));
 }
 
 int main(void)

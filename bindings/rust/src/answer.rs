@@ -64,7 +64,7 @@ impl fmt::Display for Entry {
 /// ```
 /// use layodegi::{Question, Stopped};
 ///
-/// let stopped = Stopped { refusal: Question::RisingRoute.into(), passed: 4 };
+/// let stopped = Stopped { refusal: Question::Rising.into(), passed: 4 };
 /// let said = "refused 15 after 4 entries: Is the route above the one before?";
 /// assert_eq!(stopped.to_string(), said);
 /// ```
@@ -179,6 +179,6 @@ mod tests {
     fn question_9_gives_the_state() {
         assert_eq!(Code(0).answer(), Ok(Answer::Solved));
         assert_eq!(Code(9 | 3 << 8).answer(), Ok(Answer::None(State(3))));
-        assert_eq!(Code(8 | 3 << 8).answer(), Err(Question::TableBytes.into()));
+        assert_eq!(Code(8 | 3 << 8).answer(), Err(Question::Bits.into()));
     }
 }

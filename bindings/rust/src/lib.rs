@@ -372,7 +372,7 @@ pub fn read_entry(
 /// assert_eq!(audit(&[1, 8, 1, 1, 2, 2, 0, 5, 1, 4, 8])?.length, 11);
 /// // 'none' at the wrong state
 /// let wrong = [1, 8, 1, 1, 2, 2, 0, 5, 0, 4, 8];
-/// assert_eq!(audit(&wrong), Err(Question::Answers.into()));
+/// assert_eq!(audit(&wrong), Err(Question::Afresh.into()));
 /// # Ok::<(), layodegi::Refusal>(())
 /// ```
 pub fn audit(bytes: &[u8]) -> Result<Entry, Refusal> {
@@ -387,7 +387,7 @@ pub fn audit(bytes: &[u8]) -> Result<Entry, Refusal> {
 /// let entry = [1, 8, 1, 1, 2, 2, 0, 5, 1, 4, 8];
 /// assert_eq!(walk(&entry, 0), Ok(1));
 /// // the same route again
-/// let stopped = Stopped { refusal: Question::RisingRoute.into(), passed: 1 };
+/// let stopped = Stopped { refusal: Question::Rising.into(), passed: 1 };
 /// assert_eq!(walk(&[entry, entry].concat(), 0), Err(stopped));
 /// ```
 pub fn walk(volume: &[u8], place: usize) -> Result<usize, Stopped> {

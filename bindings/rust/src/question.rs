@@ -24,7 +24,7 @@ pub enum Question {
     TextLength = 3,
     /// Has each condition buffer 2^n bytes or more, and each answer or handed buffer U times 2^n
     /// or more?
-    BufferLength = 4,
+    Room = 4,
     /// Is every byte a sign of the notation or a space?
     Signs = 5,
     /// Is every letter declared?
@@ -32,7 +32,7 @@ pub enum Question {
     /// Does the grammar read the whole text?
     Grammar = 7,
     /// Is each byte of a table lent to be read, as far as question 4's length, 0 or 1?
-    TableBytes = 8,
+    Bits = 8,
     /// Has the condition a solution?
     Solution = 9,
     /// Does every record, to the first kind 4, have kind 1 to 5 and a whole body, and is there a
@@ -43,13 +43,13 @@ pub enum Question {
     /// Are masks below 2^n, unknowns below U, the state below 2^G, all in order, none twice?
     Numbers = 12,
     /// Do the answers, or the state, equal those solved afresh?
-    Answers = 13,
+    Afresh = 13,
     /// Is the output at least as long as what is to be written?
-    OutputLength = 14,
+    Output = 14,
     /// Is the route above the one before?
-    RisingRoute = 15,
+    Rising = 15,
     /// Is the state below 2^G and the choice below 2^U?
-    StateAndChoice = 16,
+    Range = 16,
 }
 
 impl Question {
@@ -58,19 +58,19 @@ impl Question {
         Question::Letters,
         Question::Route,
         Question::TextLength,
-        Question::BufferLength,
+        Question::Room,
         Question::Signs,
         Question::Declared,
         Question::Grammar,
-        Question::TableBytes,
+        Question::Bits,
         Question::Solution,
         Question::Records,
         Question::Kinds,
         Question::Numbers,
-        Question::Answers,
-        Question::OutputLength,
-        Question::RisingRoute,
-        Question::StateAndChoice,
+        Question::Afresh,
+        Question::Output,
+        Question::Rising,
+        Question::Range,
     ];
 
     /// The question with a number, if there is one.
@@ -89,14 +89,14 @@ impl Question {
             Question::Letters => "Are U at most 6, G at most 8, n at most 10?",
             Question::Route => "Is the route 1 to 250?",
             Question::TextLength => "Has the text 1 to 200 bytes?",
-            Question::BufferLength => {
+            Question::Room => {
                 "Has each condition buffer 2^n bytes or more, \
                  and each answer or handed buffer U times 2^n or more?"
             }
             Question::Signs => "Is every byte a sign of the notation or a space?",
             Question::Declared => "Is every letter declared?",
             Question::Grammar => "Does the grammar read the whole text?",
-            Question::TableBytes => {
+            Question::Bits => {
                 "Is each byte of a table lent to be read, as far as question 4's length, 0 or 1?"
             }
             Question::Solution => "Has the condition a solution?",
@@ -109,10 +109,10 @@ impl Question {
                 "Are masks below 2^n, unknowns below U, the state below 2^G, \
                  all in order, none twice?"
             }
-            Question::Answers => "Do the answers, or the state, equal those solved afresh?",
-            Question::OutputLength => "Is the output at least as long as what is to be written?",
-            Question::RisingRoute => "Is the route above the one before?",
-            Question::StateAndChoice => "Is the state below 2^G and the choice below 2^U?",
+            Question::Afresh => "Do the answers, or the state, equal those solved afresh?",
+            Question::Output => "Is the output at least as long as what is to be written?",
+            Question::Rising => "Is the route above the one before?",
+            Question::Range => "Is the state below 2^G and the choice below 2^U?",
         }
     }
 }

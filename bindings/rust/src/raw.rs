@@ -7,8 +7,8 @@
 
 extern "C" {
     pub fn layodegi_read_text(
-        unknowns: usize,
-        givens: usize,
+        u: usize,
+        g: usize,
         text: *const u8,
         text_length: usize,
         condition: *mut u8,
@@ -16,8 +16,8 @@ extern "C" {
     ) -> u64;
 
     pub fn layodegi_value(
-        unknowns: usize,
-        givens: usize,
+        u: usize,
+        g: usize,
         table: *const u8,
         table_length: usize,
         state: usize,
@@ -25,8 +25,8 @@ extern "C" {
     ) -> u64;
 
     pub fn layodegi_sum(
-        unknowns: usize,
-        givens: usize,
+        u: usize,
+        g: usize,
         a: *const u8,
         a_length: usize,
         b: *const u8,
@@ -36,8 +36,8 @@ extern "C" {
     ) -> u64;
 
     pub fn layodegi_product(
-        unknowns: usize,
-        givens: usize,
+        u: usize,
+        g: usize,
         a: *const u8,
         a_length: usize,
         b: *const u8,
@@ -47,8 +47,8 @@ extern "C" {
     ) -> u64;
 
     pub fn layodegi_substitute(
-        unknowns: usize,
-        givens: usize,
+        u: usize,
+        g: usize,
         condition: *const u8,
         condition_length: usize,
         handed: *const u8,
@@ -58,8 +58,8 @@ extern "C" {
     ) -> u64;
 
     pub fn layodegi_boole(
-        unknowns: usize,
-        givens: usize,
+        u: usize,
+        g: usize,
         condition: *const u8,
         condition_length: usize,
         answers: *mut u8,
@@ -67,8 +67,8 @@ extern "C" {
     ) -> u64;
 
     pub fn layodegi_particular(
-        unknowns: usize,
-        givens: usize,
+        u: usize,
+        g: usize,
         condition: *const u8,
         condition_length: usize,
         answers: *mut u8,
@@ -76,8 +76,8 @@ extern "C" {
     ) -> u64;
 
     pub fn layodegi_lowenheim(
-        unknowns: usize,
-        givens: usize,
+        u: usize,
+        g: usize,
         condition: *const u8,
         condition_length: usize,
         answers: *mut u8,
@@ -85,8 +85,8 @@ extern "C" {
     ) -> u64;
 
     pub fn layodegi_lowenheim_handed(
-        unknowns: usize,
-        givens: usize,
+        u: usize,
+        g: usize,
         condition: *const u8,
         condition_length: usize,
         handed: *const u8,
@@ -97,8 +97,8 @@ extern "C" {
 
     pub fn layodegi_write_entry(
         route: usize,
-        unknowns: usize,
-        givens: usize,
+        u: usize,
+        g: usize,
         condition: *const u8,
         condition_length: usize,
         out: *mut u8,
