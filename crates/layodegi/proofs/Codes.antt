@@ -19,7 +19,8 @@ use Rattle.ring.specs.Letters.{point}
 use Rattle.ring.specs.Table.{present}
 use Rattle.ring.proofs.Bool.{and-left, and-right, digit-lt}
 use Rattle.tables.specs.declared.Question.the-variants.{Letters, Solution}
-use Rattle.tables.specs.Questions.{Asked, asks, asksGiving, number, firstNo, lettersFit, reads, writes, roomQuestions, bitQuestions, bufferQuestions}
+use Rattle.tables.specs.Questions.{Asked, asks, asksGiving, number, firstNo, lettersFit, reads, writes, roomQuestions, bitQuestions}
+use Rattle.tables.specs.Questions.{bufferQuestions}
 use Rattle.tables.specs.Answered.{Reply, accepted, refused, reply}
 use Rattle.tables.proofs.FirstNo.{number-some, yes-to, asked-before, numbersBelow, first-below}
 use Rattle.tables.proofs.Answered.{givesNothing, reply-behind, reply-stops}
@@ -36,13 +37,16 @@ use Rattle.entry.proofs.Records.{records-made}
 use Rattle.entry.proofs.Passes.{Passes}
 use Rattle.entry.proofs.Verdicts.{VerdictFits}
 use Rattle.entry.proofs.Theorems.{entry-bound}
-use Rattle.calls.specs.Questions.{lentCondition, asksSolution, valueQuestions, pairQuestions, substituteQuestions, textQuestions, solvingQuestions, handedQuestions, writeQuestions, entryQuestions, readQuestions, auditQuestions, walkQuestions}
+use Rattle.calls.specs.Questions.{lentCondition, asksSolution, valueQuestions, pairQuestions, substituteQuestions, textQuestions}
+use Rattle.calls.specs.Questions.{solvingQuestions, handedQuestions, writeQuestions, entryQuestions, readQuestions, auditQuestions}
+use Rattle.calls.specs.Questions.{walkQuestions}
 use Rattle.calls.specs.Operations.{valueAt}
 use Rattle.calls.specs.Entries.{lentEntry, readValues, stateOf}
 use Rattle.calls.specs.Walk.{walkRefusal, walkReply, Ends, at-end, refused-at, Walks}
 use Rattle.calls.proofs.Questions.{passes-exactly}
 use Rattle.calls.proofs.Volume.{walk-exact, entries-most}
-use Rattle.layodegi.specs.Codes.{narrow, code, headingCode, entryCode, numbered, stateIn, plainReply, valueReply, stateReply, countReply, entryReply}
+use Rattle.layodegi.specs.Codes.{narrow, code, headingCode, entryCode, numbered, stateIn, plainReply, valueReply, stateReply}
+use Rattle.layodegi.specs.Codes.{countReply, entryReply}
 
 -- ---- one code
 narrow-small : (v : ℕ) → v < 4294967296 → narrow v ≡ v
@@ -54,14 +58,16 @@ numbered-some zero values n = absurd (n refl)
 numbered-some (suc q) values n = refl
 
 -- the answer of a call whose questions give their numbers alone
-reply-numbered : (questions : List Asked) (values : List ℕ) → givesNothing questions ≡ true → reply questions values ≡ numbered (firstNo questions) values
+reply-numbered : (questions : List Asked) (values : List ℕ) → givesNothing questions ≡ true
+    → reply questions values ≡ numbered (firstNo questions) values
 unfolding reply firstNo numbered
 reply-numbered [] values p = refl
 reply-numbered (asksGiving question true [] ∷ rest) values p = reply-numbered rest values p
 reply-numbered (asksGiving question false [] ∷ rest) values p = numbered-some (number question) values (number-some question)
 reply-numbered (asksGiving question answer (x ∷ given) ∷ rest) values p = let z : _≡_ {A = ℕ} 0 1 = (cc) in absurd (omega arith)
 
-plain-back : (questions : List Asked) → givesNothing questions ≡ true → firstNo questions < 256 → plainReply (code (reply questions [])) ≡ reply questions []
+plain-back : (questions : List Asked) → givesNothing questions ≡ true → firstNo questions < 256
+    → plainReply (code (reply questions [])) ≡ reply questions []
 unfolding numbered
 plain-back questions p h = rw (reply-numbered questions [] p) (go (firstNo questions) h)
   where
@@ -69,7 +75,8 @@ plain-back questions p h = rw (reply-numbered questions [] p) (go (firstNo quest
     go zero l = refl
     go (suc n) l = let e : suc n % 256 ≡ suc n = omega arith in rw e
 
-value-back : (questions : List Asked) (v : ℕ) → givesNothing questions ≡ true → firstNo questions < 256 → (firstNo questions ≡ 0 → v < 4294967296)
+value-back : (questions : List Asked) (v : ℕ) → givesNothing questions ≡ true → firstNo questions < 256
+    → (firstNo questions ≡ 0 → v < 4294967296)
     → valueReply (code (reply questions (v ∷ []))) ≡ reply questions (v ∷ [])
 unfolding numbered
 value-back questions v p h f = rw (reply-numbered questions (v ∷ []) p) (go (firstNo questions) h f)
@@ -82,8 +89,10 @@ value-back questions v p h f = rw (reply-numbered questions (v ∷ []) p) (go (f
     go (suc n) l small = let e : suc n % 256 ≡ suc n = omega arith in rw e
 
 -- question 9 behind questions with smaller numbers
-state-back : (front : List Asked) (answer : Bool) (s : ℕ) → givesNothing front ≡ true → firstNo front < 9 → (firstNo front ≡ 0 → s < 4294967296)
-    → stateReply (code (reply (front ++ (asksGiving Solution answer (s ∷ []) ∷ [])) [])) ≡ reply (front ++ (asksGiving Solution answer (s ∷ []) ∷ [])) []
+state-back : (front : List Asked) (answer : Bool) (s : ℕ) → givesNothing front ≡ true → firstNo front < 9
+    → (firstNo front ≡ 0 → s < 4294967296)
+    → stateReply (code (reply (front ++ (asksGiving Solution answer (s ∷ []) ∷ [])) []))
+    ≡ reply (front ++ (asksGiving Solution answer (s ∷ []) ∷ [])) []
 unfolding numbered reply
 state-back front answer s p h f = go (ℕ-discrete (firstNo front) 0)
   where
@@ -184,21 +193,25 @@ unfolding pairQuestions bufferQuestions roomQuestions bitQuestions numbersBelow
 pair-decoded U G a b room = plain-back (pairQuestions U G a b room) refl (first-below 256 (pairQuestions U G a b room) (omega arith) refl)
 
 pub substitute-decoded : (U G : ℕ) (condition handed : List ℕ) (room : ℕ)
-    → plainReply (code (reply (substituteQuestions U G condition handed room) [])) ≡ reply (substituteQuestions U G condition handed room) []
+    → plainReply (code (reply (substituteQuestions U G condition handed room) []))
+    ≡ reply (substituteQuestions U G condition handed room) []
 unfolding substituteQuestions bufferQuestions roomQuestions bitQuestions numbersBelow
 substitute-decoded U G condition handed room =
-    plain-back (substituteQuestions U G condition handed room) refl (first-below 256 (substituteQuestions U G condition handed room) (omega arith) refl)
+    plain-back (substituteQuestions U G condition handed room) refl
+    (first-below 256 (substituteQuestions U G condition handed room) (omega arith) refl)
 
 pub text-decoded : (U G : ℕ) (text : List ℕ) (room : ℕ)
     → plainReply (code (reply (textQuestions U G text room) [])) ≡ reply (textQuestions U G text room) []
 unfolding textQuestions bufferQuestions roomQuestions bitQuestions numbersBelow
-text-decoded U G text room = plain-back (textQuestions U G text room) refl (first-below 256 (textQuestions U G text room) (omega arith) refl)
+text-decoded U G text room =
+    plain-back (textQuestions U G text room) refl (first-below 256 (textQuestions U G text room) (omega arith) refl)
 
 pub handed-decoded : (U G : ℕ) (condition handed : List ℕ) (room : ℕ)
     → plainReply (code (reply (handedQuestions U G condition handed room) [])) ≡ reply (handedQuestions U G condition handed room) []
 unfolding handedQuestions bufferQuestions roomQuestions bitQuestions numbersBelow
 handed-decoded U G condition handed room =
-    plain-back (handedQuestions U G condition handed room) refl (first-below 256 (handedQuestions U G condition handed room) (omega arith) refl)
+    plain-back (handedQuestions U G condition handed room) refl
+    (first-below 256 (handedQuestions U G condition handed room) (omega arith) refl)
 
 -- the value of a table, 0 or 1
 pub value-decoded : (U G : ℕ) (t : List ℕ) (state : State) (choice : Choice)
@@ -215,7 +228,8 @@ pub written-decoded : (route U G : ℕ) (condition : List ℕ) (room : ℕ)
     ≡ reply (writeQuestions route U G condition room) (length (lentEntry route U G condition) ∷ [])
 unfolding writeQuestions bufferQuestions roomQuestions bitQuestions numbersBelow
 written-decoded route U G condition room =
-    value-back (writeQuestions route U G condition room) _ refl (first-below 256 (writeQuestions route U G condition room) (omega arith) refl)
+    value-back (writeQuestions route U G condition room) _ refl
+    (first-below 256 (writeQuestions route U G condition room) (omega arith) refl)
     (λ z. omega (arith, entry-bound route (lentCondition U G condition) (yes-to Letters (lettersFit U G) [] _ z .0)))
 
 -- Boole, the particular solution, own Löwenheim: the state is one of G givens, at most 8
@@ -241,7 +255,8 @@ module _ (U G : ℕ) (condition : List ℕ) (room : ℕ) where
   unfolding before-solution smallestBlocked
   state-small z =
       let letters = yes-to Letters (lettersFit U G) [] _ z .0 in
-      omega (arith, smallest-most (2 ^ G) (λ s. blocked U G (polynomial (lentCondition U G condition)) (record { 0 = s })), givens-few U G letters)
+      let most = smallest-most (2 ^ G) (λ s. blocked U G (polynomial (lentCondition U G condition)) (record { 0 = s })) in
+      omega (arith, most, givens-few U G letters)
 
   pub solving-decoded : stateReply (code (reply (solvingQuestions U G condition room) [])) ≡ reply (solvingQuestions U G condition room) []
   unfolding before-solution solvingQuestions bufferQuestions roomQuestions bitQuestions numbersBelow
@@ -250,21 +265,25 @@ module _ (U G : ℕ) (condition : List ℕ) (room : ℕ) where
 -- reading and the audit: what passes 10, 11, 1, 2 and 12 is an entry of what it holds
 module _ (bs : List ℕ) (are : AreBytes bs) where
   entry-fits : firstNo (entryQuestions (records bs)) ≡ 0
-      → Fit (routeOf (records bs)) (unknownsOf (records bs)) (givensOf (records bs)) (length (bytes (records bs))) (heldVerdict (records bs))
+      → let rs : List Record = records bs in
+      Fit (routeOf rs) (unknownsOf rs) (givensOf rs) (length (bytes rs)) (heldVerdict rs)
   unfolding routeFits heldCondition
   entry-fits z =
       let rs : List Record = records bs in
       let p : Passes rs = passes-exactly rs .0 z in
       let n : unknownsOf rs + givensOf rs ≤ 10 = letters-small _ _ (p .letters) in
-      let c : rs ≡ entryRecords (routeOf rs) (heldCondition rs) (heldVerdict rs) = canonical rs (records-made bs are) (p .kinds) (records-end bs) n (p .numbers) in
-      let m : length (bytes rs) ≡ length (bytes (entryRecords (routeOf rs) (heldCondition rs) (heldVerdict rs))) = ap (λ (l : List Record). length (bytes l)) c in
+      let c : rs ≡ entryRecords (routeOf rs) (heldCondition rs) (heldVerdict rs) =
+      canonical rs (records-made bs are) (p .kinds) (records-end bs) n (p .numbers) in
+      let m : length (bytes rs) ≡ length (bytes (entryRecords (routeOf rs) (heldCondition rs) (heldVerdict rs))) =
+      ap (λ (l : List Record). length (bytes l)) c in
       record {
         of-route = omega (arith, leb-true (routeOf rs) 250 (and-right (leb 1 (routeOf rs)) (leb (routeOf rs) 250) (p .route)));
         of-unknowns = omega arith;
         of-givens = omega arith;
         of-length = omega (arith, entry-most (routeOf rs) (heldCondition rs) (heldVerdict rs) (unknowns-small _ _ (p .letters)) n);
         of-state = λ state e.
-            let f : state .0 < 2 ^ givensOf rs = subst (VerdictFits (unknownsOf rs) (givensOf rs)) e (held-fits rs (records-made bs are) (p .kinds) (records-end bs) n (p .numbers)) in
+            let held = held-fits rs (records-made bs are) (p .kinds) (records-end bs) n (p .numbers) in
+            let f : state .0 < 2 ^ givensOf rs = subst (VerdictFits (unknownsOf rs) (givensOf rs)) e held in
             omega (arith, givens-few (unknownsOf rs) (givensOf rs) (p .letters));
       }
 
@@ -277,10 +296,12 @@ module _ (bs : List ℕ) (are : AreBytes bs) where
       (first-below 256 (readQuestions (records bs) room answerRoom) (omega arith) refl)
       (λ z. entry-fits (asked-before (entryQuestions (records bs)) _ z))
 
-  pub audit-decoded : entryReply (entryCode (reply (auditQuestions (records bs)) (readValues (records bs)))) ≡ reply (auditQuestions (records bs)) (readValues (records bs))
+  pub audit-decoded : entryReply (entryCode (reply (auditQuestions (records bs)) (readValues (records bs))))
+      ≡ reply (auditQuestions (records bs)) (readValues (records bs))
   unfolding auditQuestions readValues entryQuestions numbersBelow
   audit-decoded =
-      entry-back _ _ _ _ (auditQuestions (records bs)) (heldVerdict (records bs)) refl (first-below 256 (auditQuestions (records bs)) (omega arith) refl)
+      entry-back _ _ _ _ (auditQuestions (records bs)) (heldVerdict (records bs)) refl
+      (first-below 256 (auditQuestions (records bs)) (omega arith) refl)
       (λ z. entry-fits (asked-before (entryQuestions (records bs)) _ z))
 
 -- a walk
@@ -290,7 +311,8 @@ walk-below before bs = first-below 256 (walkQuestions before (records bs)) (omeg
 
 ends-back : {last passed : ℕ} {bs : List ℕ} {answer : Reply} → passed ≤ 250 → Ends last passed bs answer → countReply (code answer) ≡ answer
 ends-back {passed = passed} h at-end = count-back passed (omega arith)
-ends-back {last = last} {passed = passed} {bs = bs} h (refused-at number l e n) = passed-back number passed n (rw e at (walk-below last bs)) (omega arith)
+ends-back {last = last} {passed = passed} {bs = bs} h (refused-at number l e n) =
+    passed-back number passed n (rw e at (walk-below last bs)) (omega arith)
 
 pub walk-decoded : (volume : List ℕ) (place : ℕ) → AreBytes volume → countReply (code (walkReply volume place)) ≡ walkReply volume place
 walk-decoded volume place are =

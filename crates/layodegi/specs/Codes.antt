@@ -12,8 +12,8 @@ use Rattle.tables.specs.Answered.{Reply, accepted, refused}
 abbrev pub narrow : ℕ → ℕ
 narrow v = v % 4294967296
 
--- the number of the first no, 0 if there is none, in the low byte; above it the first value that the call gives: a value of a table, the state
--- that question 9 names, the length written, the count of entries
+-- the number of the first no, 0 if there is none, in the low byte; above it the first value that the call gives: a value of a table, the
+-- state that question 9 names, the length written, the count of entries
 abbrev pub code : Reply → ℕ
 code (accepted []) = 0
 code (accepted (v ∷ vs)) = 256 * narrow v
@@ -25,7 +25,8 @@ abbrev pub stateCode : List ℕ → ℕ
 stateCode [] = 0
 stateCode (state ∷ _) = 1 + state % 256
 
--- a byte each, from the second on, for the route, U and G, and two bytes for the length used. Every value fits: an entry has at most 27,654 bytes
+-- a byte each, from the second on, for the route, U and G, and two bytes for the length used. Every value fits: an entry has at most 27,654
+-- bytes
 abbrev pub headingCode : ℕ → ℕ → ℕ → ℕ → ℕ
 headingCode route U G used = 256 * route + 65536 * (U % 256) + 16777216 * (G % 256) + 4294967296 * (used % 65536)
 
@@ -71,4 +72,5 @@ stateIn (suc state) = state ∷ []
 
 -- .. behind the route, U, G and the length used
 abbrev pub entryReply : ℕ → Reply
-entryReply c = numbered (numberIn c) (c / 256 % 256 ∷ c / 65536 % 256 ∷ c / 16777216 % 256 ∷ c / 4294967296 % 65536 ∷ stateIn (c / 281474976710656))
+entryReply c =
+    numbered (numberIn c) (c / 256 % 256 ∷ c / 65536 % 256 ∷ c / 16777216 % 256 ∷ c / 4294967296 % 65536 ∷ stateIn (c / 281474976710656))

@@ -50,7 +50,8 @@ module _ (U G : ℕ) (text : List ℕ) (q : ℕ) (e : q ≡ also 0 (asks Signs (
         yes-to Declared (allDeclared U G text) [] [] (signs .1) .0
 
     -- then 7 counts
-    pub symbols-further : (r : ℕ) (whole : Bool) → r ≡ also 0 (asks Grammar whole ∷ []) → whole ≡ grammarReads text → r ≡ firstNo (symbolQuestions U G text)
+    pub symbols-further : (r : ℕ) (whole : Bool) → r ≡ also 0 (asks Grammar whole ∷ []) → whole ≡ grammarReads text
+        → r ≡ firstNo (symbolQuestions U G text)
     unfolding first-two symbolQuestions
     symbols-further r whole er ew =
         er ∙ sym (also-none _) ∙ ap (λ (b : Bool). firstNo (asks Grammar b ∷ [])) ew
@@ -91,7 +92,8 @@ module _ (U G : ℕ) (text : List ℕ) (room : ℕ) where
 pub table-length : (U G : ℕ) (text : List ℕ) (k : ℕ) → k ≡ 2 ^ (U + G) → k ≡ length (textTable U G text)
 table-length U G text k e = e ∙ sym (text-is-table U G text .size)
 
-pub ready : (U G : ℕ) (text words : List ℕ) → lettersFit U G ≡ true → hasTextLength text ≡ true → length words ≡ 2 ^ (U + G - 6) → Ready U G text words
+pub ready : (U G : ℕ) (text words : List ℕ) → lettersFit U G ≡ true → hasTextLength text ≡ true → length words ≡ 2 ^ (U + G - 6)
+    → Ready U G text words
 ready U G text words l t e = record { unknowns = unknowns-small U G l; small = letters-small U G l; short = text-short text t; size = e }
 
 -- ---- how the work ends, and the call
@@ -131,7 +133,8 @@ module _ (U G : ℕ) (text lent : List ℕ) where
     pub ends-refused : (q ≡ 0 → ⊥) → answered (refused q []) ((front ++ drop k lent) ∷ []) ≡ textCall U G text lent
     ends-refused n =
         let left : front ≡ take k lent = done .1 ∙ sym (after-refused q (textTable U G text) (take k lent) n) in
-        rw (left, take-append-drop k lent) (call-refused (textQuestions U G text (length lent)) [] (textTable U G text into lent ∷ []) q plain same n)
+        rw (left, take-append-drop k lent)
+        (call-refused (textQuestions U G text (length lent)) [] (textTable U G text into lent ∷ []) q plain same n)
 
     pub ends-done : q ≡ 0 → answered (accepted []) ((front ++ drop k lent) ∷ []) ≡ textCall U G text lent
     ends-done y =

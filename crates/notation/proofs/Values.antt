@@ -45,7 +45,8 @@ unfolding textWords
 length-text U G text = length-words (2 ^ (U + G - 6)) _
 
 -- at every point, those behind the table's end too, the table's value is that of the normal form
-value-table : (U G : ℕ) (text : List ℕ) (p : ℕ) → value (U + G) (present (textTable U G text)) p ≡ value (U + G) (normalForm U G (treeOf text)) p
+value-table : (U G : ℕ) (text : List ℕ) (p : ℕ)
+    → value (U + G) (present (textTable U G text)) p ≡ value (U + G) (normalForm U G (treeOf text)) p
 unfolding textTable
 value-table U G text p = value-cong (U + G) _ _ p (λ m l. present-table (U + G) (normalForm U G (treeOf text)) m l)
 
@@ -64,11 +65,14 @@ unfolding wholeWords
 words-kept U l lent words e h = e ∙ rw h
 
 -- for a caller: no question was answered no
-pub words-ready : (U G : ℕ) (text lent words : List ℕ) (r : ℕ) → r ≡ 0 → length lent ≡ 2 ^ (U + G - 6) → words ≡ after r (textWords U G text) lent → words ≡ textWords U G text
+pub words-ready : (U G : ℕ) (text lent words : List ℕ) (r : ℕ) → r ≡ 0 → length lent ≡ 2 ^ (U + G - 6)
+    → words ≡ after r (textWords U G text) lent → words ≡ textWords U G text
 words-ready U G text lent words r z size e = e ∙ after-all r (textWords U G text) lent z (size ∙ sym (length-text U G text))
 
 -- words that hold the text's values give its table
-pub table-text : (U G : ℕ) (text words out : List ℕ) → words ≡ textWords U G text → out ≡ table (U + G) (value (U + G) (bitAt words)) → out ≡ textTable U G text
+pub table-text : (U G : ℕ) (text words out : List ℕ) → words ≡ textWords U G text → out ≡ table (U + G) (value (U + G) (bitAt words))
+    → out ≡ textTable U G text
 unfolding textWords textTable
 table-text U G text words out ew e =
-    e ∙ table-back (U + G) (normalForm U G (treeOf text)) words (λ p l. at-known (2 ^ (U + G - 6)) _ words ew p (omega (arith, room (U + G))) ∙ value-table U G text p)
+    e ∙ table-back (U + G) (normalForm U G (treeOf text)) words
+    (λ p l. at-known (2 ^ (U + G - 6)) _ words ew p (omega (arith, room (U + G))) ∙ value-table U G text p)

@@ -38,7 +38,8 @@ module _ (u g k : ℕ) (a b : List ℕ) (e : k ≡ 2 ^ (u + g)) where
   product-whole =
       rw e (table-cong (u + g) _ _ (λ m _. product-cong (u + g) _ _ _ _ (present-take (2 ^ (u + g)) a) (present-take (2 ^ (u + g)) b) m))
 
-  pub substitute-whole : table (u + g) (substitute (u + g) (u + g) (present (take k a)) (forUnknowns u (held (u + g) (take (u * k) b)))) ≡ substituteTable u g a b
+  pub substitute-whole : table (u + g) (substitute (u + g) (u + g) (present (take k a)) (forUnknowns u (held (u + g) (take (u * k) b))))
+      ≡ substituteTable u g a b
   unfolding substituteTable
   substitute-whole =
       rw e
@@ -65,7 +66,8 @@ pub record Askable (u g : ℕ) (t : List ℕ) (state : State) (choice : Choice) 
   pub state-fits : state .0 < 2 ^ g
   pub choice-fits : choice .0 < 2 ^ u
 
-pub askable : (u g : ℕ) (t : List ℕ) (state : State) (choice : Choice) → firstNo (valueQuestions u g t state choice) ≡ 0 → Askable u g t state choice
+pub askable : (u g : ℕ) (t : List ℕ) (state : State) (choice : Choice) → firstNo (valueQuestions u g t state choice) ≡ 0
+    → Askable u g t state choice
 unfolding valueQuestions inRange
 askable u g t state choice z =
     let yes-all = tables-yes u g (reads (2 ^ (u + g)) t ∷ []) (asks Range (inRange u g state choice) ∷ []) z in
@@ -92,7 +94,9 @@ buffers-yes u g k a b size f =
 
 pub pair-yes : (u g : ℕ) (a b : List ℕ) (size : ℕ) → firstNo (pairQuestions u g a b size) ≡ 0 → PairYes u g (2 ^ (u + g)) a b size
 unfolding pairQuestions bufferQuestions roomQuestions bitQuestions
-pair-yes u g a b size z = buffers-yes u g (2 ^ (u + g)) a b size (tables-yes u g (reads (2 ^ (u + g)) a ∷ reads (2 ^ (u + g)) b ∷ writes (2 ^ (u + g)) size ∷ []) [] z)
+pair-yes u g a b size z =
+    buffers-yes u g (2 ^ (u + g)) a b size
+    (tables-yes u g (reads (2 ^ (u + g)) a ∷ reads (2 ^ (u + g)) b ∷ writes (2 ^ (u + g)) size ∷ []) [] z)
 
 pub substitute-yes : (u g : ℕ) (condition handed : List ℕ) (size : ℕ) → firstNo (substituteQuestions u g condition handed size) ≡ 0
     → PairYes u g (u * 2 ^ (u + g)) condition handed size
@@ -110,19 +114,22 @@ pub pair-plain : (u g : ℕ) (a b : List ℕ) (size : ℕ) → givesNothing (pai
 unfolding pairQuestions bufferQuestions roomQuestions bitQuestions
 pair-plain u g a b size = refl
 
-pub substitute-plain : (u g : ℕ) (condition handed : List ℕ) (size : ℕ) → givesNothing (substituteQuestions u g condition handed size) ≡ true
+pub substitute-plain : (u g : ℕ) (condition handed : List ℕ) (size : ℕ)
+    → givesNothing (substituteQuestions u g condition handed size) ≡ true
 unfolding substituteQuestions bufferQuestions roomQuestions bitQuestions
 substitute-plain u g condition handed size = refl
 
 -- the value of the part that counts is the value of the whole, at the point that the code forms
-pub value-whole : (u g k l p : ℕ) (t : List ℕ) (state : State) (choice : Choice) → k ≡ 2 ^ (u + g) → l ≡ 2 ^ u → p ≡ state .0 * l + choice .0
+pub value-whole : (u g k l p : ℕ) (t : List ℕ) (state : State) (choice : Choice) → k ≡ 2 ^ (u + g) → l ≡ 2 ^ u
+    → p ≡ state .0 * l + choice .0
     → digit (value (u + g) (present (take k t)) p) ≡ valueAt u g t state choice
 unfolding valueAt point
 value-whole u g k l p t state choice ek el ep =
     rw (ek, ep, el) (ap digit (value-cong (u + g) _ _ (state .0 * 2 ^ u + choice .0) (present-take (2 ^ (u + g)) t)))
 
 -- the point is small enough for the code to form
-pub point-small : (u g l : ℕ) (t : List ℕ) (state : State) (choice : Choice) → Askable u g t state choice → l ≡ 2 ^ u → state .0 * l + choice .0 < 1024
+pub point-small : (u g l : ℕ) (t : List ℕ) (state : State) (choice : Choice) → Askable u g t state choice → l ≡ 2 ^ u
+    → state .0 * l + choice .0 < 1024
 unfolding point
 point-small u g l t state choice a e =
     rw e (lt-of-lt-of-le (point-lt u g state choice (a .state-fits) (a .choice-fits)) (pow-mono (a .small)))

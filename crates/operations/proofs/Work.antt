@@ -31,7 +31,8 @@ within-block w i p l =
     let b : ℕ = bitAnd i (p % 64) in
     let le : b ≤ i = and-le-l i (p % 64) in
     let whole : p / 64 * 64 + p % 64 ≡ p = omega arith in
-    let both : bitAnd (w * 64 + i) p ≡ a * 64 + b = ap (bitAnd (w * 64 + i)) (sym whole) ∙ and-block 6 w (p / 64) i (p % 64) l (omega arith) in
+    let both : bitAnd (w * 64 + i) p ≡ a * 64 + b =
+    ap (bitAnd (w * 64 + i)) (sym whole) ∙ and-block 6 w (p / 64) i (p % 64) l (omega arith) in
     ap (λ (x : ℕ). eqb x (w * 64 + i)) both
     ∙ bool-iff (eqb (a * 64 + b) (w * 64 + i)) (eqb a w && eqb b i)
     (λ e.
@@ -53,14 +54,16 @@ odd-add : (a b : ℕ) (test : ℕ → Bool) → odd (a + b) test ≡ odd a test 
 odd-add a zero test = rw (add-zero a, odd-zero (λ i. test (a + i))) (sym (xor-false (odd a test)))
 odd-add a (suc b) test =
     rw (add-suc a b)
-    (odd-suc (a + b) test ∙ ap (λ (x : Bool). x ⊕ test (a + b)) (odd-add a b test) ∙ xor-assoc (odd a test) (odd b (λ i. test (a + i))) (test (a + b))
+    (odd-suc (a + b) test ∙ ap (λ (x : Bool). x ⊕ test (a + b)) (odd-add a b test)
+    ∙ xor-assoc (odd a test) (odd b (λ i. test (a + i))) (test (a + b))
     ∙ ap (λ (x : Bool). odd a test ⊕ x) (sym (odd-suc b (λ i. test (a + i)))))
 
 regroup : (a b c : Bool) → (a && (b && c)) ≡ ((a && c) && b)
 regroup a b c = ap (λ (x : Bool). a && x) (and-comm b c) ∙ sym (and-assoc a c b)
 
 -- one more block of masks
-pub block-more : (t : List ℕ) (w d p low k : ℕ) (o r : Bool) → o ≡ odd (w * 64) (λ m. present t m && within m p) → d ≡ 64 → k ≡ 64 → low ≡ bitAnd p 63
+pub block-more : (t : List ℕ) (w d p low k : ℕ) (o r : Bool) → o ≡ odd (w * 64) (λ m. present t m && within m p) → d ≡ 64 → k ≡ 64
+    → low ≡ bitAnd p 63
     → r ≡ odd k (λ m. present (take d (drop (w * 64) t)) m && within m low)
     → not (Bool·beq o (r && eqb (bitAnd w (p / 2 ^ 6)) w)) ≡ odd ((w + 1) * 64) (λ m. present t m && within m p)
 unfolding present within
@@ -81,17 +84,20 @@ block-more t w d p low k o r eo ed ek el er =
     ∙ sym (odd-add (w * 64) 64 (λ m. present t m && within m p)))
 
 -- all masks, and the result as a byte
-pub parity-end : (n k : ℕ) (f : Polynomial) (p v : ℕ) (o : Bool) → k ≡ 2 ^ n → o ≡ odd k (λ i. f i && within i p) → v ≡ digit o → v ≡ digit (value n f p)
+pub parity-end : (n k : ℕ) (f : Polynomial) (p v : ℕ) (o : Bool) → k ≡ 2 ^ n → o ≡ odd k (λ i. f i && within i p) → v ≡ digit o
+    → v ≡ digit (value n f p)
 unfolding value
 parity-end n k f p v o e q h = h ∙ ap digit (q ∙ ap (λ (x : ℕ). odd x (λ i. f i && within i p)) e)
 
 -- the same of fewer than six letters
-pub parity-few : (n k : ℕ) (f : Polynomial) (p low v : ℕ) (o : Bool) → n < 6 → k ≡ 2 ^ n → low ≡ bitAnd p 63 → o ≡ odd k (λ i. f i && within i low) → v ≡ digit o
+pub parity-few : (n k : ℕ) (f : Polynomial) (p low v : ℕ) (o : Bool) → n < 6 → k ≡ 2 ^ n → low ≡ bitAnd p 63
+    → o ≡ odd k (λ i. f i && within i low) → v ≡ digit o
     → v ≡ digit (value n f p)
 parity-few n k f p low v o l e el q h =
     let m : n ≤ 6 = omega arith in
     let few : 2 ^ n ≤ 2 ^ 6 = pow-mono m in
-    parity-end n k f p v o e (q ∙ odd-cong k _ _ (λ i j. ap (λ (x : Bool). f i && x) (ap (within i) (el ∙ and-mask p 6) ∙ within-low i p (omega arith)))) h
+    parity-end n k f p v o e
+    (q ∙ odd-cong k _ _ (λ i j. ap (λ (x : Bool). f i && x) (ap (within i) (el ∙ and-mask p 6) ∙ within-low i p (omega arith)))) h
 
 pub few-masks : (n : ℕ) (t : List ℕ) → n < 6 → length t ≡ 2 ^ n → length t ≤ 64
 few-masks n t l e =
@@ -99,7 +105,8 @@ few-masks n t l e =
     let few : 2 ^ n ≤ 2 ^ 6 = pow-mono m in
     omega arith
 
-pub block-length : (t : List ℕ) (w blocks : ℕ) → length t ≡ blocks * 64 → w < blocks → length (take (w * 64 + 64 - w * 64) (drop (w * 64) t)) ≡ 64
+pub block-length : (t : List ℕ) (w blocks : ℕ) → length t ≡ blocks * 64 → w < blocks
+    → length (take (w * 64 + 64 - w * 64) (drop (w * 64) t)) ≡ 64
 block-length t w blocks e l =
     let d : w * 64 + 64 - w * 64 ≡ 64 = omega arith in
     ap (λ (x : ℕ). length (take x (drop (w * 64) t))) d ∙ length-take-le 64 (drop (w * 64) t) (omega (arith, length-drop (w * 64) t))

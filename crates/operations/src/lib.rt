@@ -1,6 +1,7 @@
 // The calls on tables: the value of a table, the sum and the product of two, and handed polynomials put into a condition.
 // Public calls, none with a `requires`: `value`, `sum`, `product`, `substitute`. The other functions are theirs alone.
-// They ask the questions and lend the tables that have passed them; the work is `polynomials`'. Their contracts cite the polynomials' own definitions.
+// They ask the questions and lend the tables that have passed them; the work is `polynomials`'. Their contracts cite the polynomials' own
+// definitions.
 use calls::Outcome;
 use calls::Valued;
 use ring::Choice;

@@ -10,4 +10,5 @@ returns : tie.Need-returns
 returns c = coded-call entryCode (c .read-code .ensures) (c .before .before .before .before .before .read-entry .ensures)
 
 pub layodegi-read-entry-spec : {M : Type 1} → statement M
-layodegi-read-entry-spec = tie.close (tie.spec (λ c κs. search needs) (λ c κs. search needs) (λ c. search needs) (λ c. search needs) returns)
+layodegi-read-entry-spec =
+    tie.close (tie.spec (λ c κs. search needs) (λ c κs. search needs) (λ c. search needs) (λ c. search needs) returns)

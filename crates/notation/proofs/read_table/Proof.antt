@@ -20,10 +20,13 @@ put-table-requires c κs =
 
 returns-2 : tie.Need-returns-2
 returns-2 c =
-    let pre = c .before .before .before .before .before .before .before .before .before .before .before .before .before .before .before .pre in
-    let z = c .before .before .before .before .before .before .before .if1 .left in
-    let read = c .before .before .before .before .before .before .before .before .before .before .symbol-values in
-    let table = table-text _ _ _ _ _ (words-ready _ _ _ _ _ _ z (pre .0 .size) (read .ensures .1)) (c .before .before .before .before .put-table .ensures) in
+    let put = c .before .before .before .before in
+    let tested = put .before .before .before in
+    let z = tested .if1 .left in
+    let valued = tested .before .before .before in
+    let read = valued .symbol-values in
+    let pre = valued .before .before .before .before .before .pre in
+    let table = table-text _ _ _ _ _ (words-ready _ _ _ _ _ _ z (pre .0 .size) (read .ensures .1)) (put .put-table .ensures) in
     (read .ensures .0, table ∙ sym (after-all _ _ _ z (pre .1 ∙ sym (text-is-table _ _ _ .size))))
 
 pub read-table-spec : {M : Type 1} → statement M

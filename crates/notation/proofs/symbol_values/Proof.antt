@@ -27,7 +27,8 @@ bytes c i = omega (arith, c .shared-slice-known .given i)
 -- the first no of 5 and 6
 asked : (c : tie.After-ask2)
     → let args = c .before .before .before .before .before .before .before .before .before .before .before .args in
-    c .ask2 .result ≡ also 0 (asks Signs (allSigns (args .text .now)) ∷ asks Declared (allDeclared (args .u) (args .g) (args .text .now)) ∷ [])
+    let text = args .text .now in
+    c .ask2 .result ≡ also 0 (asks Signs (allSigns text) ∷ asks Declared (allDeclared (args .u) (args .g) text) ∷ [])
 asked c =
     let signed = c .before .before .before in
     let written = signed .before .before .before .before in
@@ -63,7 +64,8 @@ returns-2 c =
       symbols-further _ _ _ _ two z _ _ (c .ask3 .ensures) reads,
       after-last _ _ _ _ _ (c .ask3 .ensures) (pre .size ∙ sym (length-text _ _ _))
           (λ t.
-          words-text _ _ _ _ _ _ (valued .read-values .ensures .1) (record { declared = symbols-declared _ _ _ _ two z; reads = sym reads ∙ t }) same
+          words-text _ _ _ _ _ _ (valued .read-values .ensures .1)
+          (record { declared = symbols-declared _ _ _ _ two z; reads = sym reads ∙ t }) same
           (sym whole ∙ t) (pre .size))
           (λ f. words-kept _ _ _ _ (valued .read-values .ensures .1) (sym whole ∙ f)),
     )

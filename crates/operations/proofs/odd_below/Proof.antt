@@ -26,7 +26,8 @@ loop-again c = (search needs, parity-more _ _ _ _ ((c .before .before .before .l
 returns : tie.Need-returns Inv-loop μ-loop
 returns c =
     let e : (c .before .loop) .m ≡ length ((c .before .before .before .args) .t .now) = omega arith in
-    (c .before .loop) .inv .1 ∙ ap (λ (k : ℕ). parity k (λ i. present ((c .before .before .before .args) .t .now) i && within i ((c .before .before .before .args) .p))) e
+    let args = c .before .before .before .args in
+    c .before .loop .inv .1 ∙ ap (λ (k : ℕ). parity k (λ i. present (args .t .now) i && within i (args .p))) e
 
 pub odd-below-spec : {M : Type 1} → statement M
 odd-below-spec =

@@ -21,19 +21,27 @@ abbrev μ-loop : tie.MeasureT-loop
 μ-loop t blocks p low high odd₀ w₀ odd w = blocks - w
 
 odd-below-requires : tie.Need-odd-below-requires Inv-loop μ-loop
-odd-below-requires c κs = omega (arith, block-length ((c .before .before .before .before .args) .t .now) ((c .before .before .loop) .w) ((c .before .before .before .before .args) .blocks) ((c .before .before .before .before .pre)) ((c .before .loop-test) .taken))
+odd-below-requires c κs =
+    let turn = c .before in
+    let start = turn .before .before .before in
+    omega (arith, block-length (start .args .t .now) (turn .before .loop .w) (start .args .blocks) (start .pre) (turn .loop-test .taken))
 
 loop-again : tie.Need-loop-again Inv-loop μ-loop
 loop-again c =
-    let d : (c .before .before .before .loop) .w * 64 + 64 - (c .before .before .before .loop) .w * 64 ≡ 64 = omega arith in (
+    let turn = c .before .before .before in
+    let start = turn .before .before in
+    let d : turn .loop .w * 64 + 64 - turn .loop .w * 64 ≡ 64 = omega arith in (
       search needs,
-      block-more ((c .before .before .before .before .before .args) .t .now) ((c .before .before .before .loop) .w) _ ((c .before .before .before .before .before .args) .p) _ _ _ _ ((c .before .before .before .loop) .inv .1) d (block-length ((c .before .before .before .before .before .args) .t .now) ((c .before .before .before .loop) .w) ((c .before .before .before .before .before .args) .blocks) ((c .before .before .before .before .before .pre)) ((c .before .before .loop-test) .taken)) refl ((c .odd-below) .ensures),
+      block-more (start .args .t .now) (turn .loop .w) _ (start .args .p) _ _ _ _ (turn .loop .inv .1) d
+          (block-length (start .args .t .now) (turn .loop .w) (start .args .blocks) (start .pre) (c .before .before .loop-test .taken)) refl
+          (c .odd-below .ensures),
     )
 
 returns : tie.Need-returns Inv-loop μ-loop
 returns c =
-    let e : (c .before .loop) .w * 64 ≡ length ((c .before .before .before .args) .t .now) = omega (arith, (c .before .before .before .pre), (c .before .loop) .inv .0, (c .loop-test) .left) in
-    (c .before .loop) .inv .1 ∙ ap (λ (k : ℕ). parity k (λ i. present ((c .before .before .before .args) .t .now) i && within i ((c .before .before .before .args) .p))) e
+    let start = c .before .before .before in
+    let e : c .before .loop .w * 64 ≡ length (start .args .t .now) = omega (arith, start .pre) in
+    c .before .loop .inv .1 ∙ ap (λ (k : ℕ). parity k (λ i. present (start .args .t .now) i && within i (start .args .p))) e
 
 pub odd-in-blocks-spec : {M : Type 1} → statement M
 odd-in-blocks-spec =
