@@ -3,3 +3,4 @@ pub mod Beyond
 pub mod Stages
 pub mod Slots
 pub mod States
+pub mod Lengths

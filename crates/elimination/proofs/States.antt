@@ -4,7 +4,7 @@ use mathlib.Core.Path.{_≡_, refl, sym, ap, _∙_}
 use mathlib.Core.Bool.{true}
 use mathlib.Core.List.{List}
 use Prim.Native.Nat.{ℕ, _+_, _-_, _*_, _/_, _%_, _^_, _≤_, _<_}
-use native.Mathlib.Nat.{add-comm, add-mul, one-mul, mul-le-mul, mul-le-mul-right, mod-lt}
+use native.Mathlib.Nat.{add-comm, add-mul, one-mul, mul-le-mul-right, mod-lt}
 use native.Mathlib.Omega.{arith}
 use lib.Pow.{pow-pos, pow-add, shl-lt, shl-shr, split}
 use lib.ListN.{length}
@@ -94,6 +94,3 @@ pub answers-arranged : (u m c : ℕ) (f o slots answers : List ℕ) → IsOrder 
 answers-arranged u m c f o slots answers is once ec es ea =
     let pos : 0 < 2 ^ m = pow-pos m in
     ea ∙ ap (λ (x : ℕ). listed (u * 2 ^ x) (slotWord (2 ^ x) o slots)) ec ∙ arranged u (2 ^ m) (bitAt f) o slots is once pos es
-
-pub slots-fit : (u k : ℕ) (o : List ℕ) → length o ≡ u → u ≤ 6 → k ≤ 16 → length o * k ≤ 96
-slots-fit u k o e h l = let a : length o ≤ 6 = omega arith in mul-le-mul a l

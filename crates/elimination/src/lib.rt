@@ -14,7 +14,8 @@ ghost use Rattle.solution.specs.Condition.{IsOrder};
 ghost use Rattle.solution.specs.Elimination.{smallestBelow};
 ghost use Rattle.solution.specs.Inner.ByPoints.{bothCases, remainsThrough, answeredThrough};
 ghost use Rattle.words.specs.Words.{wordsOf, bitAt, answerWords};
-ghost use Rattle.elimination.specs.Inner.Stages.{InLetters, IgnoresUnknowns, noRepeats, ListsEach, stageWords, slotWords, putWords, placeOf, slotWord};
+ghost use Rattle.elimination.specs.Inner.Stages.{InLetters, IgnoresUnknowns, noRepeats, ListsEach};
+ghost use Rattle.elimination.specs.Inner.Stages.{stageWords, slotWords, putWords, firstAnswered, placeOf, slotWord};
 
 // f into `stage`, and then the product of its two cases of x in its place.
 fn keep_stage(x: usize, c: usize, f: &mut [u64], stage: &mut [u64])
@@ -43,7 +44,8 @@ fn keep_stages(order: &[usize], c: usize, f: &mut [u64], stages: &mut [u64])
 // a with the values in `slots` put for the letters of the order, the last one first.
 fn put_later(order: &[usize], c: usize, slots: &[u64], a: &mut [u64])
     requires { ⌜ (c ≤ 4) × InLetters (6 + c) (now order) × (length (now slots) ≡ length (now order) * 2 ^ c) × (length (now a) ≡ 2 ^ c) ⌝ }
-    ensures { λ _. ⌜ now (a .exit) ≡ wordsOf (2 ^ c) (putWords (2 ^ c) (now (slots .entry)) (now (order .entry)) (bitAt (now (a .entry)))) ⌝ }
+    ensures { λ _. ⌜ now (a .exit)
+        ≡ wordsOf (2 ^ c) (putWords (2 ^ c) (now (slots .entry)) (now (order .entry)) (bitAt (now (a .entry)))) ⌝ }
 {
     if order.len() == 0 {
         return;
@@ -54,8 +56,9 @@ fn put_later(order: &[usize], c: usize, slots: &[u64], a: &mut [u64])
 }
 
 fn answer_with(order: &[usize], c: usize, stages: &mut [u64], own: &mut [u64])
-    requires { ⌜ (c ≤ 4) × (0 < length (now order)) × InLetters (6 + c) (now order) × (length (now stages) ≡ length (now order) * 2 ^ c) × (length (now own) ≡ 2 ^ c) ⌝ }
-    ensures { λ _. ⌜ now (stages .exit) ≡ wordsOf (2 ^ c) (putWords (2 ^ c) (drop (2 ^ c) (now (stages .entry))) (drop 1 (now (order .entry))) (λ p. bitAt (now (stages .entry)) p ⊕ bit p (getD (now (order .entry)) 0 0))) ++ drop (2 ^ c) (now (stages .entry)) ⌝ }
+    requires { ⌜ (c ≤ 4) × (0 < length (now order)) × InLetters (6 + c) (now order)
+        × (length (now stages) ≡ length (now order) * 2 ^ c) × (length (now own) ≡ 2 ^ c) ⌝ }
+    ensures { λ _. ⌜ now (stages .exit) ≡ firstAnswered (2 ^ c) (now (order .entry)) (now (stages .entry)) ⌝ }
 {
     let k = tables::pow2(c);
     words::copy(own, &stages[..k]);
@@ -67,7 +70,7 @@ fn answer_with(order: &[usize], c: usize, stages: &mut [u64], own: &mut [u64])
 // The answer for the first unknown of the order in the place of its stage, the later answers standing behind. The scratch words live here.
 fn answer_first(order: &[usize], c: usize, stages: &mut [u64])
     requires { ⌜ (c ≤ 4) × (0 < length (now order)) × InLetters (6 + c) (now order) × (length (now stages) ≡ length (now order) * 2 ^ c) ⌝ }
-    ensures { λ _. ⌜ now (stages .exit) ≡ wordsOf (2 ^ c) (putWords (2 ^ c) (drop (2 ^ c) (now (stages .entry))) (drop 1 (now (order .entry))) (λ p. bitAt (now (stages .entry)) p ⊕ bit p (getD (now (order .entry)) 0 0))) ++ drop (2 ^ c) (now (stages .entry)) ⌝ }
+    ensures { λ _. ⌜ now (stages .exit) ≡ firstAnswered (2 ^ c) (now (order .entry)) (now (stages .entry)) ⌝ }
 {
     let k = tables::pow2(c);
     let mut own = [0u64; 16];
@@ -76,7 +79,8 @@ fn answer_first(order: &[usize], c: usize, stages: &mut [u64])
 
 // The answers in the place of the stages, the last unknown first.
 fn answer_all(order: &[usize], c: usize, stages: &mut [u64])
-    requires { ⌜ (c ≤ 4) × InLetters (6 + c) (now order) × (noRepeats (now order) ≡ true) × (now stages ≡ stageWords (2 ^ c) (bitAt (now stages)) (now order)) ⌝ }
+    requires { ⌜ (c ≤ 4) × InLetters (6 + c) (now order) × (noRepeats (now order) ≡ true)
+        × (now stages ≡ stageWords (2 ^ c) (bitAt (now stages)) (now order)) ⌝ }
     ensures { λ _. ⌜ now (stages .exit) ≡ slotWords (2 ^ c) (bitAt (now (stages .entry))) (now (order .entry)) ⌝ }
 {
     if order.len() == 0 {
@@ -87,7 +91,8 @@ fn answer_all(order: &[usize], c: usize, stages: &mut [u64])
     answer_first(order, c, stages);
 }
 
-// The first state in which something remains, 2 ^ g if there is none: that of the first point, since what remains does not turn on the unknowns.
+// The first state in which something remains, 2 ^ g if there is none: that of the first point, since what remains does not turn on the
+// unknowns.
 fn first_state(f: &[u64], u: usize, g: usize) -> usize
     requires { ⌜ (u + g ≤ 10) × (length (now f) ≡ 2 ^ (u + g - 6)) × IgnoresUnknowns u (2 ^ (u + g - 6)) (bitAt (now f)) ⌝ }
     ensures { λ r. ⌜ r ≡ smallestBelow (2 ^ g) (λ s. bitAt (now (f .entry)) (s * 2 ^ u)) ⌝ }
@@ -114,9 +119,11 @@ fn place(order: &[usize], x: usize) -> usize
 // Elimination, and the answers in the order's slots, unless something remains. Uses up the values f of the condition.
 // Answers the first state in which something remains, 2 ^ g if there is none.
 fn solve_slots(u: usize, g: usize, order: &[usize], f: &mut [u64], slots: &mut [u64]) -> usize
-    requires { ⌜ (u + g ≤ 10) × IsOrder u (now order) × (noRepeats (now order) ≡ true) × (length (now f) ≡ 2 ^ (u + g - 6)) × (length (now slots) ≡ length (now order) * 2 ^ (u + g - 6)) ⌝ }
+    requires { ⌜ (u + g ≤ 10) × IsOrder u (now order) × (noRepeats (now order) ≡ true)
+        × (length (now f) ≡ 2 ^ (u + g - 6)) × (length (now slots) ≡ length (now order) * 2 ^ (u + g - 6)) ⌝ }
     ensures { λ r. ⌜ r ≡ smallestBelow (2 ^ g) (λ s. remainsThrough (bitAt (now (f .entry))) (now (order .entry)) (s * 2 ^ u)) ⌝ }
-    ensures { λ r. ⌜ (2 ^ g ≤ r → now (slots .exit) ≡ slotWords (2 ^ (u + g - 6)) (bitAt (now (f .entry))) (now (order .entry))) ⌝ }
+    ensures { λ r. ⌜ (2 ^ g ≤ r
+        → now (slots .exit) ≡ slotWords (2 ^ (u + g - 6)) (bitAt (now (f .entry))) (now (order .entry))) ⌝ }
 {
     let c = words::further(u + g);
     keep_stages(order, c, f, slots);
@@ -130,7 +137,8 @@ fn solve_slots(u: usize, g: usize, order: &[usize], f: &mut [u64], slots: &mut [
 
 // The answers by unknown, unknown 0 first, from the order's slots.
 fn arrange(u: usize, c: usize, order: &[usize], slots: &[u64], answers: &mut [u64])
-    requires { ⌜ (c ≤ 4) × IsOrder u (now order) × (length (now slots) ≡ length (now order) * 2 ^ c) × (length (now answers) ≡ u * 2 ^ c) ⌝ }
+    requires { ⌜ (c ≤ 4) × IsOrder u (now order)
+        × (length (now slots) ≡ length (now order) * 2 ^ c) × (length (now answers) ≡ u * 2 ^ c) ⌝ }
     ensures { λ _. ⌜ now (answers .exit) ≡ listed (u * 2 ^ c) (slotWord (2 ^ c) (now (order .entry)) (now (slots .entry))) ⌝ }
 {
     let k = tables::pow2(c);
@@ -151,10 +159,13 @@ fn solve_with(
     slots: &mut [u64],
     answers: &mut [u64],
 ) -> usize
-    requires { ⌜ (u + g ≤ 10) × IsOrder u (now order) × (noRepeats (now order) ≡ true) × (length (now f) ≡ 2 ^ (u + g - 6)) × (length (now answers) ≡ u * 2 ^ (u + g - 6)) ⌝ }
+    requires { ⌜ (u + g ≤ 10) × IsOrder u (now order) × (noRepeats (now order) ≡ true)
+        × (length (now f) ≡ 2 ^ (u + g - 6)) × (length (now answers) ≡ u * 2 ^ (u + g - 6)) ⌝ }
     requires { ⌜ length (now slots) ≡ length (now order) * 2 ^ (u + g - 6) ⌝ }
     ensures { λ r. ⌜ r ≡ smallestBelow (2 ^ g) (λ s. remainsThrough (bitAt (now (f .entry))) (now (order .entry)) (s * 2 ^ u)) ⌝ }
-    ensures { λ r. ⌜ (2 ^ g ≤ r → now (answers .exit) ≡ answerWords u (2 ^ (u + g - 6)) (λ x p. bit (answeredThrough (bitAt (now (f .entry))) (now (order .entry)) p) x)) ⌝ }
+    ensures { λ r. ⌜ (2 ^ g ≤ r
+        → now (answers .exit)
+        ≡ answerWords u (2 ^ (u + g - 6)) (λ x p. bit (answeredThrough (bitAt (now (f .entry))) (now (order .entry)) p) x)) ⌝ }
 {
     let state = solve_slots(u, g, order, f, slots);
     if state < tables::pow2(g) {
@@ -167,9 +178,12 @@ fn solve_with(
 // From the values f of a condition, which it uses up, to the values of Boole's answers, unless something remains.
 // Answers the first state in which something remains, 2 ^ g if there is none. The scratch words live here.
 pub fn solve_words(u: usize, g: usize, order: &[usize], f: &mut [u64], answers: &mut [u64]) -> usize
-    requires { ⌜ (u ≤ 6) × (u + g ≤ 10) × ListsEach u (now order) × (length (now f) ≡ 2 ^ (u + g - 6)) × (length (now answers) ≡ u * 2 ^ (u + g - 6)) ⌝ }
+    requires { ⌜ (u ≤ 6) × (u + g ≤ 10) × ListsEach u (now order)
+        × (length (now f) ≡ 2 ^ (u + g - 6)) × (length (now answers) ≡ u * 2 ^ (u + g - 6)) ⌝ }
     ensures { λ r. ⌜ r ≡ smallestBelow (2 ^ g) (λ s. remainsThrough (bitAt (now (f .entry))) (now (order .entry)) (s * 2 ^ u)) ⌝ }
-    ensures { λ r. ⌜ (2 ^ g ≤ r → now (answers .exit) ≡ answerWords u (2 ^ (u + g - 6)) (λ x p. bit (answeredThrough (bitAt (now (f .entry))) (now (order .entry)) p) x)) ⌝ }
+    ensures { λ r. ⌜ (2 ^ g ≤ r
+        → now (answers .exit)
+        ≡ answerWords u (2 ^ (u + g - 6)) (λ x p. bit (answeredThrough (bitAt (now (f .entry))) (now (order .entry)) p) x)) ⌝ }
 {
     let all = order.len() * words::word_count(u + g);
     let mut slots = [0u64; 96];

@@ -189,4 +189,4 @@ once (suc k) h apart =
 -- .. and lists each unknown
 pub lists-each : (u : ℕ) {order : List ℕ} → order ≡ defaultOrder u → ListsEach u order
 unfolding defaultOrder
-lists-each u e = rw e (default-order u, once u (λ j. j) (λ i j same. same), length-listed u (λ j. j))
+lists-each u e = rw e (default-order u, once u (λ j. j) (λ i j same. same))

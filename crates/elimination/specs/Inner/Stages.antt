@@ -6,7 +6,7 @@ use mathlib.Core.Bool.{Bool, true, not, _&&_, cond}
 use mathlib.Core.List.{List, [], _∷_, _++_}
 use Prim.Native.Nat.{ℕ, suc, _+_, _*_, _/_, _%_, _<_}
 use lib.Dec.{eqb}
-use lib.ListN.{length, getD, drop}
+use lib.ListN.{getD, drop}
 use Rattle.ring.specs.Letters.{bit, assign}
 use Rattle.ring.specs.Lists.{has}
 use Rattle.ring.specs.Polynomial.{_⊕_}
@@ -29,7 +29,7 @@ noRepeats (x ∷ order) = not (has x order) && noRepeats order
 
 -- the order lists each of the U unknowns once
 abbrev pub ListsEach : ℕ → List ℕ → Type 0
-ListsEach U order = IsOrder U order × (noRepeats order ≡ true) × (length order ≡ U)
+ListsEach U order = IsOrder U order × (noRepeats order ≡ true)
 
 -- the conditions before each unknown goes
 unfoldable pub stageWords : ℕ → (ℕ → Bool) → List ℕ → List ℕ
@@ -49,6 +49,11 @@ slotWords k f (x ∷ order) = wordsOf k (answerAt f x order) ++ slotWords k (bot
 unfoldable pub putWords : ℕ → List ℕ → List ℕ → (ℕ → Bool) → ℕ → Bool
 putWords k slots [] a p = a p
 putWords k slots (x ∷ order) a p = putWords k (drop k slots) order a (assign p x (bitAt slots p))
+
+-- the stages with the answer for the first unknown in the place of its own, the later answers standing behind: f + x with these put in
+abbrev pub firstAnswered : ℕ → List ℕ → List ℕ → List ℕ
+firstAnswered k order stages =
+    wordsOf k (putWords k (drop k stages) (drop 1 order) (λ p. bitAt stages p ⊕ bit p (getD order 0 0))) ++ drop k stages
 
 -- where x stands in the order
 unfoldable pub placeOf : List ℕ → ℕ → ℕ
