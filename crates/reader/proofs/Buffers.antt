@@ -1,46 +1,49 @@
--- The ways out of reading: refused by one of the questions before 4, by 4, and with the tables written for a 'none' or a solved entry.
+-- The ways out of reading: refused by one of the questions before 4, by 4, and with the tables written.
 -- Assumes nothing.
 use mathlib.Core.Path.{_≡_, refl, sym, ap, _∙_}
-use mathlib.Core.Bool.{Bool, true, false, cond, _&&_, and-true}
+use mathlib.Core.Bool.{Bool, true, false}
 use mathlib.Core.List.{List, [], _∷_, _++_}
-use Prim.Native.Nat.{ℕ, _+_, _*_, _^_, _≤_, _<_}
-use native.Mathlib.Nat.{one-mul}
+use mathlib.Core.Logic.{_⊎_, inl, inr}
+use Prim.Native.Nat.{ℕ, _+_, _*_, _^_, _≤_}
 use native.Mathlib.Omega.{arith}
-use lib.Dec.{leb}
 use lib.ListN.{length, take, drop, length-append, take-append-drop}
 use lib.Seq.{length-take-le, take-append-seam, drop-append-seam}
-use borrow.Author.Tests.{le-leb, lt-leb}
 use Rattle.ring.specs.declared.State.{State}
 use Rattle.ring.specs.Table.{tabulate, table, answerTable}
 use Rattle.ring.proofs.Table.{length-tabulate, length-table, length-answerTable}
-use Rattle.tables.specs.Questions.{firstNo, lettersFit, hasRoom, haveRoom}
-use Rattle.tables.specs.Answered.{accepted, after}
-use Rattle.tables.proofs.FirstNo.{first-counts}
+use Rattle.tables.specs.declared.Question.the-variants.{Room}
+use Rattle.tables.specs.Questions.{asks, firstNo, lettersFit, hasRoom, writes, roomQuestions, bitQuestions, bufferQuestions}
+use Rattle.tables.specs.Answered.{accepted, refused, answered, _into_}
+use Rattle.tables.specs.Inner.Asking.{also}
+use Rattle.tables.proofs.FirstNo.{also-none, ask-then, ask-last, then-further}
+use Rattle.tables.proofs.Answered.{call-stops, call-refused, call-done-two}
 use Rattle.tables.proofs.Parts.{answers-fit}
 use Rattle.tables.proofs.Questions.{letters-small, unknowns-small}
-use Rattle.tables.proofs.Reply.{reply-refused, reply-accepted, after-refused, after-done}
-use Rattle.solution.specs.Elimination.{Verdict, solved, none}
-use Rattle.entry.specs.Held.{records, unknownsOf, givensOf, conditionIn, answersIn, heldCondition, heldVerdict}
-use Rattle.entry.specs.Questions.{numbersFit, entryQuestions, readQuestions}
+use Rattle.solution.specs.Elimination.{solved, none, Verdict as Said}
+use Rattle.entry.specs.Held.{records, unknownsOf, givensOf, conditionIn, answersIn, unlessNone, heldCondition, heldVerdict}
+use Rattle.entry.specs.Questions.{numbersFit}
 use Rattle.entry.proofs.Places.{numbers-by-places}
-use Rattle.entry.proofs.Passes.{Passes, passes, then-asked}
+use Rattle.entry.proofs.Canonical.{unless-cases}
+use Rattle.entry.proofs.Passes.{Passes}
 use Rattle.calls.specs.declared.Heading.{Heading}
+use Rattle.calls.specs.declared.Verdict.{Verdict}
+use Rattle.calls.specs.declared.Verdict.the-variants.{Solved, None}
+use Rattle.calls.specs.Questions.{entryQuestions, readQuestions}
+use Rattle.calls.specs.Entries.{readValues, readCall, stateOf, stateSaid, answersOf}
+use Rattle.calls.proofs.Questions.{passes-exactly, read-exactly}
 use Rattle.records.specs.Inner.Headings.{lengthUsed, headingOf, said}
-use Rattle.records.proofs.Headings.{heading-u, heading-g, said-none, said-solved}
-use Rattle.calls.specs.declared.Read.the-variants.{Solved, None, Refused}
-use Rattle.calls.specs.declared.Verdict.{Said}
-use Rattle.calls.specs.declared.Verdict.the-variants as said-variants
-use Rattle.calls.specs.GONE.{readRefusal, heldAnswers}
-use Rattle.calls.specs.Entries.{readValues, stateOf, answersOf}
-use Rattle.reader.specs.Inner.Filling.{zeros, putMonomial, filled, roomFor, Fitting, Reads}
+use Rattle.records.proofs.Headings.{heading-u, heading-g}
+use Rattle.reader.specs.Inner.Filling.{zeros, putMonomial, filled, roomFor, Fitting}
 use Rattle.reader.proofs.Filling.{filled-condition, filled-answers, filled-nothing}
 
 -- ---- a buffer whose front was cleared
 front-is : (k : ℕ) (front rest : List ℕ) → front ≡ zeros k → take k (front ++ rest) ≡ zeros k
-front-is k front rest e = rw e (ap (λ (i : ℕ). take i (zeros k ++ rest)) (sym (length-tabulate k (λ i. false))) ∙ take-append-seam (zeros k) rest)
+front-is k front rest e =
+    rw e (ap (λ (i : ℕ). take i (zeros k ++ rest)) (sym (length-tabulate k (λ i. false))) ∙ take-append-seam (zeros k) rest)
 
 rest-is : (k : ℕ) (front rest : List ℕ) → front ≡ zeros k → drop k (front ++ rest) ≡ rest
-rest-is k front rest e = rw e (ap (λ (i : ℕ). drop i (zeros k ++ rest)) (sym (length-tabulate k (λ i. false))) ∙ drop-append-seam (zeros k) rest)
+rest-is k front rest e =
+    rw e (ap (λ (i : ℕ). drop i (zeros k ++ rest)) (sym (length-tabulate k (λ i. false))) ∙ drop-append-seam (zeros k) rest)
 
 no-zeros : zeros 0 ≡ []
 unfolding tabulate
@@ -55,7 +58,8 @@ module _ (j : ℕ) (c c₁ : List ℕ) (e : c₁ ≡ zeros (length (take j c))) 
   again-whole : length (c₁ ++ drop j c) ≡ length c
   again-whole =
       let h : length c₁ ≡ length (take j c) = ap length e ∙ length-tabulate (length (take j c)) (λ i. false) in
-      length-append c₁ (drop j c) ∙ ap (λ (i : ℕ). i + length (drop j c)) h ∙ sym (length-append (take j c) (drop j c)) ∙ ap length (take-append-drop j c)
+      length-append c₁ (drop j c) ∙ ap (λ (i : ℕ). i + length (drop j c)) h
+      ∙ sym (length-append (take j c) (drop j c)) ∙ ap length (take-append-drop j c)
 
   pub again-fits : {k : ℕ} → k ≤ length c → k ≤ length (c₁ ++ drop j c)
   again-fits l = rw again-whole l
@@ -66,34 +70,28 @@ module _ (j : ℕ) (c c₁ : List ℕ) (e : c₁ ≡ zeros (length (take j c))) 
   pub again-size : (k : ℕ) {n : ℕ} → k ≤ length c → k ≡ n → length (take k (c₁ ++ drop j c)) ≡ n
   again-size k l f = sym (again-long k l) ∙ f
 
-pub room-fits : (v : Said) {room size : ℕ} (l : ℕ) → room ≡ roomFor v size → size ≤ l → room ≤ l
-room-fits v {room} {size} l e h = rw e (go v)
-  where
-    go : (v : Said) → roomFor v size ≤ l
-    go said-variants.Solved = h
-    go (said-variants.None state) = omega arith
+-- whether a verdict is 'none', and in which state
+state-told : {A : Type 0} (w : Said A) → stateSaid (said w) ≡ stateOf w
+state-told (solved a) = refl
+state-told (none state) = refl
+
+-- ---- question 4, as the code asks it
+pub room-asked : (k room size answerRoom : ℕ) {q r : ℕ} {a b : Bool} → a ≡ hasRoom k room → q ≡ also 0 (asks Room a ∷ []) → b ≡ hasRoom size answerRoom
+    → r ≡ also q (asks Room b ∷ []) → r ≡ firstNo (bufferQuestions (writes k room ∷ writes size answerRoom ∷ []))
+unfolding bufferQuestions roomQuestions bitQuestions
+room-asked k room size answerRoom {q} {r} ea eq eb er =
+    ask-then 0 q r Room _ _ _ eq ea (ask-last q r Room _ _ er eb) ∙ sym (also-none _)
 
 -- ---- refused before question 4
-pub read-refused : (bs c a : List ℕ) {q : ℕ} → q ≡ firstNo (entryQuestions (records bs)) → (q ≡ 0 → ⊥) → Reads bs c a (Refused q) c a
-unfolding readRefusal readQuestions
-read-refused bs c a {q} e n =
-    let f : q ≡ readRefusal bs (length c) (length a) = e ∙ sym (first-counts (entryQuestions (records bs)) _ (λ z. n (e ∙ z))) in
-    record {
-      answer = reply-refused q _ f (readValues (records bs)) n;
-      condition = after-refused q _ f (heldCondition (records bs)) c n;
-      answers = after-refused q _ f (heldAnswers (records bs)) a n;
-    }
+pub read-refused : (bs c a : List ℕ) {q : ℕ} → q ≡ firstNo (entryQuestions (records bs)) → (q ≡ 0 → ⊥)
+    → answered (refused q []) (c ∷ a ∷ []) ≡ readCall bs c a
+unfolding readQuestions entryQuestions
+read-refused bs c a {q} e n = call-stops (entryQuestions (records bs)) _ _ (_ into c ∷ _ into a ∷ []) q refl e n
 
--- ---- question 4
-pub then-4 : (bs : List ℕ) → firstNo (entryQuestions (records bs)) ≡ 0 → {u g : ℕ} → unknownsOf (records bs) ≡ u → givensOf (records bs) ≡ g → (room answerRoom : ℕ)
-    → readRefusal bs room answerRoom ≡ cond (leb (2 ^ (u + g)) room && leb (u * 2 ^ (u + g)) answerRoom) 0 4
-unfolding readRefusal readQuestions haveRoom hasRoom firstNo
-then-4 bs p {u} {g} eu eg room answerRoom = then-asked (records bs) _ p ∙ rw (eu, eg, one-mul (2 ^ (u + g)), and-true (leb (u * 2 ^ (u + g)) answerRoom))
-
--- ---- and behind it
+-- ---- behind the questions before it
 module _ (bs : List ℕ) (p : firstNo (entryQuestions (records bs)) ≡ 0) {h : Heading} (eh : h ≡ headingOf (records bs)) where
   held : Passes (records bs)
-  held = passes (records bs) p
+  held = passes-exactly (records bs) .0 p
 
   of-u : h .unknowns ≡ unknownsOf (records bs)
   of-u = heading-u (records bs) eh
@@ -123,86 +121,95 @@ module _ (bs : List ℕ) (p : firstNo (entryQuestions (records bs)) ≡ 0) {h : 
   pub size-small : {k : ℕ} → k ≡ 2 ^ (h .unknowns + h .givens) → h .unknowns * k ≤ 6144
   size-small ek = answers-fit heading-unknowns ek heading-small
 
-  module _ (c a : List ℕ) {k : ℕ} (ek : k ≡ 2 ^ (h .unknowns + h .givens)) where
-    roomy : Bool
-    roomy = leb k (length c) && leb (h .unknowns * k) (length a)
+  module _ (c a : List ℕ) {k : ℕ} (ek : k ≡ 2 ^ (h .unknowns + h .givens)) {q : ℕ}
+      (eq : q ≡ firstNo (bufferQuestions (writes k (length c) ∷ writes (h .unknowns * k) (length a) ∷ []))) where
+    refusal : q ≡ firstNo (readQuestions (records bs) (length c) (length a))
+    unfolding readQuestions
+    refusal = eq ∙ rw (ek, of-u, of-g) (sym (then-further (entryQuestions (records bs)) _ p))
 
-    refusal : readRefusal bs (length c) (length a) ≡ cond roomy 0 4
-    unfolding roomy
-    refusal = then-4 bs p (sym of-u) (sym of-g) (length c) (length a) ∙ rw (← ek)
+    pub read-short : (q ≡ 0 → ⊥) → answered (refused q []) (c ∷ a ∷ []) ≡ readCall bs c a
+    unfolding readQuestions entryQuestions bufferQuestions roomQuestions bitQuestions
+    read-short n = call-refused (readQuestions (records bs) (length c) (length a)) _ (_ into c ∷ _ into a ∷ []) q refl refusal n
 
-    short : roomy ≡ false → Reads bs c a (Refused 4) c a
-    short e =
-        let f : 4 ≡ readRefusal bs (length c) (length a) = sym (refusal ∙ rw e) in
-        let n : (_≡_ {A = ℕ} 4 0 → ⊥) = λ z. omega arith in
-        record {
-          answer = reply-refused 4 _ f (readValues (records bs)) n;
-          condition = after-refused 4 _ f (heldCondition (records bs)) c n;
-          answers = after-refused 4 _ f (heldAnswers (records bs)) a n;
-        }
+    module _ (z : q ≡ 0) where
+      roomy : (2 ^ (unknownsOf (records bs) + givensOf (records bs)) ≤ length c)
+          × (unknownsOf (records bs) * 2 ^ (unknownsOf (records bs) + givensOf (records bs)) ≤ length a)
+      roomy = read-exactly (records bs) (length c) (length a) .0 (sym refusal ∙ z) .1
 
-    pub read-short : length c < k → Reads bs c a (Refused 4) c a
-    unfolding roomy
-    read-short l = short (rw (lt-leb k (length c) l))
+      pub condition-fits : k ≤ length c
+      condition-fits = rw (ek, of-u, of-g) (roomy .0)
 
-    module _ (l : k ≤ length c) where
-      pub read-few : length a < h .unknowns * k → Reads bs c a (Refused 4) c a
-      unfolding roomy
-      read-few m = short (rw (le-leb k (length c) l, lt-leb (h .unknowns * k) (length a) m))
+      pub answers-fits : (v : Verdict) {room : ℕ} → room ≡ roomFor v (h .unknowns * k) → room ≤ length a
+      answers-fits v er = rw er (go v)
+        where
+          all : h .unknowns * k ≤ length a
+          all = rw (ek, of-u, of-g) (roomy .1)
+
+          go : (v : Verdict) → roomFor v (h .unknowns * k) ≤ length a
+          go Solved = all
+          go (None state) = omega arith
 
       -- cleared, filled from the records, and back in place
-      module _ (m : h .unknowns * k ≤ length a) {v : Said} (ev : v ≡ said (heldVerdict (records bs))) {room : ℕ} (er : room ≡ roomFor v (h .unknowns * k)) {c₁ c₂ a₁ a₂ : List ℕ}
+      module _ {v : Verdict} (ev : v ≡ said (heldVerdict (records bs))) {room : ℕ} (er : room ≡ roomFor v (h .unknowns * k)) {c₁ c₂ a₁ a₂ : List ℕ}
           (ec₁ : c₁ ≡ zeros (length (take k c)))
           (ec₂ : c₂ ≡ filled (putMonomial 0 (2 ^ (h .unknowns + h .givens))) (records bs) (take k (c₁ ++ drop k c)))
           (ea₁ : a₁ ≡ zeros (length (take room a)))
           (ea₂ : a₂ ≡ filled (putMonomial 1 (2 ^ (h .unknowns + h .givens))) (records bs) (take room (a₁ ++ drop room a))) where
-        done : 0 ≡ readRefusal bs (length c) (length a)
-        unfolding roomy
-        done = sym (refusal ∙ rw (le-leb k (length c) l, le-leb (h .unknowns * k) (length a) m))
-
         cleared-c : c₁ ≡ zeros k
-        cleared-c = ec₁ ∙ ap zeros (length-take-le k c l)
+        cleared-c = ec₁ ∙ ap zeros (length-take-le k c condition-fits)
 
-        condition-is : c₂ ≡ table (h .unknowns + h .givens) (conditionIn (records bs))
+        condition-is : c₂ ≡ heldCondition (records bs) .table
+        unfolding heldCondition
         condition-is =
             filled-condition (h .unknowns) (h .givens) (records bs) heading-fits k {t₁ = take k (c₁ ++ drop k c)} (front-is k c₁ (drop k c) cleared-c) ec₂ ek
+            ∙ rw (of-u, of-g)
 
-        condition-done : c₂ ++ drop k (c₁ ++ drop k c) ≡ after (readRefusal bs (length c) (length a)) (heldCondition (records bs)) c
+        condition-long : k ≡ length (heldCondition (records bs) .table)
         unfolding heldCondition
-        condition-done =
-            ap (λ (z : List ℕ). c₂ ++ z) (rest-is k c₁ (drop k c) cleared-c)
-            ∙ after-done 0 _ done (heldCondition (records bs)) c k c₂ refl (condition-is ∙ rw (of-u, of-g))
-            (ek ∙ rw (of-u, of-g) (sym (length-table (unknownsOf (records bs) + givensOf (records bs)) (conditionIn (records bs)))))
+        condition-long =
+            ek ∙ rw (of-u, of-g) (sym (length-table (unknownsOf (records bs) + givensOf (records bs)) (conditionIn (records bs))))
 
-        values : {given : List ℕ} → stateOf (heldVerdict (records bs)) ≡ given → (h .route ∷ h .unknowns ∷ h .givens ∷ h .used ∷ given) ≡ readValues (records bs)
+        condition-done : c₂ ++ drop k (c₁ ++ drop k c) ≡ heldCondition (records bs) .table ++ drop (length (heldCondition (records bs) .table)) c
+        condition-done = rw (rest-is k c₁ (drop k c) cleared-c, condition-is, ← condition-long)
+
+        values : (h .route ∷ h .unknowns ∷ h .givens ∷ h .used ∷ stateSaid v) ≡ readValues (records bs)
         unfolding readValues headingOf lengthUsed
-        values e = rw (eh, held .whole, e)
+        values = rw (ev, state-told (heldVerdict (records bs)), eh, held .whole)
 
-        pub read-none : {state : State} → v ≡ said-variants.None state → Reads bs c a (None h state) (c₂ ++ drop k (c₁ ++ drop k c)) (a₂ ++ drop room (a₁ ++ drop room a))
-        unfolding heldAnswers
-        read-none {state} s =
-            let w : heldVerdict (records bs) ≡ none state = said-none (heldVerdict (records bs)) state (sym ev ∙ s) in
-            let z : room ≡ 0 = er ∙ ap (λ (x : Said). roomFor x (h .unknowns * k)) s in
-            let a₁-none : a₁ ≡ [] = ea₁ ∙ rw z no-zeros in
-            let a₂-none : a₂ ≡ [] = ea₂ ∙ rw z (filled-nothing 1 (2 ^ (h .unknowns + h .givens)) (records bs)) in
-            record {
-              answer = ap accepted (values (ap stateOf w)) ∙ reply-accepted 0 _ done (readValues (records bs)) refl;
-              condition = condition-done;
-              answers = rw (z, a₁-none, a₂-none) (after-done 0 _ done (heldAnswers (records bs)) a 0 [] refl (sym (ap answersOf w)) (sym (ap (λ (x : Verdict (List ℕ)). length (answersOf x)) w)));
-            }
+        cleared-a : a₁ ≡ zeros room
+        cleared-a = ea₁ ∙ ap zeros (length-take-le room a (answers-fits v er))
 
-        pub read-solved : v ≡ said-variants.Solved → Reads bs c a (Solved h) (c₂ ++ drop k (c₁ ++ drop k c)) (a₂ ++ drop room (a₁ ++ drop room a))
-        unfolding heldAnswers heldVerdict
-        read-solved s =
-            let w : heldVerdict (records bs) ≡ solved (answerTable (unknownsOf (records bs)) (unknownsOf (records bs) + givensOf (records bs)) (answersIn (records bs))) = said-solved _ (records bs) (sym ev ∙ s) in
-            let z : room ≡ h .unknowns * k = er ∙ ap (λ (x : Said). roomFor x (h .unknowns * k)) s in
-            let fits : room ≤ length a = rw z m in
-            let cleared-a : a₁ ≡ zeros room = ea₁ ∙ ap zeros (length-take-le room a fits) in
-            let is : a₂ ≡ answerTable (h .unknowns) (h .unknowns + h .givens) (answersIn (records bs)) = filled-answers (h .unknowns) (h .givens) (records bs) heading-fits room (front-is room a₁ (drop room a) cleared-a) ea₂ (z ∙ ap (λ (x : ℕ). h .unknowns * x) ek) in
-            record {
-              answer = ap accepted (values (ap stateOf w)) ∙ reply-accepted 0 _ done (readValues (records bs)) refl;
-              condition = condition-done;
-              answers = ap (λ (y : List ℕ). a₂ ++ y) (rest-is room a₁ (drop room a) cleared-a)
-                  ∙ after-done 0 _ done (heldAnswers (records bs)) a room a₂ refl (is ∙ rw (of-u, of-g) (sym (ap answersOf w)))
-                  (z ∙ rw (ek, of-u, of-g) (sym (ap (λ (x : Verdict (List ℕ)). length (answersOf x)) w ∙ length-answerTable (unknownsOf (records bs)) (unknownsOf (records bs) + givensOf (records bs)) (answersIn (records bs)))));
-            }
+        -- the answers of a solved entry; a 'none' entry has none
+        abbrev answerTables : List ℕ
+        answerTables = answerTable (unknownsOf (records bs)) (unknownsOf (records bs) + givensOf (records bs)) (answersIn (records bs))
+
+        answers-are : (a₂ ≡ answersOf (heldVerdict (records bs))) × (room ≡ length (answersOf (heldVerdict (records bs))))
+        unfolding heldVerdict
+        answers-are = go (unless-cases answerTables (records bs))
+          where
+            room-is : (w : Said (List ℕ)) → unlessNone answerTables (records bs) ≡ w → room ≡ roomFor (said w) (h .unknowns * k)
+            room-is w e = er ∙ ap (λ (x : Verdict). roomFor x (h .unknowns * k)) (ev ∙ ap said e)
+
+            go : (unlessNone answerTables (records bs) ≡ solved answerTables) ⊎ ((state : State) × (unlessNone answerTables (records bs) ≡ none state))
+                → (a₂ ≡ answersOf (unlessNone answerTables (records bs))) × (room ≡ length (answersOf (unlessNone answerTables (records bs))))
+            go (inl e) =
+                let z : room ≡ h .unknowns * k = room-is (solved answerTables) e in
+                let is : a₂ ≡ answerTable (h .unknowns) (h .unknowns + h .givens) (answersIn (records bs)) =
+                filled-answers (h .unknowns) (h .givens) (records bs) heading-fits room (front-is room a₁ (drop room a) cleared-a) ea₂
+                (z ∙ ap (λ (x : ℕ). h .unknowns * x) ek) in
+                let l : length answerTables ≡ unknownsOf (records bs) * 2 ^ (unknownsOf (records bs) + givensOf (records bs)) =
+                length-answerTable (unknownsOf (records bs)) (unknownsOf (records bs) + givensOf (records bs)) (answersIn (records bs)) in
+                rw e (is ∙ rw (of-u, of-g), z ∙ rw (ek, of-u, of-g) (sym l))
+            go (inr e) =
+                let z : room ≡ 0 = room-is (none (e .0)) (e .1) in
+                rw (e .1) (ea₂ ∙ rw z (filled-nothing 1 (2 ^ (h .unknowns + h .givens)) (records bs)), z)
+
+        answers-done : a₂ ++ drop room (a₁ ++ drop room a)
+            ≡ answersOf (heldVerdict (records bs)) ++ drop (length (answersOf (heldVerdict (records bs)))) a
+        answers-done = rw (rest-is room a₁ (drop room a) cleared-a, answers-are .0, ← answers-are .1)
+
+        pub read-done : answered (accepted (h .route ∷ h .unknowns ∷ h .givens ∷ h .used ∷ stateSaid v))
+            ((c₂ ++ drop k (c₁ ++ drop k c)) ∷ (a₂ ++ drop room (a₁ ++ drop room a)) ∷ []) ≡ readCall bs c a
+        read-done =
+            ap (λ (x : List ℕ). answered (accepted x) ((c₂ ++ drop k (c₁ ++ drop k c)) ∷ (a₂ ++ drop room (a₁ ++ drop room a)) ∷ [])) values
+            ∙ call-done-two (readQuestions (records bs) (length c) (length a)) (readValues (records bs)) _ c _ _ a _ (sym refusal ∙ z) condition-done answers-done

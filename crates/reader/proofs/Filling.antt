@@ -5,95 +5,111 @@ use mathlib.Core.Bool.{Bool, true, false, cond, _&&_, _||_}
 use mathlib.Core.List.{List, [], _∷_}
 use mathlib.Core.Logic.{_⊎_, inl, inr}
 use Prim.Native.Nat.{ℕ, suc, _+_, _-_, _*_, _/_, _%_, _^_, _≤_, _<_}
-use native.Mathlib.Nat.{zero-add, add-mul, mul-le-mul, div-add-mod', div-eq-of-lt, mod-eq-of-lt}
+use native.Mathlib.Nat.{zero-add, add-zero, add-mul, mul-le-mul, div-add-mod', div-eq-of-lt, mod-eq-of-lt}
 use native.Mathlib.Omega.{arith}
 use lib.Dec.{leb, ltb, eqb}
 use lib.Arith.{digits-div, digits-mod}
 use lib.Pow.{pow-mono}
-use lib.ListN.{length, getD, drop, set, length-set}
-use lib.Seq.{ext-getD, getD-set-same, getD-set-other, set-out}
+use lib.ListN.{length, getD, take, drop, set, length-set}
+use lib.Seq.{ext-getD, getD-take, getD-drop, getD-set-same, getD-set-other, set-out}
 use borrow.Author.Tests.{le-leb, ltb-true, leb-true, leb-false, eq-eqb, ne-eqb, eqb-true, eqb-false}
 use Rattle.ring.specs.Letters.{digit}
+use Rattle.ring.specs.Polynomial.{everyBelow}
+use Rattle.ring.specs.Lists.{has}
 use Rattle.ring.specs.Table.{tabulate, table, answerTable}
 use Rattle.ring.proofs.Bool.{bool-iff, and-left, and-right, both, bool-cases}
 use Rattle.ring.proofs.Table.{length-tabulate, getD-tabulate, tabulate-cong}
-use Rattle.entry.specs.declared.Record.{Record}
-use Rattle.entry.specs.declared.Record.the-variants.{Start, Condition, Answer, End, None, Broken}
-use Rattle.entry.specs.Record.{size, kind, isEnd, isMonomial, maskIn, tableIn}
+use Rattle.entry.specs.Record.{Record, unknownField, maskField, kind, fields, among, valueOf, isEnd, isMonomial, tableIn, inBounds}
 use Rattle.entry.specs.Held.{next, records, hasMonomial, conditionIn, answersIn}
-use Rattle.entry.specs.Questions.{inBounds}
 use Rattle.entry.specs.Inner.Places.{placeOf, fitsBehind}
-use Rattle.entry.proofs.Records.{records-none, here-none, here}
-use Rattle.entry.proofs.Places.{mask-in-bounds}
+use Rattle.entry.proofs.Fields.{condition-mask, answer-unknown, answer-mask, lacks}
+use Rattle.entry.proofs.Monomials.{mask-in-bounds, table-in-bounds}
+use Rattle.entry.proofs.Records.{records-none, here-none, here, fits-at}
 use Rattle.entry.proofs.Unique.{fits-bounds, fits-rest}
-use Rattle.records.proofs.Loops.{on-fits}
-use Rattle.reader.specs.Inner.Filling.{zeros, putMonomial, filled, Fitting}
+use Rattle.records.specs.Inner.Gathering.{Whole}
+use Rattle.records.proofs.Loops.{lent, lent-whole, lent-some}
+use Rattle.reader.specs.Inner.Filling.{zeros, putMonomial, filled, Lending, Fitting}
 
 -- ---- one record
-module _ (k : ℕ) {r : Record} (t : List ℕ) where
-  -- one without a monomial
-  pub put-start : (base : ℕ) {route u g : ℕ} → r ≡ Start route u g → t ≡ putMonomial base k r t
+module _ (k : ℕ) (r : Record) (t : List ℕ) where
+  -- one with a monomial
+  put-is : (base i m : ℕ) → isMonomial r ≡ true → tableIn r ≡ i → valueOf maskField r ≡ m
+      → putMonomial base k r t ≡ cond (leb base i) (set t ((i - base) * k + m) 1) t
   unfolding putMonomial
-  put-start base e = rw e
+  put-is base i m h ei em = rw (h, ei, em)
 
-  pub put-end : (base : ℕ) {route : ℕ} → r ≡ End route → t ≡ putMonomial base k r t
-  unfolding putMonomial
-  put-end base e = rw e
-
-  pub put-none : (base : ℕ) {state : ℕ} → r ≡ None state → t ≡ putMonomial base k r t
-  unfolding putMonomial
-  put-none base e = rw e
-
-  pub put-broken : (base : ℕ) → r ≡ Broken → t ≡ putMonomial base k r t
-  unfolding putMonomial
-  put-broken base e = rw e
+  -- one without
+  pub put-other : (base : ℕ) → (getD r 0 0 ≡ 2 → ⊥) → (getD r 0 0 ≡ 3 → ⊥) → t ≡ putMonomial base k r t
+  unfolding putMonomial kind everyBelow among fields has
+  put-other base n2 n3 = rw (lacks maskField (2 ∷ 3 ∷ []) refl (kind r) (rw (ne-eqb (kind r) 2 n2, ne-eqb (kind r) 3 n3)))
 
   -- one of the condition
-  pub put-condition : {m : ℕ} {t′ : List ℕ} → r ≡ Condition m → t′ ≡ set t m 1 → t′ ≡ putMonomial 0 k r t
-  unfolding putMonomial
-  put-condition {m} e et = let f : 0 * k + m ≡ m = (omega arith) in et ∙ rw (e, f)
+  module _ (ek : getD r 0 0 ≡ 2) where
+    of-condition : kind r ≡ 2
+    unfolding kind
+    of-condition = ek
 
-  pub condition-apart : {m : ℕ} → r ≡ Condition m → t ≡ putMonomial 1 k r t
-  unfolding putMonomial
-  condition-apart e = rw e
+    pub put-condition : {m : ℕ} {t′ : List ℕ} → m ≡ getD r 1 0 + 256 * getD r 2 0 → t′ ≡ set t m 1 → t′ ≡ putMonomial 0 k r t
+    unfolding among fields
+    put-condition {m} em et =
+        let f : 0 * k + m ≡ m = (omega arith) in
+        et ∙ sym (put-is 0 0 m (rw of-condition) (rw of-condition) (condition-mask r of-condition ∙ sym em) ∙ rw f)
+
+    pub condition-apart : t ≡ putMonomial 1 k r t
+    unfolding among fields
+    condition-apart = sym (put-is 1 0 _ (rw of-condition) (rw of-condition) refl)
 
   -- one of an answer, which lies past the condition's end
-  pub put-answer : {j m w : ℕ} {t′ : List ℕ} → r ≡ Answer j m → w ≡ k → t′ ≡ set t (j * w + m) 1 → t′ ≡ putMonomial 1 k r t
-  unfolding putMonomial
-  put-answer {j} e ew et =
-      let f : suc j - 1 ≡ j = (omega arith) in
-      let b : leb 1 (suc j) ≡ true = le-leb 1 (suc j) (omega arith) in
-      et ∙ rw (e, b, f, ew)
+  module _ (ek : getD r 0 0 ≡ 3) where
+    of-answer : kind r ≡ 3
+    unfolding kind
+    of-answer = ek
 
-  pub answer-apart : {j m w : ℕ} → r ≡ Answer j m → w ≡ k → length t ≡ w → t ≡ putMonomial 0 k r t
-  unfolding putMonomial
-  answer-apart {j} {m} e ew l =
-      let f : suc j - 0 ≡ j + 1 = (omega arith) in
-      let b : leb 0 (suc j) ≡ true = le-leb 0 (suc j) (omega arith) in
-      let past : length t ≤ (j + 1) * k + m = (omega (arith, add-mul j 1 k)) in
-      rw (e, b, f) (sym (set-out t ((j + 1) * k + m) 1 past))
+    answer-table : tableIn r ≡ suc (getD r 1 0)
+    unfolding among fields
+    answer-table = rw of-answer (ap suc (answer-unknown r of-answer))
+
+    pub put-answer : {j m w : ℕ} {t′ : List ℕ} → j ≡ getD r 1 0 → m ≡ getD r 2 0 + 256 * getD r 3 0 → w ≡ k → t′ ≡ set t (j * w + m) 1
+        → t′ ≡ putMonomial 1 k r t
+    unfolding among fields
+    put-answer {j} {m} ej em ew et =
+        let f : suc j - 1 ≡ j = (omega arith) in
+        let b : leb 1 (suc j) ≡ true = le-leb 1 (suc j) (omega arith) in
+        et ∙ sym (put-is 1 (suc j) m (rw of-answer) (answer-table ∙ ap suc (sym ej)) (answer-mask r of-answer ∙ sym em) ∙ rw (b, f, ew))
+
+    pub answer-apart : {w : ℕ} → w ≡ k → length t ≡ w → t ≡ putMonomial 0 k r t
+    unfolding among fields
+    answer-apart ew l =
+        let j : ℕ = getD r 1 0 in
+        let f : suc j - 0 ≡ j + 1 = (omega arith) in
+        let b : leb 0 (suc j) ≡ true = le-leb 0 (suc j) (omega arith) in
+        let past : length t ≤ (j + 1) * k + valueOf maskField r = (omega (arith, add-mul j 1 k)) in
+        sym (put-is 0 (suc j) (valueOf maskField r) (rw of-answer) answer-table refl
+        ∙ rw (b, f) (set-out t ((j + 1) * k + valueOf maskField r) 1 past))
 
 pub length-put : (base k : ℕ) (r : Record) (t : List ℕ) → length (putMonomial base k r t) ≡ length t
 unfolding putMonomial
 length-put base k r t = go (isMonomial r && leb base (tableIn r))
   where
-    go : (b : Bool) → length (cond b (set t ((tableIn r - base) * k + maskIn r) 1) t) ≡ length t
-    go true = length-set t ((tableIn r - base) * k + maskIn r) 1
+    go : (b : Bool) → length (cond b (set t ((tableIn r - base) * k + valueOf maskField r) 1) t) ≡ length t
+    go true = length-set t ((tableIn r - base) * k + valueOf maskField r) 1
     go false = refl
 
 pub put-long : (base k : ℕ) (r : Record) (t : List ℕ) {t′ : List ℕ} → t′ ≡ putMonomial base k r t → length t′ ≡ length t
 put-long base k r t e = ap length e ∙ length-put base k r t
 
 -- the byte's index is small
-pub put-small : (u g : ℕ) (r : Record) {j m k : ℕ} → u + g ≤ 10 → inBounds u g r ≡ true → r ≡ Answer j m → k ≡ 2 ^ (u + g) → (j * k ≤ 10240) × (m < 1024)
-put-small u g r {j} {m} {k} h b e ek =
-    let p : 2 ^ (u + g) ≤ 1024 = pow-mono h in
-    let q : inBounds u g (Answer j m) ≡ true = rw e at b in
-    let l : m < 2 ^ (u + g) = mask-in-bounds u g (Answer j m) q refl in
-    let i : j < u = ltb-true j u (and-left (ltb j u) (ltb m (2 ^ (u + g))) q) in
-    let few : j ≤ 10 = (omega arith) in
-    let kl : k ≤ 1024 = rw ek p in
-    (mul-le-mul few kl, omega arith)
+pub put-small : (u g : ℕ) (r condition : List ℕ) {j m k : ℕ} → Lending u g k r condition → getD r 0 0 ≡ 3 → j ≡ getD r 1 0 → m ≡ getD r 2 0 + 256 * getD r 3 0
+    → (j * k ≤ 10240) × (m < 1024)
+unfolding among fields
+put-small u g r condition {j} {m} {k} w ek ej em =
+    let p : 2 ^ (u + g) ≤ 1024 = pow-mono (w .letters) in
+    let three : kind r ≡ 3 = of-answer k r condition ek in
+    let l : valueOf maskField r < 2 ^ (u + g) = mask-in-bounds u g r (w .bounds) (rw three) in
+    let i : suc (getD r 1 0) ≤ u = rw (answer-table k r condition ek) at (table-in-bounds u g r (w .bounds)) in
+    let few : j ≤ 10 = (omega (arith, w .letters)) in
+    let kl : k ≤ 1024 = rw (w .size) p in
+    (mul-le-mul few kl, omega (arith, answer-mask r three))
 
 -- ---- what a loop that puts the records in keeps, for one of its tables
 pub record Filling (put : Record → List ℕ → List ℕ) (bs : List ℕ) (u g : ℕ) (t₀ t : List ℕ) (at : ℕ) : Type 0 where
@@ -110,59 +126,83 @@ module _ (put : Record → List ℕ → List ℕ) (bs : List ℕ) (u g : ℕ) (t
   unfolding filled
   fill-none h = sym (w .same ∙ rw (records-none bs at h))
 
-  module _ {r : Record} (er : r ≡ next (drop at bs)) {n : ℕ} (en : n ≡ size r) where
+  module _ {n : ℕ} (en : n ≡ length (next (drop at bs))) where
     pub fill-broken : n ≡ 0 → t ≡ filled put (records bs) t₀
     unfolding filled
-    fill-broken e = sym (w .same ∙ rw (here-none bs at er en e))
+    fill-broken e = sym (w .same ∙ rw (here-none bs at en e))
 
-    module _ (s : n ≡ 0 → ⊥) where
+    module _ (s : n ≡ 0 → ⊥) {behind : ℕ} (eb : behind ≡ at + n) where
+      r : Record
+      r = take n (drop at bs)
+
       fits-here : fitsBehind u g (w .fitting .from) (r ∷ cond (isEnd r) [] (records (drop (at + n) bs))) ≡ true
-      fits-here = rw (here bs at er en s) at (w .fitting .fits)
+      unfolding r
+      fits-here = rw (here bs at en s) at (w .fitting .fits)
 
-      pub fill-bounds : inBounds u g r ≡ true
-      fill-bounds = fits-bounds u g (w .fitting .from) r _ fits-here
+      pub fill-lending : {k : ℕ} {condition : List ℕ} → k ≡ 2 ^ (u + g) → length condition ≡ k
+          → Lending u g k (take (behind - at) (drop at bs)) condition
+      unfolding r
+      fill-lending ek l =
+          record {
+            whole = lent-whole bs at en eb;
+            some = lent-some bs at en eb s;
+            letters = w .fitting .letters;
+            bounds = rw (lent bs at en eb) (fits-bounds u g (w .fitting .from) r _ fits-here);
+            size = ek;
+            long = l;
+          }
 
-      module _ {t′ : List ℕ} (et : t′ ≡ put r t) {k : ℕ} (ek : k ≡ kind r) where
-        pub fill-end : k ≡ 4 → t′ ≡ filled put (records bs) t₀
-        unfolding filled
-        fill-end e = sym (w .same ∙ rw (here bs at er en s, ← ek, eq-eqb k 4 e) (sym et))
+      kind-here : kind r ≡ getD bs at 0
+      unfolding r kind
+      kind-here = getD-take n (drop at bs) 0 0 (omega arith) ∙ getD-drop at bs 0 0 ∙ ap (λ (i : ℕ). getD bs i 0) (add-zero at)
 
-        pub fill-next : length t′ ≡ length t → (k ≡ 4 → ⊥) → Filling put bs u g t₀ t′ (at + n)
-        unfolding filled
+      module _ {t′ : List ℕ} (et : t′ ≡ put (take (behind - at) (drop at bs)) t) where
+        put-here : t′ ≡ put r t
+        unfolding r
+        put-here = et ∙ rw (lent bs at en eb)
+
+        pub fill-end : getD bs at 0 ≡ 4 → t′ ≡ filled put (records bs) t₀
+        unfolding filled r
+        fill-end e =
+            let end : isEnd r ≡ true = eq-eqb (kind r) 4 (kind-here ∙ e) in
+            sym (w .same ∙ rw (here bs at en s, end) (sym put-here))
+
+        pub fill-next : length t′ ≡ length t → (getD bs at 0 ≡ 4 → ⊥) → Filling put bs u g t₀ t′ behind
+        unfolding filled r
         fill-next l e =
-            let not-end : isEnd r ≡ false = rw (← ek) (ne-eqb k 4 e) in
+            let not-end : isEnd r ≡ false = ne-eqb (kind r) 4 (λ k. e (sym kind-here ∙ k)) in
             record {
-              inside = on-fits bs at (w .inside) er en;
+              inside = rw eb (fits-at bs at (w .inside) en);
               long = l ∙ w .long;
-              same = w .same ∙ rw (here bs at er en s, not-end) (ap (filled put (records (drop (at + n) bs))) (sym et));
+              same = w .same ∙ rw (here bs at en s, not-end, eb) (ap (filled put (records (drop (at + n) bs))) (sym put-here));
               fitting = record {
                 unknowns = w .fitting .unknowns;
                 letters = w .fitting .letters;
                 from = placeOf r;
-                fits = (rw not-end at (fits-rest u g (w .fitting .from) r _ fits-here));
+                fits = rw eb (rw not-end at (fits-rest u g (w .fitting .from) r _ fits-here));
               };
             }
 
 -- ---- what stands at x when all is filled
 hits : ℕ → ℕ → ℕ → List Record → Bool
 hits base k x [] = false
-hits base k x (r ∷ rs) = (isMonomial r && (leb base (tableIn r) && eqb x ((tableIn r - base) * k + maskIn r))) || hits base k x rs
+hits base k x (r ∷ rs) = (isMonomial r && (leb base (tableIn r) && eqb x ((tableIn r - base) * k + valueOf maskField r))) || hits base k x rs
 
 length-filled : (base k : ℕ) (rs : List Record) (t : List ℕ) → length (filled (putMonomial base k) rs t) ≡ length t
 unfolding filled
 length-filled base k [] t = refl
 length-filled base k (r ∷ rs) t = length-filled base k rs (putMonomial base k r t) ∙ length-put base k r t
 
-put-at : (base k x : ℕ) (r : Record) (t : List ℕ) → x < length t → getD (putMonomial base k r t) x 0 ≡ cond (isMonomial r && (leb base (tableIn r) && eqb x ((tableIn r - base) * k + maskIn r))) 1 (getD t x 0)
+put-at : (base k x : ℕ) (r : Record) (t : List ℕ) → x < length t → getD (putMonomial base k r t) x 0 ≡ cond (isMonomial r && (leb base (tableIn r) && eqb x ((tableIn r - base) * k + valueOf maskField r))) 1 (getD t x 0)
 unfolding putMonomial
-put-at base k x r t h = go (isMonomial r) (leb base (tableIn r)) (bool-cases (eqb x ((tableIn r - base) * k + maskIn r)))
+put-at base k x r t h = go (isMonomial r) (leb base (tableIn r)) (bool-cases (eqb x ((tableIn r - base) * k + valueOf maskField r)))
   where
-    go : (a b : Bool) → (eqb x ((tableIn r - base) * k + maskIn r) ≡ true) ⊎ (eqb x ((tableIn r - base) * k + maskIn r) ≡ false)
-        → getD (cond (a && b) (set t ((tableIn r - base) * k + maskIn r) 1) t) x 0 ≡ cond (a && (b && eqb x ((tableIn r - base) * k + maskIn r))) 1 (getD t x 0)
+    go : (a b : Bool) → (eqb x ((tableIn r - base) * k + valueOf maskField r) ≡ true) ⊎ (eqb x ((tableIn r - base) * k + valueOf maskField r) ≡ false)
+        → getD (cond (a && b) (set t ((tableIn r - base) * k + valueOf maskField r) 1) t) x 0 ≡ cond (a && (b && eqb x ((tableIn r - base) * k + valueOf maskField r))) 1 (getD t x 0)
     go false b q = refl
     go true false q = refl
-    go true true (inl e) = let p : x ≡ (tableIn r - base) * k + maskIn r = eqb-true _ _ e in rw (e, ← p) (getD-set-same t x 1 0 h)
-    go true true (inr e) = rw e (getD-set-other t ((tableIn r - base) * k + maskIn r) x 1 0 (eqb-false _ _ e))
+    go true true (inl e) = let p : x ≡ (tableIn r - base) * k + valueOf maskField r = eqb-true _ _ e in rw (e, ← p) (getD-set-same t x 1 0 h)
+    go true true (inr e) = rw e (getD-set-other t ((tableIn r - base) * k + valueOf maskField r) x 1 0 (eqb-false _ _ e))
 
 filled-at : (base k x : ℕ) (rs : List Record) (t : List ℕ) → x < length t → getD (filled (putMonomial base k) rs t) x 0 ≡ cond (hits base k x rs) 1 (getD t x 0)
 unfolding filled hits
@@ -170,7 +210,7 @@ filled-at base k x [] t h = refl
 filled-at base k x (r ∷ rs) t h =
     filled-at base k x rs (putMonomial base k r t) (rw (length-put base k r t) h)
     ∙ ap (cond (hits base k x rs) 1) (put-at base k x r t h)
-    ∙ either (isMonomial r && (leb base (tableIn r) && eqb x ((tableIn r - base) * k + maskIn r))) (hits base k x rs)
+    ∙ either (isMonomial r && (leb base (tableIn r) && eqb x ((tableIn r - base) * k + valueOf maskField r))) (hits base k x rs)
   where
     either : (a b : Bool) → cond b 1 (cond a 1 (getD t x 0)) ≡ cond (a || b) 1 (getD t x 0)
     either true true = refl
@@ -214,8 +254,8 @@ hits-has base U G q x (r ∷ rs) f = rw (hits-has base U G (placeOf r) x rs (fit
     rest : Bool
     rest = hasMonomial (base + x / 2 ^ (U + G)) (x % 2 ^ (U + G)) rs
 
-    go : (isMonomial r ≡ true) ⊎ (isMonomial r ≡ false) → ((isMonomial r && (leb base (tableIn r) && eqb x ((tableIn r - base) * 2 ^ (U + G) + maskIn r))) || rest) ≡ ((isMonomial r && (eqb (base + x / 2 ^ (U + G)) (tableIn r) && eqb (x % 2 ^ (U + G)) (maskIn r))) || rest)
-    go (inl e) = rw (e, one-hit base (2 ^ (U + G)) x (tableIn r) (maskIn r) (mask-in-bounds U G r (fits-bounds U G q r rs f) e))
+    go : (isMonomial r ≡ true) ⊎ (isMonomial r ≡ false) → ((isMonomial r && (leb base (tableIn r) && eqb x ((tableIn r - base) * 2 ^ (U + G) + valueOf maskField r))) || rest) ≡ ((isMonomial r && (eqb (base + x / 2 ^ (U + G)) (tableIn r) && eqb (x % 2 ^ (U + G)) (valueOf maskField r))) || rest)
+    go (inl e) = rw (e, one-hit base (2 ^ (U + G)) x (tableIn r) (valueOf maskField r) (mask-in-bounds U G r (fits-bounds U G q r rs f) e))
     go (inr e) = rw e
 
 digit-cond : (b : Bool) → cond b 1 0 ≡ digit b

@@ -1,4 +1,2 @@
 pub mod Filling
 pub mod Buffers
-pub mod Theorems
-pub mod Injective

@@ -1,37 +1,36 @@
--- Each arm is one kind of record: the monomial is put into its own table, and lies past the end of the condition if it is an answer's.
+-- Each arm is one case of the kind; the byte of a monomial lies within the tables, so that its index is small.
 -- Assumes nothing.
-use Prim.Native.Nat.{_*_, _≤_, _<_}
 use native.Mathlib.Omega.{arith}
 use borrow.Author.Needs.{needs}
-use Rattle.reader.proofs.Filling.{put-start, put-end, put-none, put-broken, put-condition, condition-apart, put-answer, answer-apart, put-small}
+use Prim.Native.Nat.{_*_, _≤_, _<_}
+use Rattle.records.proofs.OneRecord.{long-2, long-3}
+use Rattle.reader.proofs.Filling.{put-other, put-condition, condition-apart, put-answer, answer-apart, put-small}
 use Rattle.reader.proofs.put_monomial.Statement.{statement}
 use Rattle.reader.proofs.put_monomial.Tie as tie
 
--- the byte's index is small
-small : (c : tie.After-put-one-arg2)
-    → (c .before .before .r2 .given .0 .0 * c .before .before .before .before .before .before .args .k ≤ 10240) × (c .before .before .r2 .given .0 .1 .0 < 1024)
-small c = put-small _ _ _ (c .before .before .before .before .before .before .pre .0) (c .before .before .before .before .before .before .pre .1) (c .before .before .r2 .given .1) (c .before .before .before .before .before .before .pre .2)
+-- the byte's index
+small : (c : tie.After-wide) → (c .wide .result * c .before .before .before .before .before .before .before .before .before .before .before .args .k ≤ 10240) × (c .before .before .before .mask-of2 .result < 1024)
+small c = put-small _ _ _ _ (c .before .before .before .before .before .before .before .before .before .before .before .pre) (c .before .before .before .before .before .before .match .keys2) (c .wide .ensures) (c .before .before .before .mask-of2 .ensures)
 
 pub put-monomial-spec : {M : Type 1} → statement M
 put-monomial-spec =
     tie.close
     (tie.spec
     (λ c. search needs)
-    (λ c. search needs)
+    (λ c. omega (arith, long-2 _ (c .before .before .before .before .before .before .before .pre .whole) (c .before .before .match .keys1)))
+    (λ c. omega (arith, long-2 _ (c .before .before .before .before .before .before .before .before .pre .whole) (c .before .before .before .match .keys1)))
     (λ c κs. search needs)
-    (λ c. search needs)
-    (λ c. search needs)
+    (λ c κs. search needs)
+    (λ c. omega (arith, long-3 _ (c .before .before .before .before .before .before .pre .whole) (c .before .match .keys2)))
+    (λ c. omega (arith, long-3 _ (c .before .before .before .before .before .before .before .pre .whole) (c .before .before .match .keys2)))
+    (λ c κs. search needs)
+    (λ c. omega (arith, long-3 _ (c .before .before .before .before .before .before .before .before .before .before .pre .whole) (c .before .before .before .before .before .match .keys2)))
+    (λ c κs. search needs)
     (λ c. omega (arith, small c))
     (λ c. omega (arith, small c))
     (λ c κs. search needs)
-    (λ c. search needs)
-    (λ c. search needs)
-    (λ c. search needs)
-    (λ c. (search put-start, search put-start))
     (λ c. search needs)
     (λ c. (search put-condition, search condition-apart))
     (λ c. search needs)
     (λ c. (search answer-apart, search put-answer))
-    (λ c. (search put-end, search put-end))
-    (λ c. (search put-none, search put-none))
-    (λ c. (search put-broken, search put-broken)))
+    (λ c. (search put-other, search put-other)))
