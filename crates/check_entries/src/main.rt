@@ -1,10 +1,11 @@
 // Writes and reads the entries of standard input, and prints what comes back.
 // The stored input and output were made by the independent implementation in `reference/`.
+use calls::Heading;
+use calls::Read;
+use calls::Verdict;
+use calls::Written;
 use libc::STDIN_FILENO;
 use libc::STDOUT_FILENO;
-use calls::Read;
-use calls::Heading;
-use calls::Written;
 
 fn show_written(r: Written, out: &[u8]) {
     match r {
@@ -22,15 +23,18 @@ fn show_heading(h: Heading) {
     cases::show_number(b"", h.used);
 }
 
+fn show_verdict(verdict: Verdict) {
+    match verdict {
+        Verdict::Solved => io::write_all(STDOUT_FILENO, b"solved"),
+        Verdict::None(state) => cases::show_number(b"none", state.0),
+    }
+}
+
 fn show_read(r: Read, condition: &[u8], answers: &[u8]) {
     match r {
-        Read::Solved(h) => {
-            io::write_all(STDOUT_FILENO, b"solved");
-            show_heading(h);
-        }
-        Read::None(h, state) => {
-            cases::show_number(b"none", state.0);
-            show_heading(h);
+        Read::Entry(heading, verdict) => {
+            show_verdict(verdict);
+            show_heading(heading);
         }
         Read::Refused(q) => cases::show_refused(q),
     }

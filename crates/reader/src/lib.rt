@@ -102,7 +102,13 @@ fn room_refusal(k: usize, condition: usize, size: usize, answers: usize) -> u8
 }
 
 // Question 4, and the buffers of an entry that passes the questions before it.
-fn read_into(s: &[u8], h: Heading, verdict: Verdict, condition: &mut [u8], answers: &mut [u8]) -> Read
+fn read_into(
+    s: &[u8],
+    h: Heading,
+    verdict: Verdict,
+    condition: &mut [u8],
+    answers: &mut [u8],
+) -> Read
     requires { ⌜ (firstNo (entryQuestions (records (now s))) ≡ 0) × (h ≡ headingOf (records (now s)))
         × (verdict ≡ said (heldVerdict (records (now s)))) ⌝ }
     ensures { λ r. ⌜ answered (reading r) (now (condition .exit) ∷ now (answers .exit) ∷ [])
@@ -112,7 +118,8 @@ fn read_into(s: &[u8], h: Heading, verdict: Verdict, condition: &mut [u8], answe
     let g = h.givens;
     let k = tables::pow2(u + g);
     let size = u * k;
-    let refusal = room_refusal(k, condition.len(), size, answers.len());
+    let lent = answers.len();
+    let refusal = room_refusal(k, condition.len(), size, lent);
     if refusal != 0 {
         return Read::Refused(refusal);
     }
