@@ -57,7 +57,7 @@ unfolding textWords
 text-values U G text {values} e =
     e ∙ words-cong (2 ^ (U + G - 6)) _ _ (λ p l. value-cong (U + G) _ _ p (λ m k.
     sym (value-cong (U + G) _ (value (U + G) (present (textTable U G text))) m
-        (λ q s. at-known (2 ^ (U + G - 6)) _ values e q (omega (arith, room (U + G))))
+    (λ q s. at-known (2 ^ (U + G - 6)) _ values e q (omega (arith, room (U + G))))
     ∙ involution (U + G) (present (textTable U G text)) m k)))
 
 pub text-table : (U G : ℕ) (text : List ℕ) {values : List ℕ} → values ≡ textWords U G text → tableOf (U + G) values ≡ textTable U G text
@@ -194,8 +194,13 @@ module _ (route U G : ℕ) (found : Listing) (codes : List ℕ) where
         ≡ 9 + length (recordLines (map listedRecord (take told codes))) + length (recordLines (noneRecord s ∷ endRecord route ∷ [])) =
         lines-length ∙ rw e in
         let last : List ℕ = recordLines (endRecord route ∷ []) in
-        omega (arith, ap length (lines-append (noneRecord s ∷ []) (endRecord route ∷ [])),
-            length-append (recordLines (noneRecord s ∷ [])) last, none-length s, end-length route)
+        omega (
+          arith,
+          ap length (lines-append (noneRecord s ∷ []) (endRecord route ∷ [])),
+          length-append (recordLines (noneRecord s ∷ [])) last,
+          none-length s,
+          end-length route,
+        )
 
     pub unsolved-front : (at room : ℕ) → at + length (recordLines (entryFrom route U G found codes)) ≤ room
         → at + (9 + length (recordLines (map listedRecord (take told codes)))) ≤ room
@@ -221,8 +226,12 @@ module _ (route U G : ℕ) (t : List ℕ) {found : Listing} {codes : List ℕ} (
   unfolding entry
   archived-room at room l h =
       let c : Condition = conditionOf U G t in
-      omega (arith, ap (λ (rs : List Record). length (recordLines rs)) (w .records route),
-          lines-most (archivedRecords route c) (written-whole route c _), entry-bound route c l)
+      omega (
+        arith,
+        ap (λ (rs : List Record). length (recordLines rs)) (w .records route),
+        lines-most (archivedRecords route c) (written-whole route c _),
+        entry-bound route c l,
+      )
 
 -- ---- the written order
 pub few-are : (n : ℕ) {k : ℕ} (few : List ℕ) → k ≡ 2 ^ n → take (2 ^ n) few ≡ order n → take k few ≡ order n

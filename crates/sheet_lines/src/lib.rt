@@ -150,7 +150,14 @@ fn read_line(line: &[u8]) -> Line
 }
 
 // The first no of 2, 3, 5, 6, 7 and 15, or 0, where the values of the text then stand in `values`. Question 1 is answered yes.
-fn line_refusal(last: usize, route: usize, u: usize, g: usize, text: &[u8], values: &mut [u64]) -> u8
+fn line_refusal(
+    last: usize,
+    route: usize,
+    u: usize,
+    g: usize,
+    text: &[u8],
+    values: &mut [u64],
+) -> u8
     requires { ⌜ (lettersFit u g ≡ true) × (length (now values) ≡ 2 ^ (u + g - 6)) ⌝ }
     ensures { λ r. ⌜ r ≡ lineRefusal last route u g (now (text .entry)) ⌝ }
     ensures { λ r. ⌜ (r ≡ 0 → now (values .exit) ≡ textWords u g (now (text .entry))) ⌝ }
@@ -163,14 +170,7 @@ fn line_refusal(last: usize, route: usize, u: usize, g: usize, text: &[u8], valu
 }
 
 // The first record and the monomials of an entry.
-fn put_front(
-    out: &mut [u8],
-    at: usize,
-    route: usize,
-    u: usize,
-    g: usize,
-    codes: &[u16],
-) -> usize
+fn put_front(out: &mut [u8], at: usize, route: usize, u: usize, g: usize, codes: &[u16]) -> usize
     requires { ⌜ (route < 256) × (u < 256) × (g < 256)
         × (at + (9 + length (recordLines (map listedRecord (now codes)))) ≤ length (now out)) ⌝ }
     ensures { λ r. ⌜ Put (now (out .entry)) at (recordLines (startRecord route u g ∷ map listedRecord (now (codes .entry)))) r

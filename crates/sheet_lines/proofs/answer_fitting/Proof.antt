@@ -23,16 +23,20 @@ returns c =
     let after-if1 = c .before .before .before .before in
     let after-line-refusal = after-if1 .before .before .before in
     answers-refused _ _ _ _ _ _ _ (after-line-refusal .line-refusal .ensures .0) (after-if1 .if1 .taken)
-        ((c .before .before .put-refused) .ensures)
+    ((c .before .before .put-refused) .ensures)
 
 put-entry-requires : tie.Need-put-entry-requires
 put-entry-requires c κs =
     let after-if1 = c .before .before .before in
     let after-line-refusal = after-if1 .before .before .before in
-    let start = after-line-refusal .before .before .before .before .before .before .before in
-    (start .pre .0, route-passes _ _ _ _ _ (sym (after-line-refusal .line-refusal .ensures .0) ∙ after-if1 .if1 .left),
-        text-values _ _ (start .args .text .now) (after-line-refusal .line-refusal .ensures .1 (after-if1 .if1 .left)), start .pre .2,
-        start .pre .3, start .pre .4)
+    let start = after-line-refusal .before .before .before .before .before .before .before in (
+      start .pre .0,
+      route-passes _ _ _ _ _ (sym (after-line-refusal .line-refusal .ensures .0) ∙ after-if1 .if1 .left),
+      text-values _ _ (start .args .text .now) (after-line-refusal .line-refusal .ensures .1 (after-if1 .if1 .left)),
+      start .pre .2,
+      start .pre .3,
+      start .pre .4,
+    )
 
 same-length-3 : tie.Need-same-length-3
 same-length-3 c = search needs
@@ -50,8 +54,8 @@ returns-2 c =
     let after-line-refusal = after-if1 .before .before .before in
     let start = after-line-refusal .before .before .before .before .before .before .before in
     answers-done _ _ _ _ _ _ _ (after-line-refusal .line-refusal .ensures .0) (after-if1 .if1 .left)
-        (text-table _ _ (start .args .text .now) (after-line-refusal .line-refusal .ensures .1 (after-if1 .if1 .left)))
-        (after-put-entry .put-entry .ensures)
+    (text-table _ _ (start .args .text .now) (after-line-refusal .line-refusal .ensures .1 (after-if1 .if1 .left)))
+    (after-put-entry .put-entry .ensures)
 
 pub answer-fitting-spec : {M : Type 1} → statement M
 answer-fitting-spec =

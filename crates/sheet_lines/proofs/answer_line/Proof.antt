@@ -38,9 +38,13 @@ answer-fitting-requires : tie.Need-answer-fitting-requires
 answer-fitting-requires c κs =
     let counted = c .before .before .before in
     let fit = letters (counted .before) in
-    let start = counted .before .before .before .before .before .before .before in
-    (fit, length-take-le _ _ (count-small _ _ (counted .word-count .ensures) (letters-small _ _ fit)) ∙ counted .word-count .ensures,
-    start .pre .0, start .pre .1, start .pre .2)
+    let start = counted .before .before .before .before .before .before .before in (
+      fit,
+      length-take-le _ _ (count-small _ _ (counted .word-count .ensures) (letters-small _ _ fit)) ∙ counted .word-count .ensures,
+      start .pre .0,
+      start .pre .1,
+      start .pre .2,
+    )
 
 pub answer-line-spec : {M : Type 1} → statement M
 answer-line-spec =

@@ -37,10 +37,16 @@ put-values-requires : tie.Need-put-values-requires
 put-values-requires c κs =
     let after-if1 = c .before .before .before .before in
     let after-word-count = after-if1 .before in
-    let start = after-word-count .before .before .before .before .before in
-    (start .pre .0, start .pre .1, start .pre .2,
-        length-take-le _ _ (count-small _ _ (after-word-count .word-count .ensures) (letters-small _ _ (start .pre .0)))
-        ∙ after-word-count .word-count .ensures, start .pre .3 ∙ ap order (sym (after-if1 .if1 .taken)), start .pre .4, start .pre .5)
+    let start = after-word-count .before .before .before .before .before in (
+      start .pre .0,
+      start .pre .1,
+      start .pre .2,
+      length-take-le _ _ (count-small _ _ (after-word-count .word-count .ensures) (letters-small _ _ (start .pre .0)))
+          ∙ after-word-count .word-count .ensures,
+      start .pre .3 ∙ ap order (sym (after-if1 .if1 .taken)),
+      start .pre .4,
+      start .pre .5,
+    )
 
 same-length : tie.Need-same-length
 same-length c = search needs
@@ -91,7 +97,7 @@ array-share-prefix-few c =
     let after-pow2 = after-skip-large .before .before in
     let start = after-pow2 .before .before .before .before .before .before .before in
     masks-room (start .args .u + start .args .g) (after-skip-large .skip-large .last .1 .1 .0) (after-pow2 .pow2 .ensures)
-        (letters-small _ _ (start .pre .0)) (after-skip-large .skip-large .kept .1 .1 .0)
+    (letters-small _ _ (start .pre .0)) (after-skip-large .skip-large .kept .1 .1 .0)
 
 slice-aggregate-put-values-3 : tie.Need-slice-aggregate-put-values-3
 slice-aggregate-put-values-3 c =
@@ -99,20 +105,25 @@ slice-aggregate-put-values-3 c =
     let after-pow2 = after-skip-large .before .before in
     let start = after-pow2 .before .before .before .before .before .before .before in
     sym (length-take-le _ _
-        (masks-room (start .args .u + start .args .g) (after-skip-large .skip-large .last .1 .1 .0) (after-pow2 .pow2 .ensures)
-        (letters-small _ _ (start .pre .0)) (after-skip-large .skip-large .kept .1 .1 .0)))
+    (masks-room (start .args .u + start .args .g) (after-skip-large .skip-large .last .1 .1 .0) (after-pow2 .pow2 .ensures)
+    (letters-small _ _ (start .pre .0)) (after-skip-large .skip-large .kept .1 .1 .0)))
 
 put-values-requires-2 : tie.Need-put-values-requires-2
 put-values-requires-2 c κs =
     let after-skip-large = c .before .before .before .before .before .before in
     let after-pow2 = after-skip-large .before .before in
     let after-word-count = after-pow2 .before .before in
-    let start = after-word-count .before .before .before .before .before in
-    (start .pre .0, start .pre .1, start .pre .2,
-        length-take-le _ _ (count-small _ _ (after-word-count .word-count .ensures) (letters-small _ _ (start .pre .0)))
-        ∙ after-word-count .word-count .ensures,
-        few-are (start .args .u + start .args .g) (after-skip-large .skip-large .last .1 .1 .0) (after-pow2 .pow2 .ensures)
-        (after-skip-large .skip-large .ensures), start .pre .4, start .pre .5)
+    let start = after-word-count .before .before .before .before .before in (
+      start .pre .0,
+      start .pre .1,
+      start .pre .2,
+      length-take-le _ _ (count-small _ _ (after-word-count .word-count .ensures) (letters-small _ _ (start .pre .0)))
+          ∙ after-word-count .word-count .ensures,
+      few-are (start .args .u + start .args .g) (after-skip-large .skip-large .last .1 .1 .0) (after-pow2 .pow2 .ensures)
+          (after-skip-large .skip-large .ensures),
+      start .pre .4,
+      start .pre .5,
+    )
 
 same-length-4 : tie.Need-same-length-4
 same-length-4 c = search needs

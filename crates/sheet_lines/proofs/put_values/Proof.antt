@@ -25,10 +25,13 @@ put-found-requires : tie.Need-put-found-requires
 put-found-requires c κs =
     let after-list-entry = c .before .before .before .before .before .before in
     let start = after-list-entry .before .before .before .before .before .before .before .before .before .before .before .before .before
-    .before in
-    (route-small _ (start .pre .1), omega (arith, unknowns-small _ _ (start .pre .0)), omega (arith, givens-small _ _ (start .pre .0)),
-        after-list-entry .list-entry .ensures .count,
-        archived-room _ _ _ _ (after-list-entry .list-entry .ensures) _ _ (start .pre .0) (start .pre .6))
+    .before in (
+      route-small _ (start .pre .1),
+      omega (arith, unknowns-small _ _ (start .pre .0)),
+      omega (arith, givens-small _ _ (start .pre .0)),
+      after-list-entry .list-entry .ensures .count,
+      archived-room _ _ _ _ (after-list-entry .list-entry .ensures) _ _ (start .pre .0) (start .pre .6),
+    )
 
 same-length : tie.Need-same-length
 same-length c = search needs
@@ -48,8 +51,8 @@ returns c =
     let after-transform = after-list-entry .before .before .before .before .before .before in
     let start = after-transform .before .before .before .before .before .before .before .before in
     archived-put _ _ _ _ (after-list-entry .list-entry .ensures)
-        (same-table (start .args .u + start .args .g) (start .args .values .now) (after-transform .transform .ensures))
-        ((c .before .before .put-found) .ensures)
+    (same-table (start .args .u + start .args .g) (start .args .values .now) (after-transform .transform .ensures))
+    ((c .before .before .put-found) .ensures)
 
 pub put-values-spec : {M : Type 1} → statement M
 put-values-spec =

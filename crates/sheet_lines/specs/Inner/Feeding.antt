@@ -31,7 +31,8 @@ IsValues n values = values ≡ wordsOf (2 ^ (n - 6)) (value n (value n (bitAt va
 -- what a readable line prints
 pub record Answers (last route U G : ℕ) (text out : List ℕ) (at : ℕ) (r : Printed) (out′ : List ℕ) : Type 0 where
   pub last-is : r .last ≡ routeBehind (lineRefusal last route U G text) last route
-  pub put : Put out at (answerLines (lineRefusal last route U G text) (archivedRecords route (conditionOf U G (textTable U G text)))) (r .next) out′
+  pub put : Put out at (answerLines (lineRefusal last route U G text) (archivedRecords route (conditionOf U G (textTable U G text))))
+      (r .next) out′
   pub none-kept : r .count ≡ 0
 
 -- what a line prints from the place `at` of the output on, and the last route behind it

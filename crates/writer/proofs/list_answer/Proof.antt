@@ -28,10 +28,15 @@ slice-aggregate-list-values c =
 
 list-values-requires : tie.Need-list-values-requires
 list-values-requires c κs =
-    let start = c .before .before .before .before .before .before in
-    (start .pre .1, omega (arith, start .pre .0), start .pre .2, start .pre .3, start .pre .4,
-        length-take-le _ _ (count-small _ _ ((c .before .before .word-count) .ensures) (start .pre .1))
-        ∙ (c .before .before .word-count) .ensures)
+    let start = c .before .before .before .before .before .before in (
+      start .pre .1,
+      omega (arith, start .pre .0),
+      start .pre .2,
+      start .pre .3,
+      start .pre .4,
+      length-take-le _ _ (count-small _ _ ((c .before .before .word-count) .ensures) (start .pre .1))
+          ∙ (c .before .before .word-count) .ensures,
+    )
 
 same-length : tie.Need-same-length
 same-length c = search needs

@@ -50,11 +50,14 @@ list-answer-requires : tie.Need-list-answer-requires Inv-loop μ-loop
 list-answer-requires c κs =
     let turn = c .before .before .before in
     let after-word-count = turn .before in
-    let start = after-word-count .before .before .before .before in
-    (omega (arith, start .pre .0, (c .before .before .loop-test) .taken), start .pre .1,
-        part-length _ _ _ (part-fits _ _ _ _ _ (after-word-count .word-count .ensures) ((c .before .before .loop-test) .taken)
-        (start .pre .2)) ∙ after-word-count .word-count .ensures, start .pre .3,
-        answer-room (turn .loop .inv) ((c .before .before .loop-test) .taken))
+    let start = after-word-count .before .before .before .before in (
+      omega (arith, start .pre .0, (c .before .before .loop-test) .taken),
+      start .pre .1,
+      part-length _ _ _ (part-fits _ _ _ _ _ (after-word-count .word-count .ensures) ((c .before .before .loop-test) .taken)
+          (start .pre .2)) ∙ after-word-count .word-count .ensures,
+      start .pre .3,
+      answer-room (turn .loop .inv) ((c .before .before .loop-test) .taken),
+    )
 
 add-j : tie.Need-add-j Inv-loop μ-loop
 add-j c = search needs
@@ -68,7 +71,7 @@ loop-again c =
     let turn = after-loop-test .before in
     let after-word-count = turn .before in
     answering-more (turn .loop .inv) (after-loop-test .loop-test .taken) (after-word-count .word-count .ensures)
-        ((c .before .before .list-answer) .ensures)
+    ((c .before .before .list-answer) .ensures)
 
 same-length : tie.Need-same-length Inv-loop μ-loop
 same-length c = (c .before .loop) .inv .list .long

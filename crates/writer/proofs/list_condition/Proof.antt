@@ -42,7 +42,7 @@ order-room c =
     let powered = filled .before .before in
     let start = powered .before .before .before .before in
     masks-room (start .args .u + start .args .g) (filled .fill-order .last .1 .0) (powered .pow2 .ensures) (start .pre .0 .letters)
-        (filled .fill-order .kept .1 .0)
+    (filled .fill-order .kept .1 .0)
 
 order-part : tie.Need-slice-aggregate-list-table-3
 order-part c =
@@ -50,7 +50,7 @@ order-part c =
     let powered = filled .before .before in
     let start = powered .before .before .before .before in
     masks-part (start .args .u + start .args .g) (filled .fill-order .last .1 .0) (powered .pow2 .ensures) (start .pre .0 .letters)
-        (filled .fill-order .kept .1 .0)
+    (filled .fill-order .kept .1 .0)
 
 list-table-requires : tie.Need-list-table-requires
 list-table-requires c κs =
