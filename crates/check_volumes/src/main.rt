@@ -1,11 +1,11 @@
 // Audits the entries and walks the volumes of standard input, and prints what comes back.
 // The stored input and output were made by the independent implementation in `reference/`.
-use calls::Read;
-use libc::STDIN_FILENO;
-use libc::STDOUT_FILENO;
 use calls::Heading;
+use calls::Read;
 use calls::Verdict;
 use calls::Walked;
+use libc::STDIN_FILENO;
+use libc::STDOUT_FILENO;
 
 fn show_heading(h: Heading) {
     cases::show_number(b"", h.route as usize);
@@ -14,22 +14,22 @@ fn show_heading(h: Heading) {
     cases::show_number(b"", h.used);
 }
 
-fn show_said(said: Said) {
-    match said {
-        Said::Solved => {
+fn show_verdict(verdict: Verdict) {
+    match verdict {
+        Verdict::Solved => {
             io::write_all(STDOUT_FILENO, b"solved");
         }
-        Said::None(state) => cases::show_number(b"none", state.0),
+        Verdict::None(state) => cases::show_number(b"none", state.0),
     }
 }
 
-fn show_audited(r: Audited) {
+fn show_audited(r: Read) {
     match r {
-        Audited::Passed(h, said) => {
-            show_said(said);
+        Read::Entry(h, verdict) => {
+            show_verdict(verdict);
             show_heading(h);
         }
-        Audited::Refused(q) => cases::show_refused(q),
+        Read::Refused(q) => cases::show_refused(q),
     }
     cases::show_line_end();
 }

@@ -26,10 +26,9 @@ use Rattle.grammar.specs.Text.{textTable}
 use Rattle.notation.specs.Inner.Work.{textWords}
 use Rattle.notation.proofs.Values.{table-text}
 use Rattle.order.specs.Order.{order}
-use Rattle.entry.specs.declared.Record.{Record}
-use Rattle.entry.specs.declared.Record.the-variants as records
-use Rattle.entry.specs.Record.{recordBytes, size}
-use Rattle.entry.specs.Inner.Codes.{recordOf}
+use Rattle.solution.specs.Condition.{Condition, width, conditionOf}
+use Rattle.entry.specs.Record.{Record, fields, lowFirst, bodyOf, startRecord, endRecord, noneRecord}
+use Rattle.entry.specs.Inner.Codes.{listedRecord}
 use Rattle.entry.specs.Entry.{archivedRecords, entry}
 use Rattle.entry.specs.Questions.{routeFits}
 use Rattle.entry.proofs.Back.{written-whole}
@@ -37,7 +36,7 @@ use Rattle.entry.proofs.Theorems.{entry-bound}
 use Rattle.writer.specs.declared.Listing.{Listing}
 use Rattle.writer.specs.declared.Listing.the-variants.{Solved, None}
 use Rattle.writer.specs.Inner.Steps.{countOf, noneOf, entryFrom, Lists, Listable}
-use Rattle.writer.proofs.Entries.{transformed}
+use Rattle.writer.proofs.Monomials.{transformed}
 use Rattle.writer.proofs.Parts.{ordered}
 use Rattle.printing.specs.Print.{lineFeed, hexadecimal, recordLines}
 use Rattle.printing.proofs.Records.{lines-append, line-of, line-length, lines-most}
@@ -57,14 +56,16 @@ pub text-values : (U G : ℕ) (text : List ℕ) {values : List ℕ} → values �
 unfolding textWords
 text-values U G text {values} e =
     e ∙ words-cong (2 ^ (U + G - 6)) _ _ (λ p l. value-cong (U + G) _ _ p (λ m k.
-    sym (value-cong (U + G) _ (value (U + G) (present (textTable U G text))) m (λ q s. at-known (2 ^ (U + G - 6)) _ values e q (omega (arith, room (U + G))))
+    sym (value-cong (U + G) _ (value (U + G) (present (textTable U G text))) m
+    (λ q s. at-known (2 ^ (U + G - 6)) _ values e q (omega (arith, room (U + G))))
     ∙ involution (U + G) (present (textTable U G text)) m k)))
 
 pub text-table : (U G : ℕ) (text : List ℕ) {values : List ℕ} → values ≡ textWords U G text → tableOf (U + G) values ≡ textTable U G text
 unfolding tableOf
 text-table U G text {values} e = table-text U G text values _ e refl
 
-module _ (n : ℕ) (values : List ℕ) {coefficients : List ℕ} (e : coefficients ≡ wordsOf (2 ^ (n - 6)) (value (6 + (n - 6)) (bitAt values))) where
+module _ (n : ℕ) (values : List ℕ) {coefficients : List ℕ}
+    (e : coefficients ≡ wordsOf (2 ^ (n - 6)) (value (6 + (n - 6)) (bitAt values))) where
   pub same-values : IsValues n values → values ≡ wordsOf (2 ^ (n - 6)) (value n (bitAt coefficients))
   same-values h = h ∙ words-cong (2 ^ (n - 6)) _ _ (λ p l. value-cong n _ _ p (λ m k. sym (transformed n values coefficients e m k)))
 
@@ -78,7 +79,8 @@ module _ (n : ℕ) (values : List ℕ) {coefficients : List ℕ} (e : coefficien
 pub values-size : (n : ℕ) {values : List ℕ} → IsValues n values → length values ≡ 2 ^ (n - 6)
 values-size n h = size-words _ _ _ h
 
-pub listable : {U G : ℕ} {coefficients values masks : List ℕ} → lettersFit U G ≡ true → coefficients ≡ wordsOf (2 ^ (U + G - 6)) (value (6 + (U + G - 6)) (bitAt values))
+pub listable : {U G : ℕ} {coefficients values masks : List ℕ} → lettersFit U G ≡ true
+    → coefficients ≡ wordsOf (2 ^ (U + G - 6)) (value (6 + (U + G - 6)) (bitAt values))
     → IsValues (U + G) values → masks ≡ order (U + G) → Listable U G coefficients values masks
 listable {U} {G} {coefficients} {values} l e h m =
     record {
@@ -91,79 +93,145 @@ listable {U} {G} {coefficients} {values} l e h m =
     }
 
 -- ---- the lines
-front-length : (route U G : ℕ) (rs : List Record) → length (recordLines (records.Start route U G ∷ rs)) ≡ 9 + length (recordLines rs)
-front-length route U G rs =
-    ap length (lines-append (records.Start route U G ∷ []) rs) ∙ length-append (recordLines (records.Start route U G ∷ [])) (recordLines rs)
-    ∙ ap (λ (k : ℕ). k + length (recordLines rs)) (line-length (records.Start route U G))
+-- those of the records at an entry's ends, by their bytes
+start-length : (route U G : ℕ) → length (recordLines (startRecord route U G ∷ [])) ≡ 9
+unfolding fields bodyOf lowFirst
+start-length route U G = line-length (startRecord route U G)
 
+end-length : (route : ℕ) → length (recordLines (endRecord route ∷ [])) ≡ 5
+unfolding fields bodyOf lowFirst
+end-length route = line-length (endRecord route)
+
+none-length : (state : ℕ) → length (recordLines (noneRecord state ∷ [])) ≡ 5
+unfolding fields bodyOf lowFirst
+none-length state = line-length (noneRecord state)
+
+module _ {at a : ℕ} {old new : List ℕ} where
+  pub start-line : (route U G : ℕ) → Put old at (hexadecimal (1 ∷ route ∷ U ∷ G ∷ []) ++ (lineFeed ∷ [])) a new
+      → Put old at (recordLines (startRecord route U G ∷ [])) a new
+  unfolding fields bodyOf lowFirst
+  start-line route U G p = put-same p (sym (line-of (startRecord route U G)))
+
+  pub end-line : (route : ℕ) → Put old at (hexadecimal (4 ∷ route ∷ []) ++ (lineFeed ∷ [])) a new
+      → Put old at (recordLines (endRecord route ∷ [])) a new
+  unfolding fields bodyOf lowFirst
+  end-line route p = put-same p (sym (line-of (endRecord route)))
+
+  pub none-line : (state : ℕ) → Put old at (hexadecimal (5 ∷ state ∷ []) ++ (lineFeed ∷ [])) a new
+      → Put old at (recordLines (noneRecord state ∷ [])) a new
+  unfolding fields bodyOf lowFirst
+  none-line state p = put-same p (sym (line-of (noneRecord state)))
+
+-- the start and the monomials
+module _ (route U G : ℕ) (rs : List Record) where
+  front-length : length (recordLines (startRecord route U G ∷ rs)) ≡ 9 + length (recordLines rs)
+  front-length =
+      ap length (lines-append (startRecord route U G ∷ []) rs) ∙ length-append (recordLines (startRecord route U G ∷ [])) (recordLines rs)
+      ∙ ap (λ (k : ℕ). k + length (recordLines rs)) (start-length route U G)
+
+  module _ {at a : ℕ} {l₀ l₁ : List ℕ} (p : Put l₀ at (hexadecimal (1 ∷ route ∷ U ∷ G ∷ []) ++ (lineFeed ∷ [])) a l₁) where
+    pub front-room : at + (9 + length (recordLines rs)) ≤ length l₀ → a + length (recordLines rs) ≤ length l₁
+    front-room h = omega (arith, start-line route U G p .place, start-length route U G, put-length p)
+
+    pub front-put : {r : ℕ} {l₂ : List ℕ} → Put l₁ a (recordLines rs) r l₂ → Put l₀ at (recordLines (startRecord route U G ∷ rs)) r l₂
+    front-put q = put-same (put-both (start-line route U G p) q) (sym (lines-append (startRecord route U G ∷ []) rs))
+
+-- 'none' and the end
+module _ (state route : ℕ) {at a : ℕ} {l₀ l₁ : List ℕ} (p : Put l₀ at (hexadecimal (5 ∷ state ∷ []) ++ (lineFeed ∷ [])) a l₁) where
+  pub none-room : at + 10 ≤ length l₀ → a + 5 ≤ length l₁
+  none-room h = omega (arith, none-line state p .place, none-length state, put-length p)
+
+  pub none-put : {r : ℕ} {l₂ : List ℕ} → Put l₁ a (recordLines (endRecord route ∷ [])) r l₂
+      → Put l₀ at (recordLines (noneRecord state ∷ endRecord route ∷ [])) r l₂
+  none-put q = put-same (put-both (none-line state p) q) (sym (lines-append (noneRecord state ∷ []) (endRecord route ∷ [])))
+
+-- the whole
 module _ (route U G : ℕ) (found : Listing) (codes : List ℕ) where
   -- the lines of a listed entry, part by part
-  lines-parts : recordLines (entryFrom route U G found codes) ≡ recordLines (records.Start route U G ∷ map recordOf (take (countOf found) codes)) ++ recordLines (noneOf found ++ (records.End route ∷ []))
+  lines-parts : recordLines (entryFrom route U G found codes)
+      ≡ recordLines (startRecord route U G ∷ map listedRecord (take (countOf found) codes)) ++ recordLines
+      (noneOf found ++ (endRecord route ∷ []))
   unfolding entryFrom
-  lines-parts = lines-append (records.Start route U G ∷ map recordOf (take (countOf found) codes)) (noneOf found ++ (records.End route ∷ []))
+  lines-parts = lines-append (startRecord route U G ∷ map listedRecord (take (countOf found) codes))
+      (noneOf found ++ (endRecord route ∷ []))
 
-  lines-length : length (recordLines (entryFrom route U G found codes)) ≡ 9 + length (recordLines (map recordOf (take (countOf found) codes))) + length (recordLines (noneOf found ++ (records.End route ∷ [])))
+  lines-length : length (recordLines (entryFrom route U G found codes))
+      ≡ 9 + length (recordLines (map listedRecord (take (countOf found) codes))) + length
+      (recordLines (noneOf found ++ (endRecord route ∷ [])))
   lines-length =
       ap length lines-parts
-      ∙ length-append (recordLines (records.Start route U G ∷ map recordOf (take (countOf found) codes))) (recordLines (noneOf found ++ (records.End route ∷ [])))
-      ∙ ap (λ (k : ℕ). k + length (recordLines (noneOf found ++ (records.End route ∷ [])))) (front-length route U G (map recordOf (take (countOf found) codes)))
+      ∙ length-append (recordLines (startRecord route U G ∷ map listedRecord (take (countOf found) codes)))
+      (recordLines (noneOf found ++ (endRecord route ∷ [])))
+      ∙ ap (λ (k : ℕ). k + length (recordLines (noneOf found ++ (endRecord route ∷ []))))
+      (front-length route U G (map listedRecord (take (countOf found) codes)))
 
   module _ {told all : ℕ} (e : found ≡ Solved told all) where
-    pub solved-room : (at room : ℕ) → at + length (recordLines (entryFrom route U G found codes)) ≤ room → at + (9 + length (recordLines (map recordOf (take all codes)))) + 5 ≤ room
-    solved-room at room h =
-        let p : length (recordLines (entryFrom route U G found codes)) ≡ 9 + length (recordLines (map recordOf (take all codes))) + length (recordLines (records.End route ∷ [])) = lines-length ∙ rw e in
-        omega (arith, line-length (records.End route))
+    solved-length : length (recordLines (entryFrom route U G found codes)) ≡ 14 + length (recordLines (map listedRecord (take all codes)))
+    solved-length =
+        let p : length (recordLines (entryFrom route U G found codes))
+        ≡ 9 + length (recordLines (map listedRecord (take all codes))) + length (recordLines (endRecord route ∷ [])) = lines-length
+        ∙ rw e in
+        omega (arith, end-length route)
 
-    pub solved-end : {at a : ℕ} {l₀ l₁ : List ℕ} → Put l₀ at (recordLines (records.Start route U G ∷ map recordOf (take all codes))) a l₁ → at + length (recordLines (entryFrom route U G found codes)) ≤ length l₀ → a + 5 ≤ length l₁
-    solved-end {at} {a} {l₀} p h = omega (arith, solved-room at (length l₀) h, p .place, put-length p, front-length route U G (map recordOf (take all codes)))
+    pub solved-front : (at room : ℕ) → at + length (recordLines (entryFrom route U G found codes)) ≤ room
+        → at + (9 + length (recordLines (map listedRecord (take all codes)))) ≤ room
+    solved-front at room h = omega (arith, solved-length)
 
-    pub solved-put : {at a r : ℕ} {l₀ l₁ l₂ : List ℕ} → Put l₀ at (recordLines (records.Start route U G ∷ map recordOf (take all codes))) a l₁ → Put l₁ a (recordLines (records.End route ∷ [])) r l₂
-        → Put l₀ at (recordLines (entryFrom route U G found codes)) r l₂
-    solved-put p q = put-same (put-both p q) (sym (lines-parts ∙ rw e))
+    module _ {at a : ℕ} {l₀ l₁ : List ℕ}
+        (p : Put l₀ at (recordLines (startRecord route U G ∷ map listedRecord (take all codes))) a l₁) where
+      pub solved-end : at + length (recordLines (entryFrom route U G found codes)) ≤ length l₀ → a + 5 ≤ length l₁
+      solved-end h = omega (arith, solved-length, p .place, put-length p, front-length route U G (map listedRecord (take all codes)))
+
+      pub solved-put : {r : ℕ} {l₂ : List ℕ} → Put l₁ a (recordLines (endRecord route ∷ [])) r l₂
+          → Put l₀ at (recordLines (entryFrom route U G found codes)) r l₂
+      solved-put q = put-same (put-both p q) (sym (lines-parts ∙ rw e))
 
   module _ {told s : ℕ} (e : found ≡ None told s) where
-    pub none-room : (at room : ℕ) → at + length (recordLines (entryFrom route U G found codes)) ≤ room → at + (9 + length (recordLines (map recordOf (take told codes)))) + 10 ≤ room
-    none-room at room h =
-        let p : length (recordLines (entryFrom route U G found codes)) ≡ 9 + length (recordLines (map recordOf (take told codes))) + length (recordLines (records.None s ∷ records.End route ∷ [])) = lines-length ∙ rw e in
-        omega (arith, ap length (lines-append (records.None s ∷ []) (records.End route ∷ [])), length-append (recordLines (records.None s ∷ [])) (recordLines (records.End route ∷ [])), line-length (records.None s), line-length (records.End route))
+    unsolved-length : length (recordLines (entryFrom route U G found codes))
+        ≡ 19 + length (recordLines (map listedRecord (take told codes)))
+    unsolved-length =
+        let p : length (recordLines (entryFrom route U G found codes))
+        ≡ 9 + length (recordLines (map listedRecord (take told codes))) + length (recordLines (noneRecord s ∷ endRecord route ∷ [])) =
+        lines-length ∙ rw e in
+        let last : List ℕ = recordLines (endRecord route ∷ []) in
+        omega (
+          arith,
+          ap length (lines-append (noneRecord s ∷ []) (endRecord route ∷ [])),
+          length-append (recordLines (noneRecord s ∷ [])) last,
+          none-length s,
+          end-length route,
+        )
 
-    pub none-end : {at a : ℕ} {l₀ l₁ : List ℕ} → Put l₀ at (recordLines (records.Start route U G ∷ map recordOf (take told codes))) a l₁ → at + length (recordLines (entryFrom route U G found codes)) ≤ length l₀ → a + 10 ≤ length l₁
-    none-end {at} {a} {l₀} p h = omega (arith, none-room at (length l₀) h, p .place, put-length p, front-length route U G (map recordOf (take told codes)))
+    pub unsolved-front : (at room : ℕ) → at + length (recordLines (entryFrom route U G found codes)) ≤ room
+        → at + (9 + length (recordLines (map listedRecord (take told codes)))) ≤ room
+    unsolved-front at room h = omega (arith, unsolved-length)
 
-    pub none-put : {at a r : ℕ} {l₀ l₁ l₂ : List ℕ} → Put l₀ at (recordLines (records.Start route U G ∷ map recordOf (take told codes))) a l₁ → Put l₁ a (recordLines (records.None s ∷ records.End route ∷ [])) r l₂
-        → Put l₀ at (recordLines (entryFrom route U G found codes)) r l₂
-    none-put p q = put-same (put-both p q) (sym (lines-parts ∙ rw e))
+    module _ {at a : ℕ} {l₀ l₁ : List ℕ}
+        (p : Put l₀ at (recordLines (startRecord route U G ∷ map listedRecord (take told codes))) a l₁) where
+      pub unsolved-end : at + length (recordLines (entryFrom route U G found codes)) ≤ length l₀ → a + 10 ≤ length l₁
+      unsolved-end h = omega (arith, unsolved-length, p .place, put-length p, front-length route U G (map listedRecord (take told codes)))
 
-pub solved-count : {found : Listing} {told all k : ℕ} → found ≡ Solved told all → countOf found ≤ k → all ≤ k
-solved-count e h = rw e at h
-
-pub none-count : {found : Listing} {told s k : ℕ} → found ≡ None told s → countOf found ≤ k → told ≤ k
-none-count e h = rw e at h
-
--- a record's line
-pub as-line : (r : Record) {at a : ℕ} {old new : List ℕ} → Put old at (hexadecimal (recordBytes r) ++ (lineFeed ∷ [])) a new → Put old at (recordLines (r ∷ [])) a new
-as-line r p = put-same p (sym (line-of r))
-
--- and the place and the room behind it
-pub behind-line : (r : Record) {at a : ℕ} {old new : List ℕ} → Put old at (hexadecimal (recordBytes r) ++ (lineFeed ∷ [])) a new → (a ≡ at + (2 * size r + 1)) × (length new ≡ length old)
-behind-line r {at} p = (as-line r p .place ∙ ap (λ (k : ℕ). at + k) (line-length r), put-length p)
-
--- the front's lines
-pub front-put : (route U G : ℕ) (rs : List Record) {at a r : ℕ} {l₀ l₁ l₂ : List ℕ} → Put l₀ at (recordLines (records.Start route U G ∷ [])) a l₁ → Put l₁ a (recordLines rs) r l₂ → Put l₀ at (recordLines (records.Start route U G ∷ rs)) r l₂
-front-put route U G rs p q = put-same (put-both p q) (sym (lines-append (records.Start route U G ∷ []) rs))
-
-pub both-put : (r s : Record) {at a n : ℕ} {l₀ l₁ l₂ : List ℕ} → Put l₀ at (recordLines (r ∷ [])) a l₁ → Put l₁ a (recordLines (s ∷ [])) n l₂ → Put l₀ at (recordLines (r ∷ s ∷ [])) n l₂
-both-put r s p q = put-same (put-both p q) (sym (lines-append (r ∷ []) (s ∷ [])))
+      pub unsolved-put : {r : ℕ} {l₂ : List ℕ} → Put l₁ a (recordLines (noneRecord s ∷ endRecord route ∷ [])) r l₂
+          → Put l₀ at (recordLines (entryFrom route U G found codes)) r l₂
+      unsolved-put q = put-same (put-both p q) (sym (lines-parts ∙ rw e))
 
 -- ---- what was listed is what is archived, and has room
-module _ (route U G : ℕ) (t : List ℕ) {found : Listing} {codes : List ℕ} (w : Lists U G t found codes) where
-  pub archived-put : {s : List ℕ} → t ≡ s → {at r : ℕ} {old new : List ℕ} → Put old at (recordLines (entryFrom route U G found codes)) r new → Put old at (recordLines (archivedRecords route U G s)) r new
-  archived-put es p = put-same p (ap recordLines (w .records route ∙ ap (archivedRecords route U G) es))
+module _ (route U G : ℕ) (t : List ℕ) {found : Listing} {codes : List ℕ} (w : Lists (conditionOf U G t) found codes) where
+  pub archived-put : {s : List ℕ} → t ≡ s → {at r : ℕ} {old new : List ℕ} → Put old at (recordLines (entryFrom route U G found codes)) r new
+      → Put old at (recordLines (archivedRecords route (conditionOf U G s))) r new
+  archived-put es p = put-same p (ap recordLines (w .records route ∙ ap (λ (x : List ℕ). archivedRecords route (conditionOf U G x)) es))
 
-  pub archived-room : (at room : ℕ) → lettersFit U G ≡ true → at + lineRoom ≤ room → at + length (recordLines (entryFrom route U G found codes)) ≤ room
+  pub archived-room : (at room : ℕ) → lettersFit U G ≡ true → at + lineRoom ≤ room
+      → at + length (recordLines (entryFrom route U G found codes)) ≤ room
   unfolding entry
   archived-room at room l h =
-      omega (arith, ap (λ (rs : List Record). length (recordLines rs)) (w .records route), lines-most (archivedRecords route U G t) (written-whole route U G t _), entry-bound route U G t l)
+      let c : Condition = conditionOf U G t in
+      omega (
+        arith,
+        ap (λ (rs : List Record). length (recordLines rs)) (w .records route),
+        lines-most (archivedRecords route c) (written-whole route c _),
+        entry-bound route c l,
+      )
 
 -- ---- the written order
 pub few-are : (n : ℕ) {k : ℕ} (few : List ℕ) → k ≡ 2 ^ n → take (2 ^ n) few ≡ order n → take k few ≡ order n

@@ -54,7 +54,8 @@ module _ (line : List ℕ) {r : Line} (e : r ≡ readLine line) where
         let b : Answers last route U G (drop from line) out at p new = rw (rest-of from line) at a in
         record { last-is = rw is (b .last-is); put = rw is (b .put); none-kept = b .none-kept }
 
-    pub prints-unreadable : r ≡ Unreadable → {next : ℕ} {new : List ℕ} → Put out at unreadableLine next new → PrintsLine last line out at (record { count = 0; last = last; next = next }) new
+    pub prints-unreadable : r ≡ Unreadable → {next : ℕ} {new : List ℕ} → Put out at unreadableLine next new
+        → PrintsLine last line out at (record { count = 0; last = last; next = next }) new
     unfolding printed printedFor lastBehind lastFor
     prints-unreadable er p =
         let is : readLine line ≡ Unreadable = sym e ∙ er in
@@ -93,7 +94,8 @@ module _ (kept : List ℕ) (count last : ℕ) (byte : ℕ) (out : List ℕ) (at 
     unfolding carryAll printsAll carry prints
     took-full b l =
         let all : take count kept ≡ kept = take-all count kept (omega arith) in
-        let cut : take keptLength (kept ++ (byte ∷ [])) ≡ kept = take-append-le 301 kept (byte ∷ []) (omega arith) ∙ take-all 301 kept (omega arith) in
+        let cut : take keptLength (kept ++ (byte ∷ [])) ≡ kept = take-append-le 301 kept (byte ∷ []) (omega arith)
+        ∙ take-all 301 kept (omega arith) in
         record {
           within = omega arith;
           few = b;
@@ -109,7 +111,8 @@ module _ (kept : List ℕ) (count last : ℕ) (piece out : List ℕ) (at : ℕ) 
   took-none h room = record { within = omega arith; few = h; same = refl; carries = refl; prints = put-none out at room }
 
   pub took-more : {used count₁ last₁ next₁ count₂ last₂ next₂ : ℕ} {kept₁ out₁ kept₂ out₂ : List ℕ} → used < length piece
-      → Took kept count last piece out at used count₁ last₁ next₁ kept₁ out₁ → Took kept₁ count₁ last₁ (getD piece used 0 ∷ []) out₁ next₁ 1 count₂ last₂ next₂ kept₂ out₂
+      → Took kept count last piece out at used count₁ last₁ next₁ kept₁ out₁
+      → Took kept₁ count₁ last₁ (getD piece used 0 ∷ []) out₁ next₁ 1 count₂ last₂ next₂ kept₂ out₂
       → Took kept count last piece out at (used + 1) count₂ last₂ next₂ kept₂ out₂
   took-more {used} {count₁} {last₁} {next₁} {count₂} {last₂} {next₂} {kept₁} {out₁} {kept₂} {out₂} l t s =
       let b : ℕ = getD piece used 0 in
@@ -119,7 +122,8 @@ module _ (kept : List ℕ) (count last : ℕ) (piece out : List ℕ) (at : ℕ) 
         within = omega arith;
         few = s .few;
         same = s .same ∙ t .same;
-        carries = s .carries ∙ ap (λ (x : Carried). carryAll x (b ∷ [])) (t .carries) ∙ sym (carry-append c (take used piece) (b ∷ [])) ∙ ap (carryAll c) (sym split);
+        carries = s .carries ∙ ap (λ (x : Carried). carryAll x (b ∷ [])) (t .carries) ∙ sym (carry-append c (take used piece) (b ∷ []))
+            ∙ ap (carryAll c) (sym split);
         prints =
             put-same (put-both (t .prints) (s .prints))
             (ap (λ (x : Carried). printsAll c (take used piece) ++ printsAll x (b ∷ [])) (t .carries)
@@ -139,10 +143,12 @@ module _ (kept : List ℕ) (count last : ℕ) (out : List ℕ) (at : ℕ) where
   last-line n h p = rw (length-take-le count kept h, ne-eqb count 0 n) (p .put)
 
 -- a piece moves on wherever the output has room for a line
-module _ (kept : List ℕ) (count last : ℕ) (piece out : List ℕ) (r : Fed) (kept′ out′ : List ℕ) (f : Feeds kept count last piece out 0 r kept′ out′) where
+module _ (kept : List ℕ) (count last : ℕ) (piece out : List ℕ) (r : Fed) (kept′ out′ : List ℕ)
+    (f : Feeds kept count last piece out 0 r kept′ out′) where
   none-printed : r .used ≡ 0 → r .next ≡ 0
   unfolding printsAll
-  none-printed z = let place : r .next ≡ 0 + length (printsAll (carried last count kept) (take 0 piece)) = rw z at (f .took .prints .place) in place
+  none-printed z = let place : r .next ≡ 0 + length (printsAll (carried last count kept) (take 0 piece)) =
+      rw z at (f .took .prints .place) in place
 
   pub feeds-some : lineRoom ≤ length out → 0 < length piece → 0 < r .used
   feeds-some room some = go (decLt 0 (r .used))

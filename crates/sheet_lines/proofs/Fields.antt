@@ -33,9 +33,12 @@ module _ (line : List ℕ) (k : ℕ) (inv : digitsAhead line ≡ k + digitsAhead
   unfolding digitsAhead
   ahead-stop l e t = sym (inv ∙ rw (drop-cons line k 0 l, failed e t) (add-zero k))
 
-  pub ahead-more : {r : Bool} → k < length line → r ≡ isDigit (getD line k 0) → not r ≡ false → digitsAhead line ≡ k + 1 + digitsAhead (drop (k + 1) line)
+  pub ahead-more : {r : Bool} → k < length line → r ≡ isDigit (getD line k 0) → not r ≡ false
+      → digitsAhead line ≡ k + 1 + digitsAhead (drop (k + 1) line)
   unfolding digitsAhead
-  ahead-more l e t = inv ∙ rw (drop-cons line k 0 l, passed e t, add-one) (add-suc k (digitsAhead (drop (suc k) line)) ∙ sym (suc-add k (digitsAhead (drop (suc k) line))))
+  ahead-more l e t = inv
+      ∙ rw (drop-cons line k 0 l, passed e t, add-one)
+      (add-suc k (digitsAhead (drop (suc k) line)) ∙ sym (suc-add k (digitsAhead (drop (suc k) line))))
 
   pub ahead-end : length line ≤ k → k ≡ digitsAhead line
   unfolding digitsAhead
@@ -75,7 +78,9 @@ never-all true true true true = refl
 module _ (s : List ℕ) where
   pub letters-short : length s < 5 → false ≡ hasLetters s
   unfolding hasLetters
-  letters-short h = let l : length s ≤ 4 = omega arith in sym (rw (List·getD-eq-default s 0 l) (never-all (eqb (getD s 0 0) space) (isDigit (getD s 1 0)) (eqb (getD s 2 0) space) (isDigit (getD s 3 0))))
+  letters-short h = let l : length s ≤ 4 =
+      omega arith in sym (rw (List·getD-eq-default s 0 l)
+      (never-all (eqb (getD s 0 0) space) (isDigit (getD s 1 0)) (eqb (getD s 2 0) space) (isDigit (getD s 3 0))))
 
   pub letters-first : (getD s 0 0 ≡ 32 → ⊥) → false ≡ hasLetters s
   unfolding hasLetters
@@ -103,7 +108,9 @@ module _ (s : List ℕ) where
 -- they take five bytes
 pub letters-length : (s : List ℕ) → hasLetters s ≡ true → 5 ≤ length s
 unfolding hasLetters
-letters-length s h = go s (eqb-true _ _ (and-right (isDigit (getD s 3 0)) _ (and-right (eqb (getD s 2 0) space) _ (and-right (isDigit (getD s 1 0)) _ (and-right (eqb (getD s 0 0) space) _ h)))))
+letters-length s h =
+    go s (eqb-true _ _ (and-right (isDigit (getD s 3 0)) _
+    (and-right (eqb (getD s 2 0) space) _ (and-right (isDigit (getD s 1 0)) _ (and-right (eqb (getD s 0 0) space) _ h)))))
   where
     go : (s : List ℕ) → getD s 4 0 ≡ 32 → 5 ≤ length s
     go [] e = absurd (omega arith)
@@ -156,7 +163,8 @@ module _ (line : List ℕ) where
   unfolding readLine
   read-no e t = rw (failed e t)
 
-  pub read-yes : {r : Bool} {k route u g : ℕ} → r ≡ isReadable line → not r ≡ false → k ≡ digitsAhead line → route ≡ numberBehind 0 (take k line)
+  pub read-yes : {r : Bool} {k route u g : ℕ} → r ≡ isReadable line → not r ≡ false → k ≡ digitsAhead line
+      → route ≡ numberBehind 0 (take k line)
       → u ≡ getD line (k + 1) 0 - 48 → g ≡ getD line (k + 3) 0 - 48 → Readable route u g (k + 5) ≡ readLine line
   unfolding readLine fields
   read-yes {k = k} e t f er eu eg = rw (passed e t, ← f, getD-drop k line 1 0, getD-drop k line 3 0, er, eu, eg)

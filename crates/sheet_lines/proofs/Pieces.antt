@@ -39,13 +39,15 @@ unfolding readLine isReadable
 too-long line h = rw (lt-leb (length line) 300 h)
 
 -- cut or whole, such a line gives the same
-cut : {A : Type 0} (f : List ℕ → A) (a : A) → ((line : List ℕ) → readLine line ≡ Unreadable → f line ≡ a) → (begun line : List ℕ) → f (take keptLength begun ++ line) ≡ f (begun ++ line)
+cut : {A : Type 0} (f : List ℕ → A) (a : A) → ((line : List ℕ) → readLine line ≡ Unreadable → f line ≡ a) → (begun line : List ℕ)
+    → f (take keptLength begun ++ line) ≡ f (begun ++ line)
 cut {A} f a unreadable begun line = go (decLe (length begun) 301)
   where
     go : Dec (length begun ≤ 301) → f (take keptLength begun ++ line) ≡ f (begun ++ line)
     go (yes h) = ap (λ (l : List ℕ). f (l ++ line)) (take-all 301 begun h)
     go (no h) =
-        unreadable (take keptLength begun ++ line) (too-long (take keptLength begun ++ line) (omega (arith, length-append (take keptLength begun) line, length-take 301 begun)))
+        unreadable (take keptLength begun ++ line)
+        (too-long (take keptLength begun ++ line) (omega (arith, length-append (take keptLength begun) line, length-take 301 begun)))
         ∙ sym (unreadable (begun ++ line) (too-long (begun ++ line) (omega (arith, length-append begun line))))
 
 module _ (last : ℕ) (begun line : List ℕ) where
@@ -57,7 +59,8 @@ module _ (last : ℕ) (begun line : List ℕ) where
   unfolding lastBehind lastFor
   cut-last = cut (lastBehind last) last (λ l e. rw e) begun line
 
-  cut-first : (lines : List (List ℕ)) → printedLines last ((take keptLength begun ++ line) ∷ lines) ≡ printedLines last ((begun ++ line) ∷ lines)
+  cut-first : (lines : List (List ℕ))
+      → printedLines last ((take keptLength begun ++ line) ∷ lines) ≡ printedLines last ((begun ++ line) ∷ lines)
   unfolding printedLines
   cut-first lines = ap₂ (λ (l : List ℕ) (r : ℕ). l ++ printedLines r lines) cut-printed cut-last
 
@@ -81,9 +84,11 @@ unfolding prepend
 prepend-more [] b lines = refl
 prepend-more (x ∷ begun) b lines = ap (inFront x) (prepend-more begun b lines)
 
-cut-prepend : (last : ℕ) (begun : List ℕ) (lines : List (List ℕ)) → printedLines last (prepend (take keptLength begun) lines) ≡ printedLines last (prepend begun lines)
+cut-prepend : (last : ℕ) (begun : List ℕ) (lines : List (List ℕ))
+    → printedLines last (prepend (take keptLength begun) lines) ≡ printedLines last (prepend begun lines)
 cut-prepend last begun (line ∷ lines) =
-    ap (printedLines last) (prepend-line (take keptLength begun) line lines) ∙ cut-first last begun line lines ∙ ap (printedLines last) (sym (prepend-line begun line lines))
+    ap (printedLines last) (prepend-line (take keptLength begun) line lines) ∙ cut-first last begun line lines
+    ∙ ap (printedLines last) (sym (prepend-line begun line lines))
 cut-prepend last [] [] = refl
 cut-prepend last (b ∷ begun) [] =
     ap (printedLines last) (prepend-none b (take 300 begun) ∙ ap (λ (l : List ℕ). l ∷ []) (sym (append-nil (b ∷ take 300 begun))))
@@ -97,36 +102,49 @@ from last begun = record { last = last; begun = begun }
 at-end : (last : ℕ) (begun : List ℕ) → printsLast (from last begun) ≡ printedLines last (prepend begun [])
 unfolding printsLast printedLines prepend
 at-end last [] = refl
-at-end last (b ∷ begun) = rw (ne-eqb (suc (length begun)) 0 (λ e. omega arith)) (sym (ap (printedLines last) (prepend-none b begun) ∙ append-nil (printed last (b ∷ begun))))
+at-end last (b ∷ begun) =
+    rw (ne-eqb (suc (length begun)) 0 (λ e. omega arith))
+    (sym (ap (printedLines last) (prepend-none b begun) ∙ append-nil (printed last (b ∷ begun))))
 
-line-ends : (last : ℕ) (begun : List ℕ) (lines : List (List ℕ)) → printed last begun ++ printedLines (lastBehind last begun) (prepend [] lines) ≡ printedLines last (prepend begun ([] ∷ lines))
+line-ends : (last : ℕ) (begun : List ℕ) (lines : List (List ℕ))
+    → printed last begun ++ printedLines (lastBehind last begun) (prepend [] lines) ≡ printedLines last (prepend begun ([] ∷ lines))
 unfolding printedLines prepend
 line-ends last begun lines = sym (ap (printedLines last) (prepend-line begun [] lines ∙ ap (λ (l : List ℕ). l ∷ lines) (append-nil begun)))
 
-whole : (bytes : List ℕ) (last : ℕ) (begun : List ℕ) → printsAll (from last begun) bytes ++ printsLast (carryAll (from last begun) bytes) ≡ printedLines last (prepend begun (linesOf bytes))
+whole : (bytes : List ℕ) (last : ℕ) (begun : List ℕ)
+    → printsAll (from last begun) bytes ++ printsLast (carryAll (from last begun) bytes) ≡ printedLines last (prepend begun (linesOf bytes))
 unfolding printsAll carryAll linesOf carry prints
 whole [] last begun = at-end last begun
 whole (b ∷ bytes) last begun =
     go (bool-cases (eqb b lineFeed)) (whole bytes (lastBehind last begun) []) (whole bytes last (take keptLength (begun ++ (b ∷ []))))
   where
     go : (eqb b lineFeed ≡ true) ⊎ (eqb b lineFeed ≡ false)
-        → printsAll (from (lastBehind last begun) []) bytes ++ printsLast (carryAll (from (lastBehind last begun) []) bytes) ≡ printedLines (lastBehind last begun) (prepend [] (linesOf bytes))
-        → printsAll (from last (take keptLength (begun ++ (b ∷ [])))) bytes ++ printsLast (carryAll (from last (take keptLength (begun ++ (b ∷ [])))) bytes) ≡ printedLines last (prepend (take keptLength (begun ++ (b ∷ []))) (linesOf bytes))
-        → printsAll (from last begun) (b ∷ bytes) ++ printsLast (carryAll (from last begun) (b ∷ bytes)) ≡ printedLines last (prepend begun (linesOf (b ∷ bytes)))
+        → printsAll (from (lastBehind last begun) []) bytes ++ printsLast (carryAll (from (lastBehind last begun) []) bytes)
+        ≡ printedLines (lastBehind last begun) (prepend [] (linesOf bytes))
+        → printsAll (from last (take keptLength (begun ++ (b ∷ [])))) bytes ++ printsLast
+        (carryAll (from last (take keptLength (begun ++ (b ∷ [])))) bytes)
+        ≡ printedLines last (prepend (take keptLength (begun ++ (b ∷ []))) (linesOf bytes))
+        → printsAll (from last begun) (b ∷ bytes) ++ printsLast (carryAll (from last begun) (b ∷ bytes))
+        ≡ printedLines last (prepend begun (linesOf (b ∷ bytes)))
     go (inl e) ended on =
         rw e
-        (append-assoc (printed last begun) (printsAll (from (lastBehind last begun) []) bytes) (printsLast (carryAll (from (lastBehind last begun) []) bytes))
+        (append-assoc (printed last begun) (printsAll (from (lastBehind last begun) []) bytes)
+        (printsLast (carryAll (from (lastBehind last begun) []) bytes))
         ∙ ap (λ (l : List ℕ). printed last begun ++ l) ended
         ∙ line-ends last begun (linesOf bytes))
-    go (inr e) ended on = rw e (on ∙ cut-prepend last (begun ++ (b ∷ [])) (linesOf bytes) ∙ ap (printedLines last) (sym (prepend-more begun b (linesOf bytes))))
+    go (inr e) ended on =
+        rw e (on ∙ cut-prepend last (begun ++ (b ∷ [])) (linesOf bytes)
+        ∙ ap (printedLines last) (sym (prepend-more begun b (linesOf bytes))))
 
-pieces-whole : (c : Carried) (pieces : List (List ℕ)) → printsPieces c pieces ≡ printsAll c (joined pieces) ++ printsLast (carryAll c (joined pieces))
+pieces-whole : (c : Carried) (pieces : List (List ℕ))
+    → printsPieces c pieces ≡ printsAll c (joined pieces) ++ printsLast (carryAll c (joined pieces))
 unfolding printsPieces joined printsAll carryAll
 pieces-whole c [] = refl
 pieces-whole c (piece ∷ pieces) =
     ap (λ (l : List ℕ). printsAll c piece ++ l) (pieces-whole (carryAll c piece) pieces)
     ∙ rw (carry-append c piece (joined pieces), prints-append c piece (joined pieces))
-    (sym (append-assoc (printsAll c piece) (printsAll (carryAll c piece) (joined pieces)) (printsLast (carryAll (carryAll c piece) (joined pieces)))))
+    (sym (append-assoc (printsAll c piece) (printsAll (carryAll c piece) (joined pieces))
+    (printsLast (carryAll (carryAll c piece) (joined pieces)))))
 
 -- however an input comes in pieces, what is printed for them one after another, with at most 301 bytes of a line kept, is the sheet
 pub sheet-in-pieces : (pieces : List (List ℕ)) → printsPieces nothingCarried pieces ≡ sheet (joined pieces)

@@ -15,7 +15,8 @@ use Rattle.grammar.specs.Text.{textTable}
 use Rattle.calls.specs.Questions.{hasTextLength}
 use Rattle.order.specs.Order.{letters, keep, below, groups, order, monomials}
 use Rattle.solution.specs.Condition.{defaultOrder}
-use Rattle.solution.specs.Elimination.{nextCondition, remains, answerFrom, booleAnswers, smallestBelow, blocked, smallestBlocked, isZero, solvable, solve}
+use Rattle.solution.specs.Elimination.{nextCondition, remains, answerFrom, booleAnswers, smallestBelow, blocked, smallestBlocked, isZero, solvable, booleTable, solve}
+use Rattle.entry.specs.Record.{fields as layoutFields, lowFirst, bodyOf}
 use Rattle.entry.specs.Entry.{conditionRecords, answerRecords, verdictRecords, entryRecords}
 use Rattle.entry.specs.Questions.{routeFits}
 use Rattle.printing.specs.Print.{digitByte, hexadecimal, recordLines}
@@ -55,5 +56,5 @@ tenLines =
     ∷ []
 
 pub sample-printed : sheet sample ≡ tenLines
-unfolding sample tenLines sheet printedLines linesOf inFront printed printedFor lastBehind lastFor routeBehind answerLines lineRefusal lineQuestions firstNo lettersFit routeFits hasTextLength allSigns allDeclared every isSign isDeclared readLine fields isReadable hasLetters numberBehind digitsAhead isDigit recordLines hexadecimal digitByte textTable table tabulate normalForm treeOf grammarReads symbols symbol isUnknown isGiven isSingle reads readWith andThen entryRecords conditionRecords answerRecords verdictRecords monomials order groups below keep letters solve solvable isZero everyBelow remains nextCondition product restrict odd count present held bit defaultOrder listed answerTable booleAnswers answerFrom sum letter constant substitute monomial smallestBlocked smallestBelow blocked point value within
+unfolding sample tenLines sheet printedLines linesOf inFront printed printedFor lastBehind lastFor routeBehind answerLines lineRefusal lineQuestions firstNo lettersFit routeFits hasTextLength allSigns allDeclared every isSign isDeclared readLine fields isReadable hasLetters numberBehind digitsAhead isDigit recordLines hexadecimal digitByte textTable table tabulate normalForm treeOf grammarReads symbols symbol isUnknown isGiven isSingle reads readWith andThen entryRecords conditionRecords answerRecords verdictRecords monomials order groups below keep letters solve solvable isZero everyBelow remains nextCondition product restrict odd count present held bit defaultOrder listed answerTable booleAnswers answerFrom sum letter constant substitute monomial smallestBlocked smallestBelow blocked point value within booleTable layoutFields lowFirst bodyOf
 sample-printed = refl

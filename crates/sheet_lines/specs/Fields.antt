@@ -1,5 +1,6 @@
 -- A line of a sheet, taken apart (document 01, 'Programs'): 'route (1 to 3 digits), U, G (one digit each), text, single spaces between'.
--- A line is a list of bytes, its line feed left out. The type is the code's own enum: `Readable` holds the route, U, G and where the text begins.
+-- A line is a list of bytes, its line feed left out. The type is the code's own enum: `Readable` holds the route, U, G and where the text
+-- begins.
 -- Assumes nothing.
 use mathlib.Core.Bool.{Bool, _&&_, cond}
 use mathlib.Core.List.{List, [], _∷_}
@@ -26,11 +27,15 @@ numberBehind n (byte ∷ bytes) = numberBehind (10 * n + (byte - 48)) bytes
 
 -- 'U, G (one digit each) .. single spaces between': a space, a digit, a space, a digit, a space
 unfoldable pub hasLetters : List ℕ → Bool
-hasLetters rest = eqb (getD rest 0 0) space && (isDigit (getD rest 1 0) && (eqb (getD rest 2 0) space && (isDigit (getD rest 3 0) && eqb (getD rest 4 0) space)))
+hasLetters rest =
+    eqb (getD rest 0 0) space
+    && (isDigit (getD rest 1 0) && (eqb (getD rest 2 0) space && (isDigit (getD rest 3 0) && eqb (getD rest 4 0) space)))
 
 -- 'lines over 300 bytes without the line feed' are unreadable, and so are all that do not begin with the four fields
 unfoldable pub isReadable : List ℕ → Bool
-isReadable line = leb (length line) 300 && (leb 1 (digitsAhead line) && (leb (digitsAhead line) 3 && hasLetters (drop (digitsAhead line) line)))
+isReadable line =
+    leb (length line) 300
+    && (leb 1 (digitsAhead line) && (leb (digitsAhead line) 3 && hasLetters (drop (digitsAhead line) line)))
 
 -- the fields of a readable line: the route, U, G, and the place of the text, 'all that follows the third space'
 unfoldable pub fields : List ℕ → Line

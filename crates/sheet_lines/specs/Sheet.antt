@@ -5,12 +5,14 @@ use mathlib.Core.List.{List, [], _∷_, _++_}
 use Prim.Native.Nat.{ℕ, zero, suc}
 use lib.Dec.{eqb, ltb}
 use lib.ListN.{drop}
+use Rattle.tables.specs.declared.Question.the-variants.{Letters, Route, TextLength, Signs, Declared, Grammar, Rising}
 use Rattle.tables.specs.Questions.{Asked, asks, firstNo, lettersFit}
 use Rattle.grammar.specs.Symbols.{allSigns, allDeclared}
 use Rattle.grammar.specs.Reader.{grammarReads}
 use Rattle.grammar.specs.Text.{textTable}
 use Rattle.calls.specs.Questions.{hasTextLength}
-use Rattle.entry.specs.declared.Record.{Record}
+use Rattle.solution.specs.Condition.{conditionOf}
+use Rattle.entry.specs.Record.{Record}
 use Rattle.entry.specs.Entry.{archivedRecords}
 use Rattle.entry.specs.Questions.{routeFits}
 use Rattle.printing.specs.Print.{lineFeed, recordLines, unreadableLine, refusedLine}
@@ -21,13 +23,13 @@ use Rattle.sheet_lines.specs.Fields.{readLine}
 -- 'in the order 1, 2, 3, 5, 6, 7, 15 (against the last route printed)', which is 0 before any
 unfoldable pub lineQuestions : ℕ → ℕ → ℕ → ℕ → List ℕ → List Asked
 lineQuestions last route U G text =
-    asks 1 (lettersFit U G)
-    ∷ asks 2 (routeFits route)
-    ∷ asks 3 (hasTextLength text)
-    ∷ asks 5 (allSigns text)
-    ∷ asks 6 (allDeclared U G text)
-    ∷ asks 7 (grammarReads text)
-    ∷ asks 15 (ltb last route)
+    asks Letters (lettersFit U G)
+    ∷ asks Route (routeFits route)
+    ∷ asks TextLength (hasTextLength text)
+    ∷ asks Signs (allSigns text)
+    ∷ asks Declared (allDeclared U G text)
+    ∷ asks Grammar (grammarReads text)
+    ∷ asks Rising (ltb last route)
     ∷ []
 
 unfoldable pub lineRefusal : ℕ → ℕ → ℕ → ℕ → List ℕ → ℕ
@@ -45,7 +47,8 @@ routeBehind (suc number) last route = last
 
 -- what is printed for a line, behind an entry with the route `last`
 unfoldable pub printedFor : ℕ → List ℕ → Line → List ℕ
-printedFor last line (Readable route U G at) = answerLines (lineRefusal last route U G (drop at line)) (archivedRecords route U G (textTable U G (drop at line)))
+printedFor last line (Readable route U G at) =
+    answerLines (lineRefusal last route U G (drop at line)) (archivedRecords route (conditionOf U G (textTable U G (drop at line))))
 printedFor last line Unreadable = unreadableLine
 
 unfoldable pub lastFor : ℕ → List ℕ → Line → ℕ

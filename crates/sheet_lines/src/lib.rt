@@ -10,8 +10,9 @@ ghost use Rattle.tables.specs.Inner.Put.{Put};
 ghost use Rattle.tables.specs.Questions.{lettersFit};
 ghost use Rattle.notation.specs.Inner.Work.{textWords};
 ghost use Rattle.order.specs.Order.{order};
-ghost use Rattle.entry.specs.declared.Record.the-variants.{Start, End, None};
-ghost use Rattle.entry.specs.Inner.Codes.{recordOf};
+ghost use Rattle.solution.specs.Condition.{conditionOf};
+ghost use Rattle.entry.specs.Record.{startRecord, endRecord, noneRecord};
+ghost use Rattle.entry.specs.Inner.Codes.{listedRecord};
 ghost use Rattle.entry.specs.Entry.{archivedRecords};
 ghost use Rattle.entry.specs.Questions.{routeFits};
 ghost use Rattle.writer.specs.Inner.Steps.{countOf, entryFrom};
@@ -20,6 +21,7 @@ ghost use Rattle.sheet_lines.specs.Fields.{isDigit, digitsAhead, numberB
 ghost use Rattle.sheet_lines.specs.Sheet.{lineRefusal};
 ghost use Rattle.sheet_lines.specs.Pieces.{keptLength, printsLast};
 ghost use Rattle.sheet_lines.specs.Inner.Feeding.{lineRoom, tableOf, IsValues, Answers, PrintsLine, carried, Took, Feeds};
+use tables::Question;
 use writer::Listing;
 
 const LONGEST_LINE: usize = 300; // 'lines over 300 bytes without the line feed' are unreadable
@@ -142,50 +144,39 @@ fn read_line(line: &[u8]) -> Line
     }
     let k = digits_ahead(line);
     let route = number(&line[..k]);
-    let unknowns = digit_of(line[k + 1]);
-    let givens = digit_of(line[k + 3]);
-    Line::Readable(route, unknowns, givens, k + 5)
+    let u = digit_of(line[k + 1]);
+    let g = digit_of(line[k + 3]);
+    Line::Readable(route, u, g, k + 5)
 }
 
 // The first no of 2, 3, 5, 6, 7 and 15, or 0, where the values of the text then stand in `values`. Question 1 is answered yes.
 fn line_refusal(
     last: usize,
     route: usize,
-    unknowns: usize,
-    givens: usize,
+    u: usize,
+    g: usize,
     text: &[u8],
     values: &mut [u64],
 ) -> u8
-    requires { ⌜ (lettersFit unknowns givens ≡ true) × (length (now values) ≡ 2 ^ (unknowns + givens - 6)) ⌝ }
-    ensures { λ r. ⌜ r ≡ lineRefusal last route unknowns givens (now (text .entry)) ⌝ }
-    ensures { λ r. ⌜ (r ≡ 0 → now (values .exit) ≡ textWords unknowns givens (now (text .entry))) ⌝ }
+    requires { ⌜ (lettersFit u g ≡ true) × (length (now values) ≡ 2 ^ (u + g - 6)) ⌝ }
+    ensures { λ r. ⌜ r ≡ lineRefusal last route u g (now (text .entry)) ⌝ }
+    ensures { λ r. ⌜ (r ≡ 0 → now (values .exit) ≡ textWords u g (now (text .entry))) ⌝ }
 {
     if !entry::route_fits(route) {
-        return tables::ROUTE;
+        return tables::number(Question::Route);
     }
-    let number = notation::text_values(unknowns, givens, text, values);
-    if number != 0 {
-        return number;
-    }
-    if route <= last {
-        return tables::RISING;
-    }
-    0
+    let refusal = notation::text_values(u, g, text, values);
+    tables::ask(refusal, Question::Rising, last < route)
 }
 
 // The first record and the monomials of an entry.
-fn put_front(
-    out: &mut [u8],
-    at: usize,
-    route: usize,
-    unknowns: usize,
-    givens: usize,
-    codes: &[u16],
-) -> usize
-    requires { ⌜ (route < 256) × (unknowns < 256) × (givens < 256) × (at + (9 + length (recordLines (map recordOf (now codes)))) ≤ length (now out)) ⌝ }
-    ensures { λ r. ⌜ Put (now (out .entry)) at (recordLines (Start route unknowns givens ∷ map recordOf (now (codes .entry)))) r (now (out .exit)) ⌝ }
+fn put_front(out: &mut [u8], at: usize, route: usize, u: usize, g: usize, codes: &[u16]) -> usize
+    requires { ⌜ (route < 256) × (u < 256) × (g < 256)
+        × (at + (9 + length (recordLines (map listedRecord (now codes)))) ≤ length (now out)) ⌝ }
+    ensures { λ r. ⌜ Put (now (out .entry)) at (recordLines (startRecord route u g ∷ map listedRecord (now (codes .entry)))) r
+        (now (out .exit)) ⌝ }
 {
-    let start = [1u8, route as u8, unknowns as u8, givens as u8];
+    let start = [1u8, route as u8, u as u8, g as u8];
     let started = printing::put_line(out, at, &start);
     printing::put_monomials(out, started, codes)
 }
@@ -193,7 +184,7 @@ fn put_front(
 // The last record of an entry.
 fn put_end(out: &mut [u8], at: usize, route: usize) -> usize
     requires { ⌜ (route < 256) × (at + 5 ≤ length (now out)) ⌝ }
-    ensures { λ r. ⌜ Put (now (out .entry)) at (recordLines (End route ∷ [])) r (now (out .exit)) ⌝ }
+    ensures { λ r. ⌜ Put (now (out .entry)) at (recordLines (endRecord route ∷ [])) r (now (out .exit)) ⌝ }
 {
     let end = [4u8, route as u8];
     printing::put_line(out, at, &end)
@@ -202,7 +193,7 @@ fn put_end(out: &mut [u8], at: usize, route: usize) -> usize
 // 'none', and the last record of an entry.
 fn put_none(out: &mut [u8], at: usize, state: u8, route: usize) -> usize
     requires { ⌜ (route < 256) × (at + 10 ≤ length (now out)) ⌝ }
-    ensures { λ r. ⌜ Put (now (out .entry)) at (recordLines (None state ∷ End route ∷ [])) r (now (out .exit)) ⌝ }
+    ensures { λ r. ⌜ Put (now (out .entry)) at (recordLines (noneRecord state ∷ endRecord route ∷ [])) r (now (out .exit)) ⌝ }
 {
     let none = [5u8, state];
     let told = printing::put_line(out, at, &none);
@@ -214,21 +205,23 @@ fn put_found(
     out: &mut [u8],
     at: usize,
     route: usize,
-    unknowns: usize,
-    givens: usize,
+    u: usize,
+    g: usize,
     found: Listing,
     codes: &[u16],
 ) -> usize
-    requires { ⌜ (route < 256) × (unknowns < 256) × (givens < 256) × (countOf found ≤ length (now codes)) × (at + length (recordLines (entryFrom route unknowns givens found (now codes))) ≤ length (now out)) ⌝ }
-    ensures { λ r. ⌜ Put (now (out .entry)) at (recordLines (entryFrom route unknowns givens found (now (codes .entry)))) r (now (out .exit)) ⌝ }
+    requires { ⌜ (route < 256) × (u < 256) × (g < 256) × (countOf found ≤ length (now codes))
+        × (at + length (recordLines (entryFrom route u g found (now codes))) ≤ length (now out)) ⌝ }
+    ensures { λ r. ⌜ Put (now (out .entry)) at (recordLines (entryFrom route u g found (now (codes .entry)))) r
+        (now (out .exit)) ⌝ }
 {
     match found {
         Listing::Solved(_, all) => {
-            let solved = put_front(out, at, route, unknowns, givens, &codes[..all]);
+            let solved = put_front(out, at, route, u, g, &codes[..all]);
             put_end(out, solved, route)
         }
         Listing::None(told, state) => {
-            let listed = put_front(out, at, route, unknowns, givens, &codes[..told]);
+            let listed = put_front(out, at, route, u, g, &codes[..told]);
             put_none(out, listed, state, route)
         }
     }
@@ -239,19 +232,22 @@ fn put_values(
     out: &mut [u8],
     at: usize,
     route: usize,
-    unknowns: usize,
-    givens: usize,
+    u: usize,
+    g: usize,
     values: &mut [u64],
     coefficients: &mut [u64],
     masks: &[u16],
     codes: &mut [u16],
 ) -> usize
-    requires { ⌜ (lettersFit unknowns givens ≡ true) × (routeFits route ≡ true) × IsValues (unknowns + givens) (now values) × (length (now coefficients) ≡ 2 ^ (unknowns + givens - 6)) × (now masks ≡ order (unknowns + givens)) × (length (now codes) ≡ 7168) × (at + lineRoom ≤ length (now out)) ⌝ }
-    ensures { λ r. ⌜ Put (now (out .entry)) at (recordLines (archivedRecords route unknowns givens (tableOf (unknowns + givens) (now (values .entry))))) r (now (out .exit)) ⌝ }
+    requires { ⌜ (lettersFit u g ≡ true) × (routeFits route ≡ true) × IsValues (u + g) (now values)
+        × (length (now coefficients) ≡ 2 ^ (u + g - 6)) × (now masks ≡ order (u + g)) × (length (now codes) ≡ 7168)
+        × (at + lineRoom ≤ length (now out)) ⌝ }
+    ensures { λ r. ⌜ Put (now (out .entry)) at
+        (recordLines (archivedRecords route (conditionOf u g (tableOf (u + g) (now (values .entry)))))) r (now (out .exit)) ⌝ }
 {
-    writer::transform(unknowns + givens, values, coefficients);
-    let found = writer::list_entry(unknowns, givens, coefficients, values, masks, codes);
-    put_found(out, at, route, unknowns, givens, found, codes)
+    writer::transform(u + g, values, coefficients);
+    let found = writer::list_entry(u, g, coefficients, values, masks, codes);
+    put_found(out, at, route, u, g, found, codes)
 }
 
 // The same by the written order for ten letters: 'smaller n skips masks that are too large'.
@@ -259,39 +255,41 @@ fn put_entry(
     out: &mut [u8],
     at: usize,
     route: usize,
-    unknowns: usize,
-    givens: usize,
+    u: usize,
+    g: usize,
     values: &mut [u64],
     masks: &[u16],
     codes: &mut [u16],
 ) -> usize
-    requires { ⌜ (lettersFit unknowns givens ≡ true) × (routeFits route ≡ true) × IsValues (unknowns + givens) (now values) × (now masks ≡ order 10) × (length (now codes) ≡ 7168) × (at + lineRoom ≤ length (now out)) ⌝ }
-    ensures { λ r. ⌜ Put (now (out .entry)) at (recordLines (archivedRecords route unknowns givens (tableOf (unknowns + givens) (now (values .entry))))) r (now (out .exit)) ⌝ }
+    requires { ⌜ (lettersFit u g ≡ true) × (routeFits route ≡ true) × IsValues (u + g) (now values) × (now masks ≡ order 10)
+        × (length (now codes) ≡ 7168) × (at + lineRoom ≤ length (now out)) ⌝ }
+    ensures { λ r. ⌜ Put (now (out .entry)) at
+        (recordLines (archivedRecords route (conditionOf u g (tableOf (u + g) (now (values .entry)))))) r (now (out .exit)) ⌝ }
 {
-    let k = words::word_count(unknowns + givens);
+    let k = words::word_count(u + g);
     let mut coefficients = [0u64; 16];
-    if unknowns + givens == 10 {
+    if u + g == 10 {
         return put_values(
             out,
             at,
             route,
-            unknowns,
-            givens,
+            u,
+            g,
             values,
             &mut coefficients[..k],
             masks,
             codes,
         );
     }
-    let all = tables::pow2(unknowns + givens);
+    let all = tables::pow2(u + g);
     let mut few = [0u16; 1024];
-    order::skip_large(unknowns + givens, masks, &mut few);
+    order::skip_large(u + g, masks, &mut few);
     put_values(
         out,
         at,
         route,
-        unknowns,
-        givens,
+        u,
+        g,
         values,
         &mut coefficients[..k],
         &few[..all],
@@ -305,17 +303,18 @@ fn answer_fitting(
     at: usize,
     last: usize,
     route: usize,
-    unknowns: usize,
-    givens: usize,
+    u: usize,
+    g: usize,
     text: &[u8],
     values: &mut [u64],
     masks: &[u16],
     codes: &mut [u16],
 ) -> Printed
-    requires { ⌜ (lettersFit unknowns givens ≡ true) × (length (now values) ≡ 2 ^ (unknowns + givens - 6)) × (now masks ≡ order 10) × (length (now codes) ≡ 7168) × (at + lineRoom ≤ length (now out)) ⌝ }
-    ensures { λ r. ⌜ Answers last route unknowns givens (now (text .entry)) (now (out .entry)) at r (now (out .exit)) ⌝ }
+    requires { ⌜ (lettersFit u g ≡ true) × (length (now values) ≡ 2 ^ (u + g - 6)) × (now masks ≡ order 10)
+        × (length (now codes) ≡ 7168) × (at + lineRoom ≤ length (now out)) ⌝ }
+    ensures { λ r. ⌜ Answers last route u g (now (text .entry)) (now (out .entry)) at r (now (out .exit)) ⌝ }
 {
-    let number = line_refusal(last, route, unknowns, givens, text, values);
+    let number = line_refusal(last, route, u, g, text, values);
     if number != 0 {
         let next = printing::put_refused(out, at, number);
         return Printed {
@@ -324,7 +323,7 @@ fn answer_fitting(
             next,
         };
     }
-    let next = put_entry(out, at, route, unknowns, givens, values, masks, codes);
+    let next = put_entry(out, at, route, u, g, values, masks, codes);
     Printed {
         count: 0,
         last: route,
@@ -338,32 +337,32 @@ fn answer_line(
     at: usize,
     last: usize,
     route: usize,
-    unknowns: usize,
-    givens: usize,
+    u: usize,
+    g: usize,
     text: &[u8],
     masks: &[u16],
     codes: &mut [u16],
 ) -> Printed
     requires { ⌜ (now masks ≡ order 10) × (length (now codes) ≡ 7168) × (at + lineRoom ≤ length (now out)) ⌝ }
-    ensures { λ r. ⌜ Answers last route unknowns givens (now (text .entry)) (now (out .entry)) at r (now (out .exit)) ⌝ }
+    ensures { λ r. ⌜ Answers last route u g (now (text .entry)) (now (out .entry)) at r (now (out .exit)) ⌝ }
 {
-    if !tables::letters_fit(unknowns, givens) {
-        let next = printing::put_refused(out, at, tables::LETTERS);
+    if !tables::letters_fit(u, g) {
+        let next = printing::put_refused(out, at, tables::number(Question::Letters));
         return Printed {
             count: 0,
             last,
             next,
         };
     }
-    let k = words::word_count(unknowns + givens);
+    let k = words::word_count(u + g);
     let mut values = [0u64; 16];
     answer_fitting(
         out,
         at,
         last,
         route,
-        unknowns,
-        givens,
+        u,
+        g,
         text,
         &mut values[..k],
         masks,
@@ -384,13 +383,13 @@ pub fn sheet_line(
     ensures { λ r. ⌜ PrintsLine last (now (line .entry)) (now (out .entry)) at r (now (out .exit)) ⌝ }
 {
     match read_line(line) {
-        Line::Readable(route, unknowns, givens, from) => answer_line(
+        Line::Readable(route, u, g, from) => answer_line(
             out,
             at,
             last,
             route,
-            unknowns,
-            givens,
+            u,
+            g,
             &line[from..],
             masks,
             codes,
@@ -417,8 +416,10 @@ fn take_byte(
     out: &mut [u8],
     at: usize,
 ) -> Printed
-    requires { ⌜ (length (now kept) ≡ keptLength) × (count ≤ keptLength) × (now masks ≡ order 10) × (length (now codes) ≡ 7168) × (at + lineRoom ≤ length (now out)) ⌝ }
-    ensures { λ r. ⌜ Took (now (kept .entry)) count last (byte ∷ []) (now (out .entry)) at 1 (r .count) (r .last) (r .next) (now (kept .exit)) (now (out .exit)) ⌝ }
+    requires { ⌜ (length (now kept) ≡ keptLength) × (count ≤ keptLength) × (now masks ≡ order 10) × (length (now codes) ≡ 7168)
+        × (at + lineRoom ≤ length (now out)) ⌝ }
+    ensures { λ r. ⌜ Took (now (kept .entry)) count last (byte ∷ []) (now (out .entry)) at 1 (r .count) (r .last) (r .next)
+        (now (kept .exit)) (now (out .exit)) ⌝ }
 {
     if byte == b'\n' {
         return sheet_line(out, at, last, &kept[..count], masks, codes);
@@ -449,8 +450,10 @@ fn feed_with(
     out: &mut [u8],
     at: usize,
 ) -> Fed
-    requires { ⌜ (length (now kept) ≡ keptLength) × («kept_count» ≤ keptLength) × (now masks ≡ order 10) × (length (now codes) ≡ 7168) × (at ≤ length (now out)) ⌝ }
-    ensures { λ r. ⌜ Feeds (now (kept .entry)) «kept_count» «last_route» (now (piece .entry)) (now (out .entry)) at r (now (kept .exit)) (now (out .exit)) ⌝ }
+    requires { ⌜ (length (now kept) ≡ keptLength) × («kept_count» ≤ keptLength) × (now masks ≡ order 10) × (length (now codes) ≡ 7168)
+        × (at ≤ length (now out)) ⌝ }
+    ensures { λ r. ⌜ Feeds (now (kept .entry)) «kept_count» «last_route» (now (piece .entry)) (now (out .entry)) at r
+        (now (kept .exit)) (now (out .exit)) ⌝ }
 {
     let mut used = 0;
     let mut count = kept_count;
@@ -489,7 +492,8 @@ pub fn feed(
     at: usize,
 ) -> Fed
     requires { ⌜ (length (now kept) ≡ keptLength) × («kept_count» ≤ keptLength) × (at ≤ length (now out)) ⌝ }
-    ensures { λ r. ⌜ Feeds (now (kept .entry)) «kept_count» «last_route» (now (piece .entry)) (now (out .entry)) at r (now (kept .exit)) (now (out .exit)) ⌝ }
+    ensures { λ r. ⌜ Feeds (now (kept .entry)) «kept_count» «last_route» (now (piece .entry)) (now (out .entry)) at r
+        (now (kept .exit)) (now (out .exit)) ⌝ }
 {
     let mut masks = [0u16; 1024];
     order::fill_order(10, &mut masks);
@@ -515,7 +519,8 @@ fn finish_with(
     out: &mut [u8],
     at: usize,
 ) -> usize
-    requires { ⌜ (count ≤ length (now kept)) × (now masks ≡ order 10) × (length (now codes) ≡ 7168) × (at + lineRoom ≤ length (now out)) ⌝ }
+    requires { ⌜ (count ≤ length (now kept)) × (now masks ≡ order 10) × (length (now codes) ≡ 7168)
+        × (at + lineRoom ≤ length (now out)) ⌝ }
     ensures { λ r. ⌜ Put (now (out .entry)) at (printsLast (carried last count (now (kept .entry)))) r (now (out .exit)) ⌝ }
 {
     if count == 0 {

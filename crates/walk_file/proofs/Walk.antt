@@ -5,10 +5,10 @@ use mathlib.Core.List.{List, [], _∷_}
 use Prim.Native.Nat.{ℕ, _≤_, _<_}
 use lib.ListN.{length}
 use borrow.Author.Tests.{le-leb, lt-leb}
-use Rattle.tables.specs.Answered.{accepted}
+use Rattle.tables.specs.Answered.{Reply, accepted, Answered, answered}
 use Rattle.calls.specs.declared.Walked.{Walked}
 use Rattle.calls.specs.declared.Walked.the-variants.{Count, Refused}
-use Rattle.calls.specs.Walk.{walkReply, walked}
+use Rattle.calls.specs.Walk.{walkReply, walkCall, walked}
 use Rattle.printing.specs.Print.{unreadableLine, refusedLine, replyLine}
 use Rattle.walk_file.specs.Walk.{walkPrinted}
 
@@ -17,11 +17,14 @@ module _ (volume : List ℕ) where
   unfolding walkPrinted
   walk-long h = rw (lt-leb (length volume) 65536 h)
 
-  module _ (h : length volume ≤ 65536) {r : Walked} (e : walked r ≡ walkReply volume 0) where
+  module _ (h : length volume ≤ 65536) {r : Walked} (e : answered (walked r) [] ≡ walkCall volume 0) where
+    given : walked r ≡ walkReply volume 0
+    given = ap (λ (a : Answered Reply). a .gives) e
+
     pub walk-count : {count : ℕ} → r ≡ Count count → replyLine (accepted (count ∷ [])) ≡ walkPrinted volume
     unfolding walkPrinted
-    walk-count er = rw (le-leb (length volume) 65536 h) (ap replyLine (ap walked (sym er) ∙ e))
+    walk-count er = rw (le-leb (length volume) 65536 h) (ap replyLine (ap walked (sym er) ∙ given))
 
     pub walk-refused : {number passed : ℕ} → r ≡ Refused number passed → refusedLine number (passed ∷ []) ≡ walkPrinted volume
     unfolding walkPrinted replyLine
-    walk-refused er = rw (le-leb (length volume) 65536 h) (ap replyLine (ap walked (sym er) ∙ e))
+    walk-refused er = rw (le-leb (length volume) 65536 h) (ap replyLine (ap walked (sym er) ∙ given))

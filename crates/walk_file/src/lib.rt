@@ -1,9 +1,9 @@
 // What `walk` prints for a file. What is printed is worked out by `loaded_line`, on slices; the rest only reads and writes.
 // A file that cannot be opened or read is `unreadable`, and standard error says why. Left to a reader, since no contract speaks of what the
 // C library reads or writes: that the bytes in the room are those of the file (`streams::read_some`), and that the line reaches the output.
+use calls::Walked;
 use libc::STDOUT_FILENO;
 use streams::Got;
-use calls::Walked;
 ghost use mathlib.Core.Path.{_≡_};
 ghost use Prim.Native.Nat.{_-_, _≤_};
 ghost use lib.ListN.{length, take};

@@ -19,10 +19,24 @@ same-length-2 : tie.Need-same-length-2
 same-length-2 c = search needs
 
 returns : tie.Need-returns
-returns c = answers-refused _ _ _ _ _ _ _ ((c .before .before .before .before .before .before .before .line-refusal) .ensures .0) ((c .before .before .before .before .if1) .taken) ((c .before .before .put-refused) .ensures)
+returns c =
+    let after-if1 = c .before .before .before .before in
+    let after-line-refusal = after-if1 .before .before .before in
+    answers-refused _ _ _ _ _ _ _ (after-line-refusal .line-refusal .ensures .0) (after-if1 .if1 .taken)
+    ((c .before .before .put-refused) .ensures)
 
 put-entry-requires : tie.Need-put-entry-requires
-put-entry-requires c κs = ((c .before .before .before .before .before .before .before .before .before .before .before .before .before .pre) .0, route-passes _ _ _ _ _ (sym ((c .before .before .before .before .before .before .line-refusal) .ensures .0) ∙ (c .before .before .before .if1) .left), text-values _ _ ((c .before .before .before .before .before .before .before .before .before .before .before .before .before .args) .text .now) ((c .before .before .before .before .before .before .line-refusal) .ensures .1 ((c .before .before .before .if1) .left)), (c .before .before .before .before .before .before .before .before .before .before .before .before .before .pre) .2, (c .before .before .before .before .before .before .before .before .before .before .before .before .before .pre) .3, (c .before .before .before .before .before .before .before .before .before .before .before .before .before .pre) .4)
+put-entry-requires c κs =
+    let after-if1 = c .before .before .before in
+    let after-line-refusal = after-if1 .before .before .before in
+    let start = after-line-refusal .before .before .before .before .before .before .before in (
+      start .pre .0,
+      route-passes _ _ _ _ _ (sym (after-line-refusal .line-refusal .ensures .0) ∙ after-if1 .if1 .left),
+      text-values _ _ (start .args .text .now) (after-line-refusal .line-refusal .ensures .1 (after-if1 .if1 .left)),
+      start .pre .2,
+      start .pre .3,
+      start .pre .4,
+    )
 
 same-length-3 : tie.Need-same-length-3
 same-length-3 c = search needs
@@ -34,7 +48,14 @@ same-length-5 : tie.Need-same-length-5
 same-length-5 c = search needs
 
 returns-2 : tie.Need-returns-2
-returns-2 c = answers-done _ _ _ _ _ _ _ ((c .before .before .before .before .before .before .before .before .before .before .before .before .before .line-refusal) .ensures .0) ((c .before .before .before .before .before .before .before .before .before .before .if1) .left) (text-table _ _ ((c .before .before .before .before .before .before .before .before .before .before .before .before .before .before .before .before .before .before .before .before .args) .text .now) ((c .before .before .before .before .before .before .before .before .before .before .before .before .before .line-refusal) .ensures .1 ((c .before .before .before .before .before .before .before .before .before .before .if1) .left))) ((c .before .before .before .before .before .before .put-entry) .ensures)
+returns-2 c =
+    let after-put-entry = c .before .before .before .before .before .before in
+    let after-if1 = after-put-entry .before .before .before .before in
+    let after-line-refusal = after-if1 .before .before .before in
+    let start = after-line-refusal .before .before .before .before .before .before .before in
+    answers-done _ _ _ _ _ _ _ (after-line-refusal .line-refusal .ensures .0) (after-if1 .if1 .left)
+    (text-table _ _ (start .args .text .now) (after-line-refusal .line-refusal .ensures .1 (after-if1 .if1 .left)))
+    (after-put-entry .put-entry .ensures)
 
 pub answer-fitting-spec : {M : Type 1} → statement M
 answer-fitting-spec =

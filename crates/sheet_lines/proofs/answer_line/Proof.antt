@@ -1,63 +1,65 @@
 -- Question 1, and room for the values. Assumes nothing.
-use mathlib.Core.Path.{sym, _∙_}
+use mathlib.Core.Path.{_≡_, sym, _∙_}
+use mathlib.Core.Bool.{true}
 use native.Mathlib.Omega.{arith}
 use borrow.Author.Needs.{needs}
 use lib.Seq.{length-take-le}
+use Rattle.tables.specs.Questions.{lettersFit}
 use Rattle.tables.proofs.Questions.{passed, letters-small}
 use Rattle.words.proofs.Letters.{count-small}
 use Rattle.sheet_lines.proofs.Refusals.{refused-letters, answers-refused}
 use Rattle.sheet_lines.proofs.answer_line.Statement.{statement}
 use Rattle.sheet_lines.proofs.answer_line.Tie as tie
 
-letters-fit-requires : tie.Need-letters-fit-requires
-letters-fit-requires c κs = search needs
-
-put-refused-requires : tie.Need-put-refused-requires
-put-refused-requires c κs = search needs
-
-same-length : tie.Need-same-length
-same-length c = search needs
-
 returns : tie.Need-returns
-returns c = answers-refused _ _ _ _ _ _ _ (refused-letters _ _ _ _ ((c .before .before .before .before .before .before .before .before .before .before .args) .text .now) ((c .before .before .before .before .before .letters-fit) .ensures) ((c .before .before .before .before .if1) .taken)) (λ z. omega arith) ((c .before .before .put-refused) .ensures)
+returns c =
+    let told = c .before .before .before in
+    let asked = told .before .before in
+    let start = asked .before .before .before .before .before .before in
+    let refused = refused-letters _ _ _ _ (start .args .text .now) (asked .before .letters-fit .ensures) (asked .if1 .taken)
+    (told .number .ensures) in
+    answers-refused _ _ _ _ _ _ _ refused (λ z. omega (arith, told .number .ensures)) (c .before .before .put-refused .ensures)
 
-add-word-count : tie.Need-add-word-count
-add-word-count c = omega (arith, letters-small _ _ (passed ((c .before .letters-fit) .ensures) ((c .if1) .left)))
+-- question 1 is passed
+letters : (c : tie.Else1)
+    → lettersFit (c .before .before .before .before .before .before .args .u) (c .before .before .before .before .before .before .args .g)
+    ≡ true
+letters c = passed (c .before .letters-fit .ensures) (c .if1 .left)
 
-word-count-requires : tie.Need-word-count-requires
-word-count-requires c κs = letters-small _ _ (passed ((c .before .letters-fit) .ensures) ((c .if1) .left))
+values-room : tie.Need-array-borrow-prefix-values
+values-room c = count-small _ _ (c .before .word-count .ensures) (letters-small _ _ (letters (c .before .before)))
 
-array-borrow-prefix-values : tie.Need-array-borrow-prefix-values
-array-borrow-prefix-values c = count-small _ _ ((c .before .word-count) .ensures) (letters-small _ _ (passed ((c .before .before .before .letters-fit) .ensures) ((c .before .before .if1) .left)))
-
-slice-aggregate-answer-fitting : tie.Need-slice-aggregate-answer-fitting
-slice-aggregate-answer-fitting c = sym (length-take-le _ _ (count-small _ _ ((c .before .before .word-count) .ensures) (letters-small _ _ (passed ((c .before .before .before .before .letters-fit) .ensures) ((c .before .before .before .if1) .left)))))
+values-part : tie.Need-slice-aggregate-answer-fitting
+values-part c =
+    let counted = c .before .before in
+    sym (length-take-le _ _ (count-small _ _ (counted .word-count .ensures) (letters-small _ _ (letters (counted .before)))))
 
 answer-fitting-requires : tie.Need-answer-fitting-requires
-answer-fitting-requires c κs = (passed ((c .before .before .before .before .before .letters-fit) .ensures) ((c .before .before .before .before .if1) .left), length-take-le _ _ (count-small _ _ ((c .before .before .before .word-count) .ensures) (letters-small _ _ (passed ((c .before .before .before .before .before .letters-fit) .ensures) ((c .before .before .before .before .if1) .left)))) ∙ (c .before .before .before .word-count) .ensures, (c .before .before .before .before .before .before .before .before .before .before .pre) .0, (c .before .before .before .before .before .before .before .before .before .before .pre) .1, (c .before .before .before .before .before .before .before .before .before .before .pre) .2)
-
-same-length-2 : tie.Need-same-length-2
-same-length-2 c = search needs
-
-same-length-3 : tie.Need-same-length-3
-same-length-3 c = search needs
-
-returns-2 : tie.Need-returns-2
-returns-2 c = search needs
+answer-fitting-requires c κs =
+    let counted = c .before .before .before in
+    let fit = letters (counted .before) in
+    let start = counted .before .before .before .before .before .before .before in (
+      fit,
+      length-take-le _ _ (count-small _ _ (counted .word-count .ensures) (letters-small _ _ fit)) ∙ counted .word-count .ensures,
+      start .pre .0,
+      start .pre .1,
+      start .pre .2,
+    )
 
 pub answer-line-spec : {M : Type 1} → statement M
 answer-line-spec =
     tie.close
     (tie.spec
-    letters-fit-requires
-    put-refused-requires
-    same-length
+    (λ c κs. search needs)
+    (λ c κs. search needs)
+    (λ c κs. search needs)
+    (λ c. search needs)
     returns
-    add-word-count
-    word-count-requires
-    array-borrow-prefix-values
-    slice-aggregate-answer-fitting
+    (λ c. omega (arith, letters-small _ _ (letters c)))
+    (λ c κs. letters-small _ _ (letters c))
+    values-room
+    values-part
     answer-fitting-requires
-    same-length-2
-    same-length-3
-    returns-2)
+    (λ c. search needs)
+    (λ c. search needs)
+    (λ c. search needs))

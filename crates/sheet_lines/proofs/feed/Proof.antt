@@ -17,7 +17,15 @@ slice-aggregate-feed-with-2 : tie.Need-slice-aggregate-feed-with-2
 slice-aggregate-feed-with-2 c = search needs
 
 feed-with-requires : tie.Need-feed-with-requires
-feed-with-requires c κs = ((c .before .before .before .before .before .before .before .before .before .before .pre) .0, (c .before .before .before .before .before .before .before .before .before .before .pre) .1, filled-order 10 _ ((c .before .before .before .before .before .fill-order) .kept .1 .0) ((c .before .before .before .before .before .fill-order) .ensures), search needs, (c .before .before .before .before .before .before .before .before .before .before .pre) .2)
+feed-with-requires c κs =
+    let after-fill-order = c .before .before .before .before .before in
+    let start = after-fill-order .before .before .before .before .before in (
+      start .pre .0,
+      start .pre .1,
+      filled-order 10 _ (after-fill-order .fill-order .kept .1 .0) (after-fill-order .fill-order .ensures),
+      search needs,
+      start .pre .2,
+    )
 
 same-length : tie.Need-same-length
 same-length c = search needs

@@ -1,4 +1,5 @@
--- The invariant: the bytes passed did what `Took` says, and the rest of the output is where it was. The measure is what is left of the piece.
+-- The invariant: the bytes passed did what `Took` says, and the rest of the output is where it was. The measure is what is left of the
+-- piece.
 -- Assumes nothing.
 use mathlib.Core.Path.{_≡_, refl, _∙_}
 use Prim.Native.Nat.{_-_}
@@ -13,10 +14,12 @@ use Rattle.sheet_lines.proofs.feed_with.Tie as tie
 
 abbrev Inv-loop : tie.InvT-loop
 Inv-loop piece kept₀ kept-count last-route masks codes₀ out₀ at used₀ count₀ last₀ next₀ kept codes out used count last next =
-    (length kept ≡ length kept₀) × (length out ≡ length out₀) × (length codes ≡ length codes₀) × Took kept₀ kept-count last-route piece out₀ at used count last next kept out
+    (length kept ≡ length kept₀) × (length out ≡ length out₀) × (length codes ≡ length codes₀)
+    × Took kept₀ kept-count last-route piece out₀ at used count last next kept out
 
 abbrev μ-loop : tie.MeasureT-loop
-μ-loop piece kept₀ kept-count last-route masks codes₀ out₀ at used₀ count₀ last₀ next₀ kept codes out used count last next = length piece - used
+μ-loop piece kept₀ kept-count last-route masks codes₀ out₀ at used₀ count₀ last₀ next₀ kept codes out used count last next =
+    length piece - used
 
 loop-holds : tie.Need-loop-holds Inv-loop μ-loop
 loop-holds c = (refl, refl, refl, took-none _ _ _ _ _ _ (omega arith) (omega arith))
@@ -34,13 +37,25 @@ same-length-3 : tie.Need-same-length-3 Inv-loop μ-loop
 same-length-3 c = search needs
 
 returns : tie.Need-returns Inv-loop μ-loop
-returns c = record { took = (c .before .before .loop) .inv .3; stops = λ h. omega (arith, (c .before .before .loop) .inv .3 .prints .inside) }
+returns c = record {
+  took = (c .before .before .loop) .inv .3;
+  stops = λ h. omega (arith, (c .before .before .loop) .inv .3 .prints .inside);
+}
 
 shared-slice-read-take-byte : tie.Need-shared-slice-read-take-byte Inv-loop μ-loop
 shared-slice-read-take-byte c = search needs
 
 take-byte-requires : tie.Need-take-byte-requires Inv-loop μ-loop
-take-byte-requires c κs = ((c .before .before .before .before .before .before .loop) .inv .0 ∙ (c .before .before .before .before .before .before .before .before .before .before .before .before .pre) .0, (c .before .before .before .before .before .before .loop) .inv .3 .few, (c .before .before .before .before .before .before .before .before .before .before .before .before .pre) .2, (c .before .before .before .before .before .before .loop) .inv .2 ∙ (c .before .before .before .before .before .before .before .before .before .before .before .before .pre) .3, omega (arith, (c .before .before .before .before .before .before .loop) .inv .3 .prints .inside))
+take-byte-requires c κs =
+    let turn = c .before .before .before .before .before .before in
+    let start = turn .before .before .before .before .before .before in (
+      turn .loop .inv .0 ∙ start .pre .0,
+      turn .loop .inv .3 .few,
+      start .pre .2,
+      turn .loop .inv .2
+          ∙ start .pre .3,
+      omega (arith, turn .loop .inv .3 .prints .inside),
+    )
 
 add-used : tie.Need-add-used Inv-loop μ-loop
 add-used c = search needs
@@ -49,7 +64,16 @@ loop-less : tie.Need-loop-less Inv-loop μ-loop
 loop-less c = search needs
 
 loop-again : tie.Need-loop-again Inv-loop μ-loop
-loop-again c = ((c .before .before .before .before .before .before .take-byte) .ensures .same ∙ (c .before .before .before .before .before .before .before .before .before .before .before .before .before .loop) .inv .0, put-length ((c .before .before .before .before .before .before .take-byte) .ensures .prints) ∙ (c .before .before .before .before .before .before .before .before .before .before .before .before .before .loop) .inv .1, search needs, took-more _ _ _ _ _ _ ((c .before .before .before .before .before .before .before .before .before .before .before .before .loop-test) .taken) ((c .before .before .before .before .before .before .before .before .before .before .before .before .before .loop) .inv .3) ((c .before .before .before .before .before .before .take-byte) .ensures))
+loop-again c =
+    let after-take-byte = c .before .before .before .before .before .before in
+    let after-loop-test = after-take-byte .before .before .before .before .before .before in
+    let turn = after-loop-test .before in (
+      after-take-byte .take-byte .ensures .same ∙ turn .loop .inv .0,
+      put-length (after-take-byte .take-byte .ensures .prints)
+          ∙ turn .loop .inv .1,
+      search needs,
+      took-more _ _ _ _ _ _ (after-loop-test .loop-test .taken) (turn .loop .inv .3) (after-take-byte .take-byte .ensures),
+    )
 
 same-length-4 : tie.Need-same-length-4 Inv-loop μ-loop
 same-length-4 c = search needs

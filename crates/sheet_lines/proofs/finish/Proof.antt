@@ -17,7 +17,14 @@ slice-aggregate-finish-with-2 : tie.Need-slice-aggregate-finish-with-2
 slice-aggregate-finish-with-2 c = search needs
 
 finish-with-requires : tie.Need-finish-with-requires
-finish-with-requires c κs = ((c .before .before .before .before .before .before .before .before .pre) .0, filled-order 10 _ ((c .before .before .before .before .fill-order) .kept .1 .0) ((c .before .before .before .before .fill-order) .ensures), search needs, (c .before .before .before .before .before .before .before .before .pre) .1)
+finish-with-requires c κs =
+    let after-fill-order = c .before .before .before .before in
+    let start = after-fill-order .before .before .before .before in (
+      start .pre .0,
+      filled-order 10 _ (after-fill-order .fill-order .kept .1 .0) (after-fill-order .fill-order .ensures),
+      search needs,
+      start .pre .1,
+    )
 
 same-length : tie.Need-same-length
 same-length c = search needs

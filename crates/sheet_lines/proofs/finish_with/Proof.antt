@@ -23,7 +23,10 @@ same-length-2 : tie.Need-same-length-2
 same-length-2 c = search needs
 
 returns-2 : tie.Need-returns-2
-returns-2 c = last-line _ _ _ _ _ ((c .before .before .before .before .before .before .before .before .if1) .left) (omega arith) ((c .before .before .before .before .sheet-line) .ensures)
+returns-2 c =
+    let after-sheet-line = c .before .before .before .before in
+    let after-if1 = after-sheet-line .before .before .before .before in
+    last-line _ _ _ _ _ (after-if1 .if1 .left) (omega arith) (after-sheet-line .sheet-line .ensures)
 
 pub finish-with-spec : {M : Type 1} → statement M
 finish-with-spec =

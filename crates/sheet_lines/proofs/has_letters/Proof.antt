@@ -23,4 +23,5 @@ has-letters-spec =
     (λ c.
     let fourth = c .before .before .before .before in
     let second = fourth .before .before in
-    letters-third _ (second .before .before .before .if2 .left) (second .before .is-digit .ensures) (second .if3 .left) (fourth .if4 .left) (c .before .before .is-digit2 .ensures) (c .before .if5 .left)))
+    letters-third _ (second .before .before .before .if2 .left) (second .before .is-digit .ensures) (second .if3 .left) (fourth .if4 .left)
+    (c .before .before .is-digit2 .ensures) (c .before .if5 .left)))

@@ -22,13 +22,31 @@ add-if1 : tie.Need-add-if1
 add-if1 c = omega (arith, letters-small _ _ ((c .before .before .before .before .before .pre) .0))
 
 array-borrow-prefix-coefficients : tie.Need-array-borrow-prefix-coefficients
-array-borrow-prefix-coefficients c = count-small _ _ ((c .before .before .before .word-count) .ensures) (letters-small _ _ ((c .before .before .before .before .before .before .before .before .pre) .0))
+array-borrow-prefix-coefficients c =
+    let after-word-count = c .before .before .before in
+    let start = after-word-count .before .before .before .before .before in
+    count-small _ _ (after-word-count .word-count .ensures) (letters-small _ _ (start .pre .0))
 
 slice-aggregate-put-values : tie.Need-slice-aggregate-put-values
-slice-aggregate-put-values c = sym (length-take-le _ _ (count-small _ _ ((c .before .before .before .before .word-count) .ensures) (letters-small _ _ ((c .before .before .before .before .before .before .before .before .before .pre) .0))))
+slice-aggregate-put-values c =
+    let after-word-count = c .before .before .before .before in
+    let start = after-word-count .before .before .before .before .before in
+    sym (length-take-le _ _ (count-small _ _ (after-word-count .word-count .ensures) (letters-small _ _ (start .pre .0))))
 
 put-values-requires : tie.Need-put-values-requires
-put-values-requires c κs = ((c .before .before .before .before .before .before .before .before .before .before .pre) .0, (c .before .before .before .before .before .before .before .before .before .before .pre) .1, (c .before .before .before .before .before .before .before .before .before .before .pre) .2, length-take-le _ _ (count-small _ _ ((c .before .before .before .before .before .word-count) .ensures) (letters-small _ _ ((c .before .before .before .before .before .before .before .before .before .before .pre) .0))) ∙ (c .before .before .before .before .before .word-count) .ensures, (c .before .before .before .before .before .before .before .before .before .before .pre) .3 ∙ ap order (sym ((c .before .before .before .before .if1) .taken)), (c .before .before .before .before .before .before .before .before .before .before .pre) .4, (c .before .before .before .before .before .before .before .before .before .before .pre) .5)
+put-values-requires c κs =
+    let after-if1 = c .before .before .before .before in
+    let after-word-count = after-if1 .before in
+    let start = after-word-count .before .before .before .before .before in (
+      start .pre .0,
+      start .pre .1,
+      start .pre .2,
+      length-take-le _ _ (count-small _ _ (after-word-count .word-count .ensures) (letters-small _ _ (start .pre .0)))
+          ∙ after-word-count .word-count .ensures,
+      start .pre .3 ∙ ap order (sym (after-if1 .if1 .taken)),
+      start .pre .4,
+      start .pre .5,
+    )
 
 same-length : tie.Need-same-length
 same-length c = search needs
@@ -49,28 +67,63 @@ pow2-requires : tie.Need-pow2-requires
 pow2-requires c κs = letters-small _ _ ((c .before .before .before .before .before .before .pre) .0)
 
 add-skip-large : tie.Need-add-skip-large
-add-skip-large c = omega (arith, letters-small _ _ ((c .before .before .before .before .before .before .before .pre) .0))
+add-skip-large c =
+    let start = c .before .before .before .before .before .before .before in
+    omega (arith, letters-small _ _ (start .pre .0))
 
 slice-aggregate-skip-large : tie.Need-slice-aggregate-skip-large
 slice-aggregate-skip-large c = search needs
 
 skip-large-requires : tie.Need-skip-large-requires
-skip-large-requires c κs = (letters-small _ _ ((c .before .before .before .before .before .before .before .before .pre) .0), (c .before .before .before .before .before .before .before .before .pre) .3, search needs)
+skip-large-requires c κs =
+    let start = c .before .before .before .before .before .before .before .before in
+    (letters-small _ _ (start .pre .0), start .pre .3, search needs)
 
 array-borrow-prefix-coefficients-2 : tie.Need-array-borrow-prefix-coefficients-2
-array-borrow-prefix-coefficients-2 c = count-small _ _ ((c .before .before .before .before .before .before .before .word-count) .ensures) (letters-small _ _ ((c .before .before .before .before .before .before .before .before .before .before .before .before .pre) .0))
+array-borrow-prefix-coefficients-2 c =
+    let after-word-count = c .before .before .before .before .before .before .before in
+    let start = after-word-count .before .before .before .before .before in
+    count-small _ _ (after-word-count .word-count .ensures) (letters-small _ _ (start .pre .0))
 
 slice-aggregate-put-values-2 : tie.Need-slice-aggregate-put-values-2
-slice-aggregate-put-values-2 c = sym (length-take-le _ _ (count-small _ _ ((c .before .before .before .before .before .before .before .before .word-count) .ensures) (letters-small _ _ ((c .before .before .before .before .before .before .before .before .before .before .before .before .before .pre) .0))))
+slice-aggregate-put-values-2 c =
+    let after-word-count = c .before .before .before .before .before .before .before .before in
+    let start = after-word-count .before .before .before .before .before in
+    sym (length-take-le _ _ (count-small _ _ (after-word-count .word-count .ensures) (letters-small _ _ (start .pre .0))))
 
 array-share-prefix-few : tie.Need-array-share-prefix-few
-array-share-prefix-few c = masks-room ((c .before .before .before .before .before .before .before .before .before .before .before .before .before .args) .unknowns + (c .before .before .before .before .before .before .before .before .before .before .before .before .before .args) .givens) ((c .before .before .before .before .skip-large) .last .1 .1 .0) ((c .before .before .before .before .before .before .pow2) .ensures) (letters-small _ _ ((c .before .before .before .before .before .before .before .before .before .before .before .before .before .pre) .0)) ((c .before .before .before .before .skip-large) .kept .1 .1 .0)
+array-share-prefix-few c =
+    let after-skip-large = c .before .before .before .before in
+    let after-pow2 = after-skip-large .before .before in
+    let start = after-pow2 .before .before .before .before .before .before .before in
+    masks-room (start .args .u + start .args .g) (after-skip-large .skip-large .last .1 .1 .0) (after-pow2 .pow2 .ensures)
+    (letters-small _ _ (start .pre .0)) (after-skip-large .skip-large .kept .1 .1 .0)
 
 slice-aggregate-put-values-3 : tie.Need-slice-aggregate-put-values-3
-slice-aggregate-put-values-3 c = sym (length-take-le _ _ (masks-room ((c .before .before .before .before .before .before .before .before .before .before .before .before .before .before .args) .unknowns + (c .before .before .before .before .before .before .before .before .before .before .before .before .before .before .args) .givens) ((c .before .before .before .before .before .skip-large) .last .1 .1 .0) ((c .before .before .before .before .before .before .before .pow2) .ensures) (letters-small _ _ ((c .before .before .before .before .before .before .before .before .before .before .before .before .before .before .pre) .0)) ((c .before .before .before .before .before .skip-large) .kept .1 .1 .0)))
+slice-aggregate-put-values-3 c =
+    let after-skip-large = c .before .before .before .before .before in
+    let after-pow2 = after-skip-large .before .before in
+    let start = after-pow2 .before .before .before .before .before .before .before in
+    sym (length-take-le _ _
+    (masks-room (start .args .u + start .args .g) (after-skip-large .skip-large .last .1 .1 .0) (after-pow2 .pow2 .ensures)
+    (letters-small _ _ (start .pre .0)) (after-skip-large .skip-large .kept .1 .1 .0)))
 
 put-values-requires-2 : tie.Need-put-values-requires-2
-put-values-requires-2 c κs = ((c .before .before .before .before .before .before .before .before .before .before .before .before .before .before .before .pre) .0, (c .before .before .before .before .before .before .before .before .before .before .before .before .before .before .before .pre) .1, (c .before .before .before .before .before .before .before .before .before .before .before .before .before .before .before .pre) .2, length-take-le _ _ (count-small _ _ ((c .before .before .before .before .before .before .before .before .before .before .word-count) .ensures) (letters-small _ _ ((c .before .before .before .before .before .before .before .before .before .before .before .before .before .before .before .pre) .0))) ∙ (c .before .before .before .before .before .before .before .before .before .before .word-count) .ensures, few-are ((c .before .before .before .before .before .before .before .before .before .before .before .before .before .before .before .args) .unknowns + (c .before .before .before .before .before .before .before .before .before .before .before .before .before .before .before .args) .givens) ((c .before .before .before .before .before .before .skip-large) .last .1 .1 .0) ((c .before .before .before .before .before .before .before .before .pow2) .ensures) ((c .before .before .before .before .before .before .skip-large) .ensures), (c .before .before .before .before .before .before .before .before .before .before .before .before .before .before .before .pre) .4, (c .before .before .before .before .before .before .before .before .before .before .before .before .before .before .before .pre) .5)
+put-values-requires-2 c κs =
+    let after-skip-large = c .before .before .before .before .before .before in
+    let after-pow2 = after-skip-large .before .before in
+    let after-word-count = after-pow2 .before .before in
+    let start = after-word-count .before .before .before .before .before in (
+      start .pre .0,
+      start .pre .1,
+      start .pre .2,
+      length-take-le _ _ (count-small _ _ (after-word-count .word-count .ensures) (letters-small _ _ (start .pre .0)))
+          ∙ after-word-count .word-count .ensures,
+      few-are (start .args .u + start .args .g) (after-skip-large .skip-large .last .1 .1 .0) (after-pow2 .pow2 .ensures)
+          (after-skip-large .skip-large .ensures),
+      start .pre .4,
+      start .pre .5,
+    )
 
 same-length-4 : tie.Need-same-length-4
 same-length-4 c = search needs

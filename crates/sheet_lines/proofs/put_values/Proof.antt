@@ -11,13 +11,27 @@ add-transform : tie.Need-add-transform
 add-transform c = omega (arith, letters-small _ _ ((c .before .before .before .before .before .pre) .0))
 
 transform-requires : tie.Need-transform-requires
-transform-requires c κs = (letters-small _ _ ((c .before .before .before .before .before .before .before .pre) .0), values-size ((c .before .before .before .before .before .before .before .args) .unknowns + (c .before .before .before .before .before .before .before .args) .givens) ((c .before .before .before .before .before .before .before .pre) .2), (c .before .before .before .before .before .before .before .pre) .3)
+transform-requires c κs =
+    let start = c .before .before .before .before .before .before .before in
+    (letters-small _ _ (start .pre .0), values-size (start .args .u + start .args .g) (start .pre .2), start .pre .3)
 
 list-entry-requires : tie.Need-list-entry-requires
-list-entry-requires c κs = (listable ((c .before .before .before .before .before .before .before .before .before .before .before .before .before .pre) .0) ((c .before .before .before .before .before .transform) .ensures) ((c .before .before .before .before .before .before .before .before .before .before .before .before .before .pre) .2) ((c .before .before .before .before .before .before .before .before .before .before .before .before .before .pre) .4), omega (arith, (c .before .before .before .before .before .before .before .before .before .before .before .before .before .pre) .5))
+list-entry-requires c κs =
+    let after-transform = c .before .before .before .before .before in
+    let start = after-transform .before .before .before .before .before .before .before .before in
+    (listable (start .pre .0) (after-transform .transform .ensures) (start .pre .2) (start .pre .4), omega (arith, start .pre .5))
 
 put-found-requires : tie.Need-put-found-requires
-put-found-requires c κs = (route-small _ ((c .before .before .before .before .before .before .before .before .before .before .before .before .before .before .before .before .before .before .before .before .pre) .1), omega (arith, unknowns-small _ _ ((c .before .before .before .before .before .before .before .before .before .before .before .before .before .before .before .before .before .before .before .before .pre) .0)), omega (arith, givens-small _ _ ((c .before .before .before .before .before .before .before .before .before .before .before .before .before .before .before .before .before .before .before .before .pre) .0)), (c .before .before .before .before .before .before .list-entry) .ensures .count, archived-room _ _ _ _ ((c .before .before .before .before .before .before .list-entry) .ensures) _ _ ((c .before .before .before .before .before .before .before .before .before .before .before .before .before .before .before .before .before .before .before .before .pre) .0) ((c .before .before .before .before .before .before .before .before .before .before .before .before .before .before .before .before .before .before .before .before .pre) .6))
+put-found-requires c κs =
+    let after-list-entry = c .before .before .before .before .before .before in
+    let start = after-list-entry .before .before .before .before .before .before .before .before .before .before .before .before .before
+    .before in (
+      route-small _ (start .pre .1),
+      omega (arith, unknowns-small _ _ (start .pre .0)),
+      omega (arith, givens-small _ _ (start .pre .0)),
+      after-list-entry .list-entry .ensures .count,
+      archived-room _ _ _ _ (after-list-entry .list-entry .ensures) _ _ (start .pre .0) (start .pre .6),
+    )
 
 same-length : tie.Need-same-length
 same-length c = search needs
@@ -32,7 +46,13 @@ same-length-4 : tie.Need-same-length-4
 same-length-4 c = search needs
 
 returns : tie.Need-returns
-returns c = archived-put _ _ _ _ ((c .before .before .before .before .before .before .before .before .before .list-entry) .ensures) (same-table ((c .before .before .before .before .before .before .before .before .before .before .before .before .before .before .before .before .before .before .before .before .before .before .before .args) .unknowns + (c .before .before .before .before .before .before .before .before .before .before .before .before .before .before .before .before .before .before .before .before .before .before .before .args) .givens) ((c .before .before .before .before .before .before .before .before .before .before .before .before .before .before .before .before .before .before .before .before .before .before .before .args) .values .now) ((c .before .before .before .before .before .before .before .before .before .before .before .before .before .before .before .transform) .ensures)) ((c .before .before .put-found) .ensures)
+returns c =
+    let after-list-entry = c .before .before .before .before .before .before .before .before .before in
+    let after-transform = after-list-entry .before .before .before .before .before .before in
+    let start = after-transform .before .before .before .before .before .before .before .before in
+    archived-put _ _ _ _ (after-list-entry .list-entry .ensures)
+    (same-table (start .args .u + start .args .g) (start .args .values .now) (after-transform .transform .ensures))
+    ((c .before .before .put-found) .ensures)
 
 pub put-values-spec : {M : Type 1} → statement M
 put-values-spec =

@@ -18,7 +18,12 @@ read-line-spec =
     (λ c. search read-no)
     (λ c κs. search needs)
     (λ c. sym (length-take-le _ _ (omega (arith, fits c))))
-    (λ c κs. omega (arith, fits c, length-take-le (c .before .digits-ahead .result) (c .before .before .before .before .before .args .line .now) (omega (arith, fits c))))
+    (λ c κs. omega (
+      arith,
+      fits c,
+      length-take-le (c .before .digits-ahead .result) (c .before .before .before .before .before .args .line .now)
+          (omega (arith, fits c)),
+    ))
     (λ c. search needs)
     (λ c. omega (arith, fits (c .before .before)))
     (λ c κs. search needs)

@@ -26,7 +26,10 @@ same-length-3 : tie.Need-same-length-3
 same-length-3 c = search needs
 
 returns : tie.Need-returns
-returns c = took-line _ _ _ _ _ _ ((c .before .before .before .before .before .before .before .before .if1) .taken) (omega arith) ((c .before .before .before .before .sheet-line) .ensures)
+returns c =
+    let after-sheet-line = c .before .before .before .before in
+    let after-if1 = after-sheet-line .before .before .before .before in
+    took-line _ _ _ _ _ _ (after-if1 .if1 .taken) (omega arith) (after-sheet-line .sheet-line .ensures)
 
 slice-write-kept : tie.Need-slice-write-kept
 slice-write-kept c = search needs

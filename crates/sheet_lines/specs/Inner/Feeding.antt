@@ -9,6 +9,7 @@ use Rattle.ring.specs.Table.{table}
 use Rattle.tables.specs.Inner.Put.{Put}
 use Rattle.words.specs.Words.{wordsOf, bitAt}
 use Rattle.grammar.specs.Text.{textTable}
+use Rattle.solution.specs.Condition.{conditionOf}
 use Rattle.entry.specs.Entry.{archivedRecords}
 use Rattle.sheet_lines.specs.declared.Printed.{Printed}
 use Rattle.sheet_lines.specs.declared.Fed.{Fed}
@@ -30,7 +31,8 @@ IsValues n values = values ≡ wordsOf (2 ^ (n - 6)) (value n (value n (bitAt va
 -- what a readable line prints
 pub record Answers (last route U G : ℕ) (text out : List ℕ) (at : ℕ) (r : Printed) (out′ : List ℕ) : Type 0 where
   pub last-is : r .last ≡ routeBehind (lineRefusal last route U G text) last route
-  pub put : Put out at (answerLines (lineRefusal last route U G text) (archivedRecords route U G (textTable U G text))) (r .next) out′
+  pub put : Put out at (answerLines (lineRefusal last route U G text) (archivedRecords route (conditionOf U G (textTable U G text))))
+      (r .next) out′
   pub none-kept : r .count ≡ 0
 
 -- what a line prints from the place `at` of the output on, and the last route behind it

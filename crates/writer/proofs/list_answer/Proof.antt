@@ -17,13 +17,26 @@ mul-list-values : tie.Need-mul-list-values
 mul-list-values c = search needs
 
 array-borrow-prefix-own : tie.Need-array-borrow-prefix-own
-array-borrow-prefix-own c = count-small _ _ ((c .before .word-count) .ensures) ((c .before .before .before .before .before .pre) .1)
+array-borrow-prefix-own c =
+    let start = c .before .before .before .before .before in
+    count-small _ _ ((c .before .word-count) .ensures) (start .pre .1)
 
 slice-aggregate-list-values : tie.Need-slice-aggregate-list-values
-slice-aggregate-list-values c = sym (length-take-le _ _ (count-small _ _ ((c .before .before .word-count) .ensures) ((c .before .before .before .before .before .before .pre) .1)))
+slice-aggregate-list-values c =
+    let start = c .before .before .before .before .before .before in
+    sym (length-take-le _ _ (count-small _ _ ((c .before .before .word-count) .ensures) (start .pre .1)))
 
 list-values-requires : tie.Need-list-values-requires
-list-values-requires c κs = ((c .before .before .before .before .before .before .pre) .1, omega (arith, (c .before .before .before .before .before .before .pre) .0), (c .before .before .before .before .before .before .pre) .2, (c .before .before .before .before .before .before .pre) .3, (c .before .before .before .before .before .before .pre) .4, length-take-le _ _ (count-small _ _ ((c .before .before .word-count) .ensures) ((c .before .before .before .before .before .before .pre) .1)) ∙ (c .before .before .word-count) .ensures)
+list-values-requires c κs =
+    let start = c .before .before .before .before .before .before in (
+      start .pre .1,
+      omega (arith, start .pre .0),
+      start .pre .2,
+      start .pre .3,
+      start .pre .4,
+      length-take-le _ _ (count-small _ _ ((c .before .before .word-count) .ensures) (start .pre .1))
+          ∙ (c .before .before .word-count) .ensures,
+    )
 
 same-length : tie.Need-same-length
 same-length c = search needs

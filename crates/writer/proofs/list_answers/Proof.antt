@@ -21,13 +21,19 @@ loop-holds : tie.Need-loop-holds Inv-loop μ-loop
 loop-holds c = answering-start _ _ _ _ _ ((c .before .before .before .before .pre) .4)
 
 mul-start : tie.Need-mul-start Inv-loop μ-loop
-mul-start c = omega (arith, part-fits _ _ _ _ _ ((c .before .before .word-count) .ensures) ((c .loop-test) .taken) ((c .before .before .before .before .before .before .pre) .2))
+mul-start c =
+    let start = c .before .before .before .before .before .before in
+    omega (arith, part-fits _ _ _ _ _ ((c .before .before .word-count) .ensures) (c .loop-test .taken) (start .pre .2))
 
 add-end : tie.Need-add-end Inv-loop μ-loop
-add-end c = omega (arith, part-fits _ _ _ _ _ ((c .before .before .word-count) .ensures) ((c .loop-test) .taken) ((c .before .before .before .before .before .before .pre) .2))
+add-end c =
+    let start = c .before .before .before .before .before .before in
+    omega (arith, part-fits _ _ _ _ _ ((c .before .before .word-count) .ensures) (c .loop-test .taken) (start .pre .2))
 
 mul-list-answer : tie.Need-mul-list-answer Inv-loop μ-loop
-mul-list-answer c = omega (arith, part-fits _ _ _ _ _ ((c .before .before .word-count) .ensures) ((c .loop-test) .taken) ((c .before .before .before .before .before .before .pre) .2))
+mul-list-answer c =
+    let start = c .before .before .before .before .before .before in
+    omega (arith, part-fits _ _ _ _ _ ((c .before .before .word-count) .ensures) (c .loop-test .taken) (start .pre .2))
 
 sub-list-answer : tie.Need-sub-list-answer Inv-loop μ-loop
 sub-list-answer c = search needs
@@ -36,10 +42,22 @@ part-list-answer-start : tie.Need-part-list-answer-start Inv-loop μ-loop
 part-list-answer-start c = omega arith
 
 part-list-answer-end : tie.Need-part-list-answer-end Inv-loop μ-loop
-part-list-answer-end c = part-fits _ _ _ _ _ ((c .before .before .word-count) .ensures) ((c .loop-test) .taken) ((c .before .before .before .before .before .before .pre) .2)
+part-list-answer-end c =
+    let start = c .before .before .before .before .before .before in
+    part-fits _ _ _ _ _ ((c .before .before .word-count) .ensures) (c .loop-test .taken) (start .pre .2)
 
 list-answer-requires : tie.Need-list-answer-requires Inv-loop μ-loop
-list-answer-requires c κs = (omega (arith, (c .before .before .before .before .before .before .before .before .pre) .0, (c .before .before .loop-test) .taken), (c .before .before .before .before .before .before .before .before .pre) .1, part-length _ _ _ (part-fits _ _ _ _ _ ((c .before .before .before .before .word-count) .ensures) ((c .before .before .loop-test) .taken) ((c .before .before .before .before .before .before .before .before .pre) .2)) ∙ (c .before .before .before .before .word-count) .ensures, (c .before .before .before .before .before .before .before .before .pre) .3, answer-room ((c .before .before .before .loop) .inv) ((c .before .before .loop-test) .taken))
+list-answer-requires c κs =
+    let turn = c .before .before .before in
+    let after-word-count = turn .before in
+    let start = after-word-count .before .before .before .before in (
+      omega (arith, start .pre .0, (c .before .before .loop-test) .taken),
+      start .pre .1,
+      part-length _ _ _ (part-fits _ _ _ _ _ (after-word-count .word-count .ensures) ((c .before .before .loop-test) .taken)
+          (start .pre .2)) ∙ after-word-count .word-count .ensures,
+      start .pre .3,
+      answer-room (turn .loop .inv) ((c .before .before .loop-test) .taken),
+    )
 
 add-j : tie.Need-add-j Inv-loop μ-loop
 add-j c = search needs
@@ -48,7 +66,12 @@ loop-less : tie.Need-loop-less Inv-loop μ-loop
 loop-less c = search needs
 
 loop-again : tie.Need-loop-again Inv-loop μ-loop
-loop-again c = answering-more ((c .before .before .before .before .before .before .loop) .inv) ((c .before .before .before .before .before .loop-test) .taken) ((c .before .before .before .before .before .before .before .word-count) .ensures) ((c .before .before .list-answer) .ensures)
+loop-again c =
+    let after-loop-test = c .before .before .before .before .before in
+    let turn = after-loop-test .before in
+    let after-word-count = turn .before in
+    answering-more (turn .loop .inv) (after-loop-test .loop-test .taken) (after-word-count .word-count .ensures)
+    ((c .before .before .list-answer) .ensures)
 
 same-length : tie.Need-same-length Inv-loop μ-loop
 same-length c = (c .before .loop) .inv .list .long

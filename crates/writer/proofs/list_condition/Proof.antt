@@ -1,4 +1,5 @@
--- The first masks of the buffer are those of the written order. The buffer has 1,024 of them, too long for a search to look into, so that the
+-- The first masks of the buffer are those of the written order. The buffer has 1,024 of them, too long for a search to look into, so that
+-- the
 -- answers name what they stand on. Assumes nothing.
 use borrow.Author.Needs.{needs}
 use Prim.Native.Nat.{_+_}
@@ -40,14 +41,16 @@ order-room c =
     let filled = c .before .before .before in
     let powered = filled .before .before in
     let start = powered .before .before .before .before in
-    masks-room (start .args .u + start .args .g) (filled .fill-order .last .1 .0) (powered .pow2 .ensures) (start .pre .0 .letters) (filled .fill-order .kept .1 .0)
+    masks-room (start .args .u + start .args .g) (filled .fill-order .last .1 .0) (powered .pow2 .ensures) (start .pre .0 .letters)
+    (filled .fill-order .kept .1 .0)
 
 order-part : tie.Need-slice-aggregate-list-table-3
 order-part c =
     let filled = c .before .before .before .before in
     let powered = filled .before .before in
     let start = powered .before .before .before .before in
-    masks-part (start .args .u + start .args .g) (filled .fill-order .last .1 .0) (powered .pow2 .ensures) (start .pre .0 .letters) (filled .fill-order .kept .1 .0)
+    masks-part (start .args .u + start .args .g) (filled .fill-order .last .1 .0) (powered .pow2 .ensures) (start .pre .0 .letters)
+    (filled .fill-order .kept .1 .0)
 
 list-table-requires : tie.Need-list-table-requires
 list-table-requires c κs =

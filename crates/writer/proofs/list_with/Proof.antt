@@ -26,7 +26,8 @@ returns c =
     let listed = solved .before .before .before .before .before in
     let start = listed .before .before .before .before .before .before .before .before in
     lists-solved _ _ (start .args .coefficients .now) (start .pre .0 .values-are) (start .pre .2) _ _ (solved .solve-values .ensures)
-    (start .pre .0 .letters) (listed .list-monomials .ensures) ((answers .before .before .before .enum-told) .given .1) (answers .list-answers .ensures)
+    (start .pre .0 .letters) (listed .list-monomials .ensures) ((answers .before .before .before .enum-told) .given .1)
+    (answers .list-answers .ensures)
 
 returns-2 : tie.Need-returns-2
 returns-2 c =
