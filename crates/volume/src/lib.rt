@@ -42,7 +42,7 @@ fn audit_at(volume: &[u8], at: usize, before: u8) -> Read
             }
             Read::Entry(heading, verdict)
         }
-        Read::Refused(number) => Read::Refused(number),
+        Read::Refused(found) => Read::Refused(found),
     }
 }
 
@@ -60,8 +60,8 @@ fn walk_at(volume: &[u8], place: usize) -> Walked
                 passed += 1;
                 at += heading.used;
             }
-            Read::Refused(number) => {
-                return Walked::Refused(number, passed);
+            Read::Refused(found) => {
+                return Walked::Refused(found, passed);
             }
         }
     }

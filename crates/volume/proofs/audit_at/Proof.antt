@@ -19,8 +19,9 @@ answer c =
 
 returns : tie.Need-returns
 returns c =
-    let told = c .before .before .before in
-    refused-rising _ _ _ (answer (told .before .before)) (told .heading .given .1) (c .number .ensures) (failed (c .before .route-rises .ensures) (c .if1 .taken))
+    let told = c .before .before .before .before in
+    refused-rising _ _ _ (answer (told .before .before)) (told .heading .given .1) (c .number .ensures)
+    (failed (c .before .before .route-rises .ensures) (c .before .if1 .taken))
 
 returns-2 : tie.Need-returns-2
 returns-2 c =
@@ -28,7 +29,7 @@ returns-2 c =
     passed-all _ _ _ (answer (told .before .before)) (told .heading .given .1) (passed (c .before .route-rises .ensures) (c .if1 .left))
 
 returns-3 : tie.Need-returns-3
-returns-3 c = let told = c .before in refused-first _ _ _ (answer (told .before .before)) (told .number .given .1)
+returns-3 c = let told = c .before in refused-first _ _ _ (answer (told .before .before)) (told .found .given .1)
 
 pub audit-at-spec : {M : Type 1} → statement M
 audit-at-spec =
@@ -39,6 +40,7 @@ audit-at-spec =
     (λ c. search needs)
     (λ c κs. search needs)
     (λ c. search needs)
+    (λ c κs. search needs)
     (λ c κs. search needs)
     returns
     (λ c. search needs)

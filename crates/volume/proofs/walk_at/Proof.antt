@@ -49,7 +49,7 @@ returns c =
     let told = c .before in
     let turn = told .before .before .before in
     let l : turn .before .loop .at < length (turn .before .before .before .args .volume .now) = omega arith in
-    walk-refused _ _ _ _ _ (turn .before .loop .inv .2) l _ (told .before .before .audit-at .ensures) (told .number .given .1)
+    walk-refused _ _ _ _ _ (turn .before .loop .inv .2) l _ (told .before .before .audit-at .ensures) (told .found .given .1)
 
 pub walk-at-spec : {M : Type 1} → statement M
 walk-at-spec =
