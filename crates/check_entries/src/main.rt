@@ -25,7 +25,9 @@ fn show_heading(h: Heading) {
 
 fn show_verdict(verdict: Verdict) {
     match verdict {
-        Verdict::Solved => io::write_all(STDOUT_FILENO, b"solved"),
+        Verdict::Solved => {
+            io::write_all(STDOUT_FILENO, b"solved");
+        }
         Verdict::None(state) => cases::show_number(b"none", state.0),
     }
 }
