@@ -106,7 +106,7 @@ module _ (route : ℕ) (c : Condition) (behind : List ℕ) (a : Archivable route
       ≡ answered (accepted (route ∷ c .U ∷ c .G ∷ length (entry route c) ∷ stateOf (solve c))) []
   entry-passes =
       sym (call-done-none (auditQuestions (records (entry route c ++ behind)))
-          (readValues (records (entry route c ++ behind))) entry-audited)
+      (readValues (records (entry route c ++ behind))) entry-audited)
       ∙ ap (λ (values : List ℕ). answered (accepted values) []) (values-back (entry route c ++ behind) (reads-back route c behind a))
 
 -- both ways in one: the audit passes some bytes, and gives these values, exactly if they begin with such an entry

@@ -54,9 +54,10 @@ module _ (route U G : ℕ) (condition : List ℕ) (room : ℕ) where
   yes-write w = (w .letters, (w .of-route, (w .long, (w .bits, (le-leb _ _ (w .output), tt)))))
 
   pub written-exactly : (firstNo (writeQuestions route U G condition room) ≡ 0) ↔ Writable route U G condition room
-  written-exactly =
-      (λ z. write-yes (each-yes (writeQuestions route U G condition room) z),
-          λ w. none-no (writeQuestions route U G condition room) (yes-write w))
+  written-exactly = (
+    λ z. write-yes (each-yes (writeQuestions route U G condition room) z),
+    λ w. none-no (writeQuestions route U G condition room) (yes-write w),
+  )
 
   -- what can be written has an entry
   pub writable-archivable : Writable route U G condition room → Archivable route (lentCondition U G condition)
@@ -129,8 +130,10 @@ module _ (rs : List Record) where
   pub audit-exactly : (firstNo (auditQuestions rs) ≡ 0) ↔ (Passes rs × (answersHold rs ≡ true))
   unfolding auditQuestions
   audit-exactly = (
-    λ z. (passes-exactly .0 (asked-before (entryQuestions rs) _ z),
-        each-yes (asks Afresh (answersHold rs) ∷ []) (asked-behind (entryQuestions rs) _ z) .0),
+    λ z. (
+      passes-exactly .0 (asked-before (entryQuestions rs) _ z),
+      each-yes (asks Afresh (answersHold rs) ∷ []) (asked-behind (entryQuestions rs) _ z) .0,
+    ),
     λ y. then-further (entryQuestions rs) _ (passes-exactly .1 (y .0)) ∙ none-no (asks Afresh (answersHold rs) ∷ []) (y .1, tt),
   )
 
@@ -140,7 +143,9 @@ module _ (rs : List Record) where
         ↔ ((firstNo (auditQuestions rs) ≡ 0) × (routeRises before (routeOf rs) ≡ true))
     unfolding walkQuestions
     walk-exactly = (
-      λ z. (asked-before (auditQuestions rs) _ z,
-          each-yes (asks Rising (routeRises before (routeOf rs)) ∷ []) (asked-behind (auditQuestions rs) _ z) .0),
+      λ z. (
+        asked-before (auditQuestions rs) _ z,
+        each-yes (asks Rising (routeRises before (routeOf rs)) ∷ []) (asked-behind (auditQuestions rs) _ z) .0,
+      ),
       λ y. then-further (auditQuestions rs) _ (y .0) ∙ none-no (asks Rising (routeRises before (routeOf rs)) ∷ []) (y .1, tt),
     )

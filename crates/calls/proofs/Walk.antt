@@ -53,6 +53,6 @@ walk-on before passed [] h = absurd (not-suc-le-zero h)
 walk-on before passed (b ∷ bs) h =
     same-onwards (walkRefusal before (b ∷ bs)) passed _ _
     (λ z. enough (length bs) (length (drop (length (bytes (records (b ∷ bs)))) (b ∷ bs))) (routeOf (records (b ∷ bs))) (suc passed)
-        (drop (length (bytes (records (b ∷ bs)))) (b ∷ bs))
+    (drop (length (bytes (records (b ∷ bs)))) (b ∷ bs))
     (omega (arith, passed-some before (records (b ∷ bs)) z, length-drop (length (bytes (records (b ∷ bs)))) (b ∷ bs)))
     (omega arith))
