@@ -14,6 +14,7 @@ use calls::{Call, CALLS};
 use inputs::{letters_of, Inputs, Kind};
 use plot::{plot, Series};
 use report::{Machine, Report, Row};
+use std::hint::black_box;
 use std::ops::RangeInclusive;
 use std::path::{Path, PathBuf};
 use std::process::Command;
@@ -63,7 +64,10 @@ fn main() {
 }
 
 fn rows(inputs: &Inputs) -> Vec<Row> {
-    let row = |&Call { name, measure }: &Call| Row { name, times: measure(inputs, TEN_LETTERS) };
+    let row = |&Call { name, measure }: &Call| Row {
+        name,
+        times: measure(black_box(inputs), TEN_LETTERS),
+    };
     CALLS.iter().map(row).collect()
 }
 
@@ -71,7 +75,7 @@ fn by_letters(name: &str, words: &'static str) -> Series {
     let call = CALLS.iter().find(|call| call.name == name).expect("a call of the list");
     let time = |count| {
         let inputs = Inputs::new(letters_of(count), Kind::Typical);
-        (call.measure)(&inputs, FEWER_LETTERS)
+        (call.measure)(black_box(&inputs), FEWER_LETTERS)
     };
     Series { name: words, points: NUMBERS_OF_LETTERS.map(time).collect() }
 }

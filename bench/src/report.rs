@@ -102,10 +102,15 @@ At ten letters on typical inputs:
         };
         let mut names = [named("typical", &self.typical), named("dense", &self.dense)].concat();
         names.extend((!self.sheet.net.is_quiet()).then(|| "the whole sheet".to_string()));
+        for series in &self.by_letters {
+            let points = self.numbers_of_letters.clone().zip(&series.points);
+            let restless = points.filter(|(_, point)| !point.is_quiet());
+            names.extend(restless.map(|(count, _)| format!("{} at {count} letters", series.name)));
+        }
         match names.is_empty() {
             true => String::new(),
             false => format!(
-                "\nBest and median differ by more than a fifth, after six tries, in: {}.\n",
+                "\nThe machine was not quiet: best and median differ by more than a fifth, after six tries, in: {}.\n",
                 names.join(", ")
             ),
         }
@@ -119,9 +124,9 @@ At ten letters on typical inputs:
 - **Engine**: the archive of the proved library, called through the safe wrapper in `bindings/rust`, all thirteen calls; for the whole sheet the program `target/bin/sheet`.
 - **Plain Rust**: `reference/src/plain`, safe Rust from its standard library alone, which does the same job and asks the same questions, built with link-time optimisation in one unit. Two forms share all methods: on **bytes**, one byte a value, by the usual step per letter; and on **words**, 64 values to a word.
 - **Techniques of all three**: values and back by the usual step per letter, with literal widths; a text decoded once, without unpredictable branches, and worked out at all points at once; question 8 as one union of all bytes; elimination that keeps the values before each unknown goes, and puts later answers in one letter at a time from the last on; records looked at in one pass for all questions.
-- **Of plain Rust alone**: tables whose length the compiler knows; a letter multiplied in where it stands; the masks present sorted by their number of letters, so that sparse tables are quick, and the numbers of letters and the digits of a mask from tables; on bytes, polynomials put in by looking values up point by point. **Of the engine alone**: the masks present are listed without a branch out of the written order, each mask of which it works out from counts of letters, as the paper has it; tried in plain Rust too, and slower there than sorting (about 1.4 and 1.3 of a line's time).
+- **Of plain Rust alone**: tables whose length the compiler knows, so that it holds them in registers; a letter, negated or not, multiplied in where it stands without a branch, each `!` being counted onto the sign behind it; the masks present counted by their number of letters, eight masks at a time out of a table, so that each record goes straight to its place in the output, which needs no copy, and sparse tables are quick; the numbers of letters and the digits of a mask from tables; a sheet read line by line and printed in pieces that stay in the cache; on bytes, polynomials put in by looking values up point by point. **Of the engine alone**: the masks present are listed without a branch out of the written order, each mask of which it works out from counts of letters, as the paper has it. Tried in plain Rust and slower there: that listing, the masks taken out one number of letters after another, and eight masks at a time listed out of a table.
 - All are optimised builds for plain x86-64, on one thread. Tests hold plain Rust against the paper's own definitions; here all results and lent bytes are compared on every input before it is timed.
-- **Inputs** come from a fixed seed, eight for each call. Typical: texts of 180 to 200 bytes as a designer writes them, products of a few letters joined by `|` and `+`, and the conditions that such texts are read into. Dense: texts of 199 bytes that are letters and signs in turn, and conditions with every second monomial present. All conditions have a solution, so that solving finds answers; a walk goes over a volume of eight entries.
+- **Inputs** come from a fixed seed, eight for each call, over and over, so that the processor learns the way that they take; the sheet's lines come once in a process. Typical: texts of 180 to 200 bytes as a designer writes them, products of a few letters joined by `|` and `+`, and the conditions that such texts are read into. Dense: texts of 199 bytes that are letters and signs in turn, and conditions with every second monomial present. All conditions have a solution, so that solving finds answers; a walk goes over a volume of eight entries.
 - **Buffers are not cleared first**: no call needs it, and each writes over what the call before it left.
 - {rounds} rounds after a warm-up; in a round each side calls for {} ms, and the side that goes first changes. 'Best' and 'median' are of the rounds, for one call, in processor time of the thread. A ratio is the median of the rounds' ratios: all sides of a round follow one another, so that a change of the processor's speed falls on all. Where best and median differ by more than a fifth the machine was not quiet, and the row is measured again, six times at most.
 ",
@@ -154,7 +159,7 @@ Dense inputs:
         format!(
             "## The whole sheet
 
-{ROUTES} typical conditions over ten letters (U from 4 to 6), routes 1 to {ROUTES}, {input_bytes} bytes in, {output_bytes} bytes out, the same from all programs; {} are solved, {nones} are 'none'. Each program runs as a process of its own, in turns, its output to `/dev/null`; the time is user and system time, 'net' is less that of a run on no lines. Net, at best, a line takes the engine {:.1} µs, plain Rust on bytes {:.1} µs, on words {:.1} µs.
+{ROUTES} typical conditions over ten letters (U from 4 to 6), routes 1 to {ROUTES}, {input_bytes} bytes in, {output_bytes} bytes out, the same from all programs; {} are solved, {nones} are 'none'. Each program runs as a process of its own, in turns, its output to `/dev/null`; the time is user and system time, 'net' is less that of runs on no lines in the same round, best less best and median less median. Net, at best, a line takes the engine {:.1} µs, plain Rust on bytes {:.1} µs, on words {:.1} µs.
 
 {}{}{}",
             ROUTES - nones,

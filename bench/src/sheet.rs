@@ -48,26 +48,25 @@ pub fn compare_sheets(programs: &[PathBuf; SIDES]) -> Sheet {
     let outputs = programs.each_ref().map(|program| output_of(program, &path));
     assert!(outputs.iter().all(|output| *output == outputs[0]), "the programs print the same");
     let nowhere = Path::new("/dev/null");
-    let mut whole = None;
-    let net = quietly(|| {
+    let measure = || {
         let mut runs = [const { Vec::new() }; SIDES];
-        let mut net = [const { Vec::new() }; SIDES];
+        let mut starts = [const { Vec::new() }; SIDES];
         for round in 0..ROUNDS {
             for turn in 0..SIDES {
                 let side = (round + turn) % SIDES;
-                let time = time_of(&programs[side], &path);
-                net[side].push(time - time_of(&programs[side], nowhere));
-                runs[side].push(time);
+                runs[side].push(time_of(&programs[side], &path));
+                starts[side].push(time_of(&programs[side], nowhere));
             }
         }
-        whole = Some(Compared::of_rounds(runs));
-        Compared::of_rounds(net)
-    });
+        let net = Compared::of_rounds_without(&runs, &starts);
+        (Compared::of_rounds(runs), net)
+    };
+    let (whole, net) = quietly(measure, |(_, net)| net);
     std::fs::remove_file(&path).expect("the sheet is there");
     let [output, ..] = outputs;
     let lines = output.split(|&byte| byte == b'\n');
     Sheet {
-        whole: whole.expect("at least one measurement"),
+        whole,
         net,
         nones: lines.filter(|line| line.starts_with(b"05")).count(),
         input_bytes: input.len(),

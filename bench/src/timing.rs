@@ -16,6 +16,12 @@ impl Times {
         Times { best: times[0], median: times[times.len() / 2] }
     }
 
+    /// What is left without other times, best without best and median without median: the best of
+    /// the differences would be that of the round whose other time was worst.
+    fn without(self, other: Times) -> Times {
+        Times { best: self.best - other.best, median: self.median - other.median }
+    }
+
     fn unrest(self) -> f64 {
         self.median / self.best
     }
@@ -51,6 +57,17 @@ impl Compared {
         Compared { times: rounds.map(Times::of), ratios }
     }
 
+    /// From the times of each side and the times that are to be taken off, round by round.
+    pub fn of_rounds_without(rounds: &[Vec<f64>; SIDES], off: &[Vec<f64>; SIDES]) -> Compared {
+        let net = std::array::from_fn(|side| {
+            rounds[side].iter().zip(&off[side]).map(|(time, off)| time - off).collect()
+        });
+        let times = std::array::from_fn(|side| {
+            Times::of(rounds[side].clone()).without(Times::of(off[side].clone()))
+        });
+        Compared { times, ..Compared::of_rounds(net) }
+    }
+
     fn unrest(&self) -> f64 {
         self.times.iter().map(|times| times.unrest()).fold(1.0, f64::max)
     }
@@ -60,15 +77,16 @@ impl Compared {
     }
 }
 
-/// Measures until the machine was quiet, and takes the quietest measurement.
-pub fn quietly(mut measure: impl FnMut() -> Compared) -> Compared {
+/// Measures until the machine was quiet by the times to be judged, and takes the quietest
+/// measurement.
+pub fn quietly<T>(mut measure: impl FnMut() -> T, judged: impl Fn(&T) -> &Compared) -> T {
     let mut found = measure();
     for _ in 1..TRIES {
-        if found.is_quiet() {
+        if judged(&found).is_quiet() {
             break;
         }
         let again = measure();
-        if again.unrest() < found.unrest() {
+        if judged(&again).unrest() < judged(&found).unrest() {
             found = again;
         }
     }
@@ -89,7 +107,7 @@ pub fn compare<I>(
     inputs: &[I],
     mut sides: [&mut dyn FnMut(&I); SIDES],
 ) -> Compared {
-    quietly(|| {
+    let measure = || {
         let mut rounds = [const { Vec::new() }; SIDES];
         let passes: Vec<usize> =
             sides.iter_mut().map(|side| passes(effort, inputs, *side)).collect();
@@ -100,7 +118,8 @@ pub fn compare<I>(
             }
         }
         Compared::of_rounds(rounds)
-    })
+    };
+    quietly(measure, |compared| compared)
 }
 
 /// The number of passes over all inputs that a round takes.

@@ -1,36 +1,36 @@
--- The six lowest letters of a word replaced, all at once. Of the 64 words that hold the value at one point each, half go with every letter:
--- once the letters from j on have chosen, word p holds the value at the point whose lower letters are those of p
--- and whose letters from j on are those that chose. At last the one word that is left holds the value at the replaced point.
+-- The six lowest letters of a word replaced, all at once. The two lowest choose among each four bits of the word, which leaves 16 words;
+-- half of them go with every further letter: once the letters from j on have chosen, word p holds the value at the point whose letters
+-- from 2 to j are those of p, and whose other letters are those that chose. At last the one word that is left holds the value at the replaced point.
 -- Assumes nothing.
 use mathlib.Core.Path.{_≡_, refl, sym, ap, ap₂, _∙_}
 use mathlib.Core.Bool.{Bool, true, false, _&&_, cond}
 use mathlib.Core.List.{List, _++_}
 use Prim.Native.Nat.{ℕ, zero, suc, _+_, _-_, _*_, _/_, _%_, _^_, _≤_, _<_}
-use native.Mathlib.Nat.{pow-suc, add-mul, one-mul, add-zero, mul-assoc, mul-comm, mul-le-mul}
+use native.Mathlib.Nat.{pow-suc, add-mul, one-mul, mul-one, add-zero, sub-zero, mul-assoc, mul-comm, mul-le-mul, mod-lt}
 use native.Mathlib.Decide.{decLt}
 use native.Mathlib.Omega.{arith}
 use lib.Arith.{digits-lt}
 use lib.Bits.{bitAnd, bitXor, and-mask}
 use lib.Dec.{eqb}
 use lib.ListN.{length, getD, set, drop}
-use lib.Pow.{pow-mono}
+use lib.Pow.{pow-mono, pow-add, pow-pos}
 use borrow.Author.Tests.{le-ltb}
 use Rattle.ring.specs.Letters.{digit, bit, pointWhere}
 use Rattle.ring.specs.Lists.{listed}
 use Rattle.ring.specs.Polynomial.{_⊕_, value, substitute}
 use Rattle.ring.specs.Table.{present, table, held, forUnknowns}
-use Rattle.ring.proofs.Bool.{xor-false}
+use Rattle.ring.proofs.Bool.{xor-false, digit-lt}
 use Rattle.ring.proofs.Lists.{getD-listed}
 use Rattle.ring.proofs.Points.{bit-pointWhere, pointWhere-lt, pointWhere-cong, same-letters, bit-none}
 use Rattle.ring.proofs.Substitute.{value-forUnknowns}
 use Rattle.tables.proofs.Filled.{filled, filled-low, filled-high, filled-more, filled-read}
 use Rattle.words.specs.Words.{wordOf, wordsOf, bitAt, answerWords}
-use Rattle.words.proofs.Bits.{bit-in, bit-over, shr-bit}
+use Rattle.words.proofs.Bits.{bit-in, bit-over, shr-bit, shl-bit}
 use Rattle.words.proofs.Words.{word-cong, bit-at, at-known}
 use Rattle.words.proofs.Holds.{Holds, word-holds, and-holds, xor-holds, also-holds, holds-word, constant-holds}
 use Rattle.words.proofs.Letters.{room, points, table-back}
 use Rattle.words.proofs.Parts.{part-point, answer-at}
-use Rattle.polynomials.specs.Inner.LookUp.{chosen, putFor}
+use Rattle.polynomials.specs.Inner.LookUp.{chosen, placeOf, putFor}
 
 -- the letters from j on of the point that B makes
 pub above : (ℕ → Bool) → ℕ → ℕ
@@ -46,9 +46,9 @@ above-next B j h =
     next : (j m : ℕ) → j + suc m ≡ suc j + m
     next j m = omega arith
 
--- word p once the letters from j on have chosen
-abbrev pub level : ℕ → (ℕ → ℕ → Bool) → ℕ → ℕ → ℕ
-level v B j p = wordOf (λ i. bit v (above (λ m. B m i) j * 2 ^ j + p))
+-- word p once the two lowest letters and those from j on have chosen
+abbrev pub level : ℕ → (ℕ → ℕ → Bool) → (ℕ → ℕ) → ℕ → ℕ → ℕ
+level v B low j p = wordOf (λ i. bit v (above (λ m. B m i) j * 2 ^ j + (4 * p + low i)))
 
 pick : (v s j p : ℕ) (b : Bool)
     → (bit v (s * 2 ^ suc j + p) ⊕ (b && (bit v (s * 2 ^ suc j + p) ⊕ bit v (s * 2 ^ suc j + (p + 2 ^ j))))) ≡ bit v ((s * 2 + digit b) * 2 ^ j + p)
@@ -67,60 +67,125 @@ pick v s j p false =
     let e : s * 2 ^ suc j + p ≡ (s * 2 + 0) * 2 ^ j + p = ap (λ (x : ℕ). x + p) (ap (λ (x : ℕ). s * x) (pow-suc 2 j ∙ mul-comm (2 ^ j) 2) ∙ sym (mul-assoc s 2 (2 ^ j)) ∙ ap (λ (x : ℕ). x * 2 ^ j) (sym (add-zero (s * 2)))) in
     xor-false (bit v (s * 2 ^ suc j + p)) ∙ ap (bit v) e
 
--- every letter has still to choose
-pub level-start : (v j : ℕ) (B : ℕ → ℕ → Bool) (t : List ℕ) → j ≡ 6 → t ≡ listed 64 (λ p. wordOf (λ i. bit v p)) → (p : ℕ) → p < 2 ^ j → getD t p 0 ≡ level v B j p
+place-lt : (a b i : ℕ) → placeOf a b i < 4
+unfolding placeOf
+place-lt a b i = omega (arith, digit-lt (bit b i), digit-lt (bit a i))
+
+-- four bits of a word
+four-bit : (v q x : ℕ) → x < 4 → bit (v / 2 ^ (4 * q) % 16) x ≡ bit v (4 * q + x)
+four-bit v q x l =
+    ap (λ (y : ℕ). bit (y % 2 ^ 4) x) (sym (mul-one (v / 2 ^ (4 * q))))
+    ∙ shl-bit (v / 2 ^ (4 * q)) 0 x 4 (omega arith) l ∙ ap (bit (v / 2 ^ (4 * q))) (sub-zero x) ∙ shr-bit v (4 * q) x
+
+-- the two lowest letters have chosen
+pub level-start : (v j a b : ℕ) (B : ℕ → ℕ → Bool) (s t : List ℕ) → j ≡ 6 → s ≡ listed 16 (λ x. wordOf (λ i. bit x (placeOf a b i)))
+    → t ≡ listed 16 (λ q. getD s (v / 2 ^ (4 * q) % 16) 0) → (p : ℕ) → p < 2 ^ (j - 2) → getD t p 0 ≡ level v B (placeOf a b) j p
 unfolding above pointWhere
-level-start v j B t ej e p l =
-    let m : p < 64 = rw ej at l in
-    ap (λ (t : List ℕ). getD t p 0) e ∙ getD-listed 64 _ p 0 m ∙ rw ej (word-cong _ _ (λ i _. ap (bit v) (flat p)))
+level-start v j a b B s t ej es et p l =
+    let m : p < 16 = rw ej at l in
+    let x : ℕ = v / 2 ^ (4 * p) % 16 in
+    let lx : x < 16 = mod-lt (v / 2 ^ (4 * p)) (pow-pos 4) in
+    ap (λ (t : List ℕ). getD t p 0) et ∙ getD-listed 16 _ p 0 m
+    ∙ ap (λ (s : List ℕ). getD s x 0) es ∙ getD-listed 16 _ x 0 lx
+    ∙ rw ej (word-cong _ _ (λ i _. four-bit v p (placeOf a b i) (place-lt a b i) ∙ ap (bit v) (flat (4 * p + placeOf a b i))))
   where
     flat : (p : ℕ) → p ≡ 0 * 64 + p
     flat p = omega arith
 
 -- letter j - 1 chooses
-pub level-next : (v j b half : ℕ) (B : ℕ → ℕ → Bool) (t t′ : List ℕ) → 0 < j → j ≤ 6 → half ≡ 2 ^ (j - 1) → Holds b (B (j - 1))
-    → ((p : ℕ) → p < 2 ^ j → getD t p 0 ≡ level v B j p) → t′ ≡ listed half (λ p. chosen b (getD t p 0) (getD t (p + half) 0)) ++ drop half t
-    → (p : ℕ) → p < 2 ^ (j - 1) → getD t′ p 0 ≡ level v B (j - 1) p
+pub level-next : (v j b half : ℕ) (B : ℕ → ℕ → Bool) (low : ℕ → ℕ) (t t′ : List ℕ) → 2 < j → j ≤ 6 → half ≡ 2 ^ (j - 1 - 2) → Holds b (B (j - 1))
+    → ((p : ℕ) → p < 2 ^ (j - 2) → getD t p 0 ≡ level v B low j p) → t′ ≡ listed half (λ p. chosen b (getD t p 0) (getD t (p + half) 0)) ++ drop half t
+    → (p : ℕ) → p < 2 ^ (j - 1 - 2) → getD t′ p 0 ≡ level v B low (j - 1) p
 unfolding filled chosen
-level-next v j b half B t t′ h l eh hb inv e p m =
-    let s : j ≡ suc (j - 1) = omega arith in
-    let d : 2 ^ j ≡ 2 ^ (j - 1) * 2 = ap (λ (x : ℕ). 2 ^ x) s ∙ pow-suc 2 (j - 1) in
-    let hx : Holds (getD t p 0) (λ i. bit v (above (λ m. B m i) j * 2 ^ j + p)) = word-holds _ _ (inv p (omega arith)) in
-    let hy : Holds (getD t (p + half) 0) (λ i. bit v (above (λ m. B m i) j * 2 ^ j + (p + half))) = word-holds _ _ (inv (p + half) (omega arith)) in
+level-next v j b half B low t t′ h l eh hb inv e p m =
+    let s : j - 2 ≡ suc (j - 1 - 2) = omega arith in
+    let d : 2 ^ (j - 2) ≡ 2 ^ (j - 1 - 2) * 2 = ap (λ (x : ℕ). 2 ^ x) s ∙ pow-suc 2 (j - 1 - 2) in
+    let hx : Holds (getD t p 0) (λ i. bit v (above (λ m. B m i) j * 2 ^ j + (4 * p + low i))) = word-holds _ _ (inv p (omega arith)) in
+    let hy : Holds (getD t (p + half) 0) (λ i. bit v (above (λ m. B m i) j * 2 ^ j + (4 * (p + half) + low i))) = word-holds _ _ (inv (p + half) (omega arith)) in
     ap (λ (t : List ℕ). getD t p 0) e ∙ filled-low half (λ p. chosen b (getD t p 0) (getD t (p + half) 0)) t p (omega arith)
     ∙ holds-word _ _ (also-holds (xor-holds hx (and-holds hb (xor-holds hx hy))) (λ i _. at i))
   where
-    at : (i : ℕ) → (bit v (above (λ m. B m i) j * 2 ^ j + p) ⊕ (B (j - 1) i && (bit v (above (λ m. B m i) j * 2 ^ j + p) ⊕ bit v (above (λ m. B m i) j * 2 ^ j + (p + half)))))
-        ≡ bit v (above (λ m. B m i) (j - 1) * 2 ^ (j - 1) + p)
+    at : (i : ℕ)
+        → (bit v (above (λ m. B m i) j * 2 ^ j + (4 * p + low i))
+        ⊕ (B (j - 1) i && (bit v (above (λ m. B m i) j * 2 ^ j + (4 * p + low i)) ⊕ bit v (above (λ m. B m i) j * 2 ^ j + (4 * (p + half) + low i)))))
+        ≡ bit v (above (λ m. B m i) (j - 1) * 2 ^ (j - 1) + (4 * p + low i))
     at i =
         let s : j ≡ suc (j - 1) = omega arith in
-        ap₂ (λ (x y : ℕ). bit v (above (λ m. B m i) x * 2 ^ x + p) ⊕ (B (j - 1) i && (bit v (above (λ m. B m i) x * 2 ^ x + p) ⊕ bit v (above (λ m. B m i) x * 2 ^ x + (p + y))))) s eh
-        ∙ pick v (above (λ m. B m i) (suc (j - 1))) (j - 1) p (B (j - 1) i)
-        ∙ ap (λ (x : ℕ). bit v (x * 2 ^ (j - 1) + p)) (sym (above-next (λ m. B m i) (j - 1) (omega arith)))
+        let r : j - 1 - 2 + 2 ≡ j - 1 = omega arith in
+        let q : 2 ^ (j - 1) ≡ half * 4 = sym (ap (λ (x : ℕ). 2 ^ x) r) ∙ pow-add 2 (j - 1 - 2) 2 ∙ ap (λ (x : ℕ). x * 4) (sym eh) in
+        let y : 4 * (p + half) + low i ≡ 4 * p + low i + 2 ^ (j - 1) = omega arith in
+        ap₂ (λ (x y : ℕ). bit v (above (λ m. B m i) x * 2 ^ x + (4 * p + low i)) ⊕ (B (j - 1) i && (bit v (above (λ m. B m i) x * 2 ^ x + (4 * p + low i)) ⊕ bit v (above (λ m. B m i) x * 2 ^ x + y)))) s y
+        ∙ pick v (above (λ m. B m i) (suc (j - 1))) (j - 1) (4 * p + low i) (B (j - 1) i)
+        ∙ ap (λ (x : ℕ). bit v (x * 2 ^ (j - 1) + (4 * p + low i))) (sym (above-next (λ m. B m i) (j - 1) (omega arith)))
 
 -- every letter has chosen
-pub level-end : (v j : ℕ) (B : ℕ → ℕ → Bool) (t : List ℕ) → j ≡ 0 → ((p : ℕ) → p < 2 ^ j → getD t p 0 ≡ level v B j p) → getD t 0 0 ≡ wordOf (λ i. bit v (pointWhere 6 (λ m. B m i)))
-unfolding above
-level-end v j B t z inv = inv 0 (rw z (omega arith)) ∙ rw z (word-cong _ _ (λ i _. ap (bit v) (flat (pointWhere 6 (λ m. B (0 + m) i)) ∙ pointWhere-cong 6 _ _ (λ m _. ap (λ (x : ℕ). B x i) (from m)))))
+pub level-end : (v j a b : ℕ) (B : ℕ → ℕ → Bool) (t : List ℕ) → j ≡ 2 → ((i : ℕ) → bit a i ≡ B 0 i) → ((i : ℕ) → bit b i ≡ B 1 i)
+    → ((p : ℕ) → p < 2 ^ (j - 2) → getD t p 0 ≡ level v B (placeOf a b) j p) → getD t 0 0 ≡ wordOf (λ i. bit v (pointWhere 6 (λ m. B m i)))
+unfolding above placeOf pointWhere
+level-end v j a b B t z ea eb inv =
+    inv 0 (rw z (omega arith)) ∙ rw z (word-cong _ _ (λ i _.
+    ap (bit v) (ap₂ (λ (x y : Bool). pointWhere 4 (λ m. B (2 + m) i) * 4 + (4 * 0 + (digit y * 2 + digit x))) (ea i) (eb i)
+    ∙ flat (pointWhere 4 (λ m. B (2 + m) i)) (digit (B 1 i)) (digit (B 0 i))
+    ∙ ap (λ (x : ℕ). (x * 2 + digit (B 1 i)) * 2 + digit (B 0 i)) (pointWhere-cong 4 _ _ (λ m _. ap (λ (x : ℕ). B x i) (from m))))))
   where
-    flat : (x : ℕ) → x * 1 + 0 ≡ x
-    flat x = omega arith
+    flat : (x y z : ℕ) → x * 4 + (4 * 0 + (y * 2 + z)) ≡ (x * 2 + y) * 2 + z
+    flat x y z = omega arith
 
-    from : (m : ℕ) → 0 + m ≡ m
+    from : (m : ℕ) → 2 + m ≡ suc (suc m)
     from m = omega arith
 
+-- the choice among four bits
+pub four-chosen : (x a b c₀ c₁ c₂ c₃ low high r : ℕ) → a < 2 ^ 64 → b < 2 ^ 64 → c₀ ≡ wordOf (λ i. bit x 0) → c₁ ≡ wordOf (λ i. bit x 1) → c₂ ≡ wordOf (λ i. bit x 2)
+    → c₃ ≡ wordOf (λ i. bit x 3) → low ≡ chosen a c₀ c₁ → high ≡ chosen a c₂ c₃ → r ≡ chosen b low high → r ≡ wordOf (λ i. bit x (placeOf a b i))
+unfolding chosen placeOf
+four-chosen x a b c₀ c₁ c₂ c₃ low high r la lb e₀ e₁ e₂ e₃ el eh er =
+    let ha : Holds a (bit a) = record { small = la; bits = λ i _. refl } in
+    let hb : Holds b (bit b) = record { small = lb; bits = λ i _. refl } in
+    let h₀ = word-holds c₀ _ e₀ in
+    let h₂ = word-holds c₂ _ e₂ in
+    let hl = xor-holds h₀ (and-holds ha (xor-holds h₀ (word-holds c₁ _ e₁))) in
+    let hh = xor-holds h₂ (and-holds ha (xor-holds h₂ (word-holds c₃ _ e₃))) in
+    er ∙ rw (el, eh) (holds-word _ _ (also-holds (xor-holds hl (and-holds hb (xor-holds hl hh))) (λ i _. go (bit a i) (bit b i))))
+  where
+    one : (c : Bool) (y z : Bool) → (y ⊕ (c && (y ⊕ z))) ≡ cond c z y
+    one true true true = refl
+    one true true false = refl
+    one true false z = refl
+    one false y z = xor-false y
+
+    go : (y z : Bool) → ((bit x 0 ⊕ (y && (bit x 0 ⊕ bit x 1))) ⊕ (z && ((bit x 0 ⊕ (y && (bit x 0 ⊕ bit x 1))) ⊕ (bit x 2 ⊕ (y && (bit x 2 ⊕ bit x 3))))))
+        ≡ bit x (digit z * 2 + digit y)
+    go y z = rw (one y (bit x 0) (bit x 1), one y (bit x 2) (bit x 3), one z (cond y (bit x 1) (bit x 0)) (cond y (bit x 3) (bit x 2))) (pair y z)
+      where
+        pair : (y z : Bool) → cond z (cond y (bit x 3) (bit x 2)) (cond y (bit x 1) (bit x 0)) ≡ bit x (digit z * 2 + digit y)
+        pair true true = refl
+        pair true false = refl
+        pair false true = refl
+        pair false false = refl
+
 -- a part's word lies within
-pub part-index : (j k w m : ℕ) → 0 < j → j ≤ 6 → w < k → m ≡ 6 * k → (j - 1) * k + w < m
+pub part-index : (j k w m : ℕ) → 2 < j → j ≤ 6 → w < k → m ≡ 6 * k → (j - 1) * k + w < m
 part-index j k w m h l hw e = let i : j - 1 < 6 = omega arith in rw e (digits-lt i hw)
 
 pub part-small : (j k : ℕ) → j ≤ 6 → k ≤ 16 → (j - 1) * k ≤ 96
 part-small j k h l = let i : j - 1 ≤ 6 = omega arith in mul-le-mul i l
 
-pub half-small : (j half : ℕ) → 0 < j → j ≤ 6 → half ≡ 2 ^ (j - 1) → half + half ≤ 64
+pub half-small : (j half : ℕ) → 2 < j → j ≤ 6 → half ≡ 2 ^ (j - 1 - 2) → half + half ≤ 16
 half-small j half h l e =
-    let i : j - 1 ≤ 5 = omega arith in
-    let b : 2 ^ (j - 1) ≤ 2 ^ 5 = pow-mono i in
+    let i : j - 1 - 2 ≤ 3 = omega arith in
+    let b : 2 ^ (j - 1 - 2) ≤ 2 ^ 3 = pow-mono i in
     omega arith
+
+-- the two lowest parts
+pub first-parts : (parts : List ℕ) (k w : ℕ)
+    → ((i : ℕ) → bit (getD parts w 0) i ≡ bit (getD parts (0 * k + w) 0) i) × ((i : ℕ) → bit (getD parts (k + w) 0) i ≡ bit (getD parts (1 * k + w) 0) i)
+first-parts parts k w = (λ i. ap (λ (x : ℕ). bit (getD parts x 0) i) (zeroth k w), λ i. ap (λ (x : ℕ). bit (getD parts x 0) i) (first k w))
+  where
+    zeroth : (k w : ℕ) → w ≡ 0 * k + w
+    zeroth k w = omega arith
+
+    first : (k w : ℕ) → k + w ≡ 1 * k + w
+    first k w = omega arith
 
 -- a bit at all points of a word
 pub point-word : (v p : ℕ) → bitAnd (v / 2 ^ p) 1 * 0xffff_ffff_ffff_ffff ≡ wordOf (λ i. bit v p)

@@ -3,14 +3,14 @@
 // and then lend slices of exactly the length that is needed. All but the sum go to values in words, and come back.
 ghost use mathlib.Core.Path.{_≡_};
 ghost use mathlib.Core.List.{_++_};
-ghost use Prim.Native.Nat.{_+_, _-_, _*_, _/_, _^_, _≤_, _<_};
+ghost use Prim.Native.Nat.{_+_, _-_, _*_, _/_, _%_, _^_, _≤_, _<_};
 ghost use lib.ListN.{length, getD, drop};
 ghost use Rattle.ring.specs.Letters.{bit, pointWhere};
 ghost use Rattle.ring.specs.Lists.{listed};
 ghost use Rattle.ring.specs.Polynomial.{sum, product, substitute};
 ghost use Rattle.ring.specs.Table.{AreBits, IsTable, present, table, held, forUnknowns};
 ghost use Rattle.words.specs.Words.{wordOf, wordsOf, bitAt, answerWords};
-ghost use Rattle.polynomials.specs.Inner.LookUp.{chosen, putFor};
+ghost use Rattle.polynomials.specs.Inner.LookUp.{chosen, placeOf, putFor};
 
 // The sum of two tables, into a third.
 pub fn add(n: usize, a: &[u8], b: &[u8], out: &mut [u8])
@@ -49,13 +49,47 @@ pub fn multiply(n: usize, a: &[u8], b: &[u8], out: &mut [u8])
     multiply_with(n, a, b, out, &mut first[..k], &mut second[..k]);
 }
 
-// The value at each point of a word, at all points of a word of its own.
-fn each_point(word: u64, t: &mut [u64])
-    requires { ⌜ length (now t) ≡ 64 ⌝ }
-    ensures { λ _. ⌜ now (t .exit) ≡ listed 64 (λ p. wordOf (λ i. bit word p)) ⌝ }
+// One bit of a word at all points.
+fn full(word: u64, p: usize) -> u64
+    requires { ⌜ p < 64 ⌝ }
+    ensures { λ r. ⌜ r ≡ wordOf (λ i. bit word p) ⌝ }
 {
-    for p in 0..64 {
-        t[p] = ((word >> p) & 1) * 0xffff_ffff_ffff_ffff;
+    ((word >> p) & 1) * 0xffff_ffff_ffff_ffff
+}
+
+// Of two words, point by point the one that b chooses.
+fn pick(b: u64, clear: u64, set: u64) -> u64
+    ensures { λ r. ⌜ r ≡ chosen b clear set ⌝ }
+{
+    clear ^ (b & (clear ^ set))
+}
+
+// Of four bits, point by point the one at the place that a and b make.
+fn four(bits: u64, a: u64, b: u64) -> u64
+    ensures { λ r. ⌜ r ≡ wordOf (λ i. bit bits (placeOf a b i)) ⌝ }
+{
+    let clear = pick(a, full(bits, 0), full(bits, 1));
+    let set = pick(a, full(bits, 2), full(bits, 3));
+    pick(b, clear, set)
+}
+
+// The same for all four bits that there are.
+fn each_four(a: u64, b: u64, s: &mut [u64])
+    requires { ⌜ length (now s) ≡ 16 ⌝ }
+    ensures { λ _. ⌜ now (s .exit) ≡ listed 16 (λ x. wordOf (λ i. bit x (placeOf a b i))) ⌝ }
+{
+    for x in 0..16 {
+        s[x] = four(x as u64, a, b);
+    }
+}
+
+// The word of each four bits of a word.
+fn take_fours(word: u64, s: &[u64], t: &mut [u64])
+    requires { ⌜ (length (now s) ≡ 16) × (length (now t) ≡ 16) ⌝ }
+    ensures { λ _. ⌜ now (t .exit) ≡ listed 16 (λ q. getD (now (s .entry)) (word / 2 ^ (4 * q) % 16) 0) ⌝ }
+{
+    for q in 0..16 {
+        t[q] = s[((word >> (4 * q)) & 15) as usize];
     }
 }
 
@@ -71,27 +105,29 @@ fn choose(t: &mut [u64], b: u64, half: usize)
 }
 
 // The word's value at each of its points after the six lowest letters have been replaced, letter j by word w of the part j.
-fn look_up_word(word: u64, parts: &[u64], k: usize, w: usize, t: &mut [u64]) -> u64
-    requires { ⌜ (length (now parts) ≡ 6 * k) × (k ≤ 16) × (w < k) × (length (now t) ≡ 64) ⌝ }
+// The two lowest at once, by what stands for each four bits, then the others from the last on.
+fn look_up_word(word: u64, parts: &[u64], k: usize, w: usize, t: &mut [u64], s: &mut [u64]) -> u64
+    requires { ⌜ (length (now parts) ≡ 6 * k) × (k ≤ 16) × (w < k) × (length (now t) ≡ 16) × (length (now s) ≡ 16) ⌝ }
     ensures { λ r. ⌜ r ≡ wordOf (λ i. bit word (pointWhere 6 (λ j. bit (getD (now (parts .entry)) (j * k + w) 0) i))) ⌝ }
 {
-    each_point(word, t);
+    each_four(parts[w], parts[k + w], s);
+    take_fours(word, s, t);
     let mut j = 6;
-    while 0 < j {
+    while 2 < j {
         j -= 1;
-        choose(t, parts[j * k + w], tables::pow2(j));
+        choose(t, parts[j * k + w], tables::pow2(j - 2));
     }
     t[0]
 }
 
 // The six lowest letters replaced by the parts, all at once.
-fn look_up(f: &mut [u64], parts: &[u64], t: &mut [u64])
-    requires { ⌜ (length (now parts) ≡ 6 * length (now f)) × (length (now f) ≤ 16) × (length (now t) ≡ 64) ⌝ }
+fn look_up(f: &mut [u64], parts: &[u64], t: &mut [u64], s: &mut [u64])
+    requires { ⌜ (length (now parts) ≡ 6 * length (now f)) × (length (now f) ≤ 16) × (length (now t) ≡ 16) × (length (now s) ≡ 16) ⌝ }
     ensures { λ _. ⌜ now (f .exit) ≡ wordsOf (length (now (f .entry))) (λ p. bitAt (now (f .entry)) (64 * (p / 64) + pointWhere 6 (λ j. bitAt (now (parts .entry)) (j * (64 * length (now (f .entry))) + p)))) ⌝ }
 {
     let k = f.len();
     for w in 0..k {
-        f[w] = look_up_word(f[w], parts, k, w, t);
+        f[w] = look_up_word(f[w], parts, k, w, t, s);
     }
 }
 
@@ -132,15 +168,16 @@ fn substitute_with(
     f: &mut [u64],
     parts: &mut [u64],
     t: &mut [u64],
+    s: &mut [u64],
 )
     requires { ⌜ (u ≤ 6) × (u + g ≤ 10) × IsTable (u + g) (now condition) × (length (now handed) ≡ u * 2 ^ (u + g)) × AreBits (now handed) × (length (now out) ≡ 2 ^ (u + g)) ⌝ }
-    requires { ⌜ (length (now f) ≡ 2 ^ (u + g - 6)) × (length (now parts) ≡ 6 * 2 ^ (u + g - 6)) × (length (now t) ≡ 64) ⌝ }
+    requires { ⌜ (length (now f) ≡ 2 ^ (u + g - 6)) × (length (now parts) ≡ 6 * 2 ^ (u + g - 6)) × (length (now t) ≡ 16) × (length (now s) ≡ 16) ⌝ }
     ensures { λ _. ⌜ now (out .exit) ≡ table (u + g) (substitute (u + g) (u + g) (present (now (condition .entry))) (forUnknowns u (held (u + g) (now (handed .entry))))) ⌝ }
 {
     let n = u + g;
     words::take_values(n, condition, f);
     take_parts(u, n, handed, parts);
-    look_up(f, parts, t);
+    look_up(f, parts, t, s);
     words::put_table(n, f, out);
 }
 
@@ -153,7 +190,8 @@ pub fn substitute(u: usize, g: usize, condition: &[u8], handed: &[u8], out: &mut
     let all = 6 * k;
     let mut f = [0u64; 16];
     let mut parts = [0u64; 96];
-    let mut t = [0u64; 64];
+    let mut t = [0u64; 16];
+    let mut s = [0u64; 16];
     substitute_with(
         u,
         g,
@@ -163,5 +201,6 @@ pub fn substitute(u: usize, g: usize, condition: &[u8], handed: &[u8], out: &mut
         &mut f[..k],
         &mut parts[..all],
         &mut t,
+        &mut s,
     );
 }

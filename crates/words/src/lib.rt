@@ -293,7 +293,7 @@ fn step_words(t: &mut [u64], j: usize, c: usize)
 }
 
 // From coefficients to values, or back, in place, of 6 + c letters: the last letter first.
-pub fn to_values(t: &mut [u64], c: usize)
+fn pass(t: &mut [u64], c: usize)
     requires { ⌜ (c ≤ 4) × (length (now t) ≡ 2 ^ c) ⌝ }
     ensures { λ _. ⌜ now (t .exit) ≡ wordsOf (2 ^ c) (value (6 + c) (bitAt (now (t .entry)))) ⌝ }
 {
@@ -303,6 +303,18 @@ pub fn to_values(t: &mut [u64], c: usize)
         step_words(t, j, c);
     }
     low_values(t);
+}
+
+// The same. Ten letters have a call of their own, so that its widths are literals.
+pub fn to_values(t: &mut [u64], c: usize)
+    requires { ⌜ (c ≤ 4) × (length (now t) ≡ 2 ^ c) ⌝ }
+    ensures { λ _. ⌜ now (t .exit) ≡ wordsOf (2 ^ c) (value (6 + c) (bitAt (now (t .entry)))) ⌝ }
+{
+    if c == 4 {
+        pass(t, 4);
+        return;
+    }
+    pass(t, c);
 }
 
 // The values of a table of coefficients, in words.

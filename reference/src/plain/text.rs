@@ -78,10 +78,10 @@ pub fn text_values<B: Block, const K: usize>(
     ask(5, seen & FOREIGN == 0)?;
     ask(6, seen & !declared == 0)?;
     let mut reader = Reader { symbols, at: 0 };
-    match reader.read_sum() {
-        Some(values) if reader.is_next(END) => Ok(values),
-        _ => Err(Refusal(7)),
-    }
+    let mut values = Table::ZERO;
+    let is_read = reader.read_sum(&mut values).is_some();
+    ask(7, is_read && reader.is_next(END))?;
+    Ok(values)
 }
 
 /// A symbol and how many `!` stand before it.
@@ -114,27 +114,30 @@ impl Reader {
         is_next
     }
 
-    fn read_sum<B: Block, const K: usize>(&mut self) -> Option<Table<B, K>> {
-        let mut sum = self.read_product()?;
+    fn read_sum<B: Block, const K: usize>(&mut self, sum: &mut Table<B, K>) -> Option<()> {
+        self.read_product(sum)?;
+        let mut product = Table::ZERO;
         loop {
             if self.skips(b'|') {
-                sum.join(&self.read_product()?);
+                self.read_product(&mut product)?;
+                sum.join(&product);
             } else if self.skips(b'+') {
-                sum.add(&self.read_product()?);
+                self.read_product(&mut product)?;
+                sum.add(&product);
             } else {
-                return Some(sum);
+                return Some(());
             }
         }
     }
 
     #[inline(always)]
-    fn read_product<B: Block, const K: usize>(&mut self) -> Option<Table<B, K>> {
-        let mut product = Table::ONE;
-        self.multiply_by_factor(&mut product)?;
+    fn read_product<B: Block, const K: usize>(&mut self, product: &mut Table<B, K>) -> Option<()> {
+        *product = Table::ONE;
+        self.multiply_by_factor(product)?;
         while self.skips(b'*') {
-            self.multiply_by_factor(&mut product)?;
+            self.multiply_by_factor(product)?;
         }
-        Some(product)
+        Some(())
     }
 
     #[inline(always)]
@@ -148,7 +151,8 @@ impl Reader {
         if let Some(operand) = B::OPERANDS.get(symbol as usize) {
             product.multiply_by(operand, is_negated);
         } else if symbol == b'(' {
-            let sum = self.read_sum::<B, K>()?;
+            let mut sum = Table::<B, K>::ZERO;
+            self.read_sum(&mut sum)?;
             product.multiply_by(&sum.0, is_negated);
             return self.skips(b')').then_some(());
         } else {

@@ -6,7 +6,7 @@ use Prim.Native.Nat.{ℕ, _≤_, _-_, _+_, _*_}
 use native.Mathlib.Omega.{arith}
 use borrow.Author.Needs.{needs}
 use lib.Bits.{and-le-r}
-use lib.ListN.{length, take, drop, length-take, length-drop}
+use lib.ListN.{length}
 use Rattle.ring.specs.Polynomial.{odd as parity, within}
 use Rattle.ring.specs.Table.{present}
 use Rattle.ring.proofs.Parity.{odd-zero}

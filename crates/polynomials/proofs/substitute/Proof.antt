@@ -30,9 +30,9 @@ slice-aggregate-substitute-with-2 c =
 
 substitute-with-requires : tie.Need-substitute-with-requires
 substitute-with-requires c κs =
-    let pre = c .before .before .before .before .before .before .before .before .pre in
-    let small = count-small _ _ (c .before .before .before .before .word-count .ensures) (c .before .before .before .before .before .before .before .before .pre .1) in
-    ((pre .0, pre .1, pre .2, pre .3, pre .4, pre .5), (length-take-le _ _ small ∙ c .before .before .before .before .word-count .ensures, length-take-le _ _ (omega (arith, small)) ∙ ap (λ (k : ℕ). 6 * k) (c .before .before .before .before .word-count .ensures), search needs))
+    let pre = (c .before .before .before .before .before .before .before .before .before .pre) in
+    let small = count-small _ _ ((c .before .before .before .before .before .word-count) .ensures) ((c .before .before .before .before .before .before .before .before .before .pre) .1) in
+    ((pre .0, pre .1, pre .2, pre .3, pre .4, pre .5), (length-take-le _ _ small ∙ (c .before .before .before .before .before .word-count) .ensures, length-take-le _ _ (omega (arith, small)) ∙ ap (λ (k : ℕ). 6 * k) ((c .before .before .before .before .before .word-count) .ensures), search needs, search needs))
 
 pub substitute-spec : {M : Type 1} → statement M
 substitute-spec =
@@ -45,6 +45,7 @@ substitute-spec =
     slice-aggregate-substitute-with
     array-borrow-prefix-parts
     slice-aggregate-substitute-with-2
+    (λ c. search needs)
     (λ c. search needs)
     substitute-with-requires
     (λ c. search needs)
