@@ -270,8 +270,9 @@ mask-below U G {m} {masks} b e =
     let h : m < masks = ltb-true m masks e in
     omega (arith, b .of-masks)
 
-pub answer-below : (U G w m : ℕ) {masks states : ℕ} {f : Bool} → Bounds U G masks states → f ≡ (ltb w U && ltb m masks) → f ≡ true → m < 1024
-answer-below U G w m {masks} b ef e = mask-below U G b (and-right (ltb w U) (ltb m masks) (sym ef ∙ e))
+pub answer-below : (U G m : ℕ) (known : Bool) {masks states : ℕ} {fits : Bool} → Bounds U G masks states → fits ≡ (known && ltb m masks) → fits ≡ true
+    → m < 1024
+answer-below U G m known {masks} b ef e = mask-below U G b (and-right known (ltb m masks) (sym ef ∙ e))
 
 pub rank-fits : (m : ℕ) {k : ℕ} → m < 1024 → k ≡ rank 10 m → k < 16384
 rank-fits m h e = rw e (rank-small m h)

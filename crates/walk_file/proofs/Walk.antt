@@ -17,14 +17,14 @@ module _ (volume : List ℕ) where
   unfolding walkPrinted
   walk-long h = rw (lt-leb (length volume) 65536 h)
 
-  module _ (h : length volume ≤ 65536) {r : Walked} (e : answered (walked r) [] ≡ walkCall volume 0) where
-    given : walked r ≡ walkReply volume 0
-    given = ap (λ (a : Answered Reply). a .gives) e
+  given : (r : Walked) → answered (walked r) [] ≡ walkCall volume 0 → walked r ≡ walkReply volume 0
+  given r e = ap (λ (a : Answered Reply). a .gives) e
 
+  module _ (h : length volume ≤ 65536) {r : Walked} (e : answered (walked r) [] ≡ walkCall volume 0) where
     pub walk-count : {count : ℕ} → r ≡ Count count → replyLine (accepted (count ∷ [])) ≡ walkPrinted volume
     unfolding walkPrinted
-    walk-count er = rw (le-leb (length volume) 65536 h) (ap replyLine (ap walked (sym er) ∙ given))
+    walk-count er = rw (le-leb (length volume) 65536 h) (ap replyLine (ap walked (sym er) ∙ given r e))
 
     pub walk-refused : {number passed : ℕ} → r ≡ Refused number passed → refusedLine number (passed ∷ []) ≡ walkPrinted volume
     unfolding walkPrinted replyLine
-    walk-refused er = rw (le-leb (length volume) 65536 h) (ap replyLine (ap walked (sym er) ∙ given))
+    walk-refused er = rw (le-leb (length volume) 65536 h) (ap replyLine (ap walked (sym er) ∙ given r e))

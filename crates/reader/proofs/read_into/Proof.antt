@@ -29,17 +29,25 @@ read-into-spec =
     (λ c. fits c .0)
     (λ c. part-long _ _ (fits (c .before) .0))
     (λ c κs. search needs)
-    (λ c. fits (c .before .before .before .before) .1)
-    (λ c. part-long _ _ (fits (c .before .before .before .before .before) .1))
+    (λ c. let l = fits (c .before .before .before .before) .1 in search needs)
+    (λ c. let l = fits (c .before .before .before .before .before) .1 in search (part-long, needs))
     (λ c κs. search needs)
     (λ c. let l = fits (c .before .before .before .before .before .before .before .before) .0 in let e = c .before .before .before .before .before .before .clear .ensures in search again-fits)
     (λ c. let l = fits (c .before .before .before .before .before .before .before .before .before) .0 in let e = c .before .before .before .before .before .before .before .clear .ensures in search again-long)
     (λ c. let l = fits (c .before .before .before .before .before .before .before .before .before) .1 in let e = c .before .before .before .clear2 .ensures in search again-fits)
     (λ c. let l = fits (c .before .before .before .before .before .before .before .before .before .before) .1 in let e = c .before .before .before .before .clear2 .ensures in search again-long)
-    (λ c κs. let f = c .before .before .before .before .before .before .before .before .before .before in let asked = f .before .before .before .before .before .before .before .pre in let l = fits f .0 in let e = c .before .before .before .before .before .before .before .before .clear .ensures in let of-k = f .before .before .before .pow2 .ensures in
+    (λ c κs. let f = c .before .before .before .before .before .before .before .before .before .before in
+    let asked = f .before .before .before .before .before .before .before .pre in
+    let l = fits f .0 in
+    let e = c .before .before .before .before .before .before .before .before .clear .ensures in
+    let of-k = f .before .before .before .pow2 .ensures in
     (heading-fits _ (asked .0) (asked .1), search again-size))
     (λ c. search needs)
     (λ c. search needs)
-    (λ c. let f = c .before .before .before .before .before .before .before .before .before .before .before .before .before .before .before in let asked = f .before .before .before .before .before .before .before .pre in let filled = c .before .before .before .before .fill .ensures in
-    read-done _ (asked .0) (asked .1) _ _ (f .before .before .before .pow2 .ensures) (f .before .before .room-refusal .ensures) (f .before .if1 .left) (asked .2)
-    (f .answer-room .ensures) (c .before .before .before .before .before .before .before .before .before .before .before .before .before .clear .ensures) (filled .0) (c .before .before .before .before .before .before .before .before .before .clear2 .ensures) (filled .1)))
+    (λ c. let f = c .before .before .before .before .before .before .before .before .before .before .before .before .before .before .before in
+    let asked = f .before .before .before .before .before .before .before .pre in
+    let filled = c .before .before .before .before .fill .ensures in
+    let condition-cleared = c .before .before .before .before .before .before .before .before .before .before .before .before .before .clear .ensures in
+    let answers-cleared = c .before .before .before .before .before .before .before .before .before .clear2 .ensures in
+    read-done _ (asked .0) (asked .1) _ _ (f .before .before .before .pow2 .ensures) (f .before .before .room-refusal .ensures)
+    (f .before .if1 .left) (asked .2) (f .answer-room .ensures) condition-cleared (filled .0) answers-cleared (filled .1)))
