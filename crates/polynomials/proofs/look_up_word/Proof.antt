@@ -8,7 +8,7 @@ use borrow.Author.Needs.{needs}
 use lib.ListN.{length, getD}
 use Rattle.ring.specs.Letters.{bit}
 use Rattle.ring.proofs.Lists.{length-listed}
-use Rattle.polynomials.specs.LookUp.{placeOf}
+use Rattle.polynomials.specs.Inner.LookUp.{placeOf}
 use Rattle.polynomials.proofs.LookUp.{level, level-start, level-next, level-end, part-index, part-small, half-small, first-parts}
 use Rattle.polynomials.proofs.look_up_word.Statement.{statement}
 use Rattle.polynomials.proofs.look_up_word.Tie as tie

@@ -1,6 +1,6 @@
 -- `polynomials::pick` meets its contract. Assumes nothing.
 use mathlib.Core.Path.{refl}
-use Rattle.polynomials.specs.LookUp.{chosen}
+use Rattle.polynomials.specs.Inner.LookUp.{chosen}
 use Rattle.polynomials.proofs.pick.Statement.{statement}
 use Rattle.polynomials.proofs.pick.Tie as tie
 
