@@ -83,7 +83,8 @@ module _ (u n : ℕ) (hs : List ℕ) (is : AreAnswers u n hs) where
     unfolding table
     part-is-table = same-is-table n _ (table n (held n hs j)) part-table (is-table n (held n hs j))
 
-    pub part-values : (own : List ℕ) → own ≡ wordsOf (2 ^ (n - 6)) (value n (present (take (j * k + k - j * k) (drop (j * k) hs)))) → own ≡ wordsOf (2 ^ (n - 6)) (value n (held n hs j))
+    pub part-values : (own : List ℕ) → own ≡ wordsOf (2 ^ (n - 6)) (value n (present (take (j * k + k - j * k) (drop (j * k) hs))))
+        → own ≡ wordsOf (2 ^ (n - 6)) (value n (held n hs j))
     part-values own e =
         e ∙ rw part-table (words-cong (2 ^ (n - 6)) _ _ (λ p h. value-cong n _ _ p (λ m q. present-table n (held n hs j) m q)))
 
@@ -105,7 +106,8 @@ pub are-answers : (u n : ℕ) (t : List ℕ) (a : ℕ → Polynomial) → t ≡ 
 are-answers u n t a e = record { polynomials = a; are = e }
 
 -- the values that agree have the same coefficients
-same-coefficients : (n : ℕ) (f g : Polynomial) → wordsOf (2 ^ (n - 6)) (value n f) ≡ wordsOf (2 ^ (n - 6)) (value n g) → (m : ℕ) → m < 2 ^ n → f m ≡ g m
+same-coefficients : (n : ℕ) (f g : Polynomial) → wordsOf (2 ^ (n - 6)) (value n f) ≡ wordsOf (2 ^ (n - 6)) (value n g) → (m : ℕ) → m < 2 ^ n
+    → f m ≡ g m
 same-coefficients n f g e m l =
     sym (involution n f m l) ∙ value-cong n (value n f) (value n g) m at ∙ involution n g m l
   where
@@ -116,46 +118,58 @@ same-coefficients n f g e m l =
 
 -- the answers for the unknowns below j are those whose values stand in `fresh`
 abbrev pub Agreed : ℕ → ℕ → List ℕ → List ℕ → ℕ → Type 0
-Agreed u n hs fresh j = (b : ℕ → Polynomial) → fresh ≡ answerWords u (2 ^ (n - 6)) (λ j. value n (b j)) → (i m : ℕ) → i < j → m < 2 ^ n → held n hs i m ≡ b i m
+Agreed u n hs fresh j =
+    (b : ℕ → Polynomial) → fresh ≡ answerWords u (2 ^ (n - 6)) (λ j. value n (b j)) → (i m : ℕ) → i < j → m < 2 ^ n → held n hs i m ≡ b i m
 
 pub agreed-start : (u n : ℕ) (hs fresh : List ℕ) → Agreed u n hs fresh 0
 agreed-start u n hs fresh b e i m l h = absurd (omega arith)
 
 module _ (u n : ℕ) (hs fresh : List ℕ) (is : AreAnswers u n hs) (j : ℕ) (inv : Agreed u n hs fresh j) where
-  pub agreed-end : u ≤ j → (b : ℕ → Polynomial) → fresh ≡ answerWords u (2 ^ (n - 6)) (λ j. value n (b j)) → true ≡ sameBytes hs (answerTable u n b)
+  pub agreed-end : u ≤ j → (b : ℕ → Polynomial) → fresh ≡ answerWords u (2 ^ (n - 6)) (λ j. value n (b j))
+      → true ≡ sameBytes hs (answerTable u n b)
   agreed-end h b e =
-      let own : hs ≡ answerTable u n (held n hs) = is .are ∙ answerTable-cong u n _ _ (λ i m p q. sym (rw (is .are) (held-answerTable u n (is .polynomials) i m p q))) in
+      let own : hs ≡ answerTable u n (held n hs) = is .are
+      ∙ answerTable-cong u n _ _ (λ i m p q. sym (rw (is .are) (held-answerTable u n (is .polynomials) i m p q))) in
       let all : hs ≡ answerTable u n b = own ∙ answerTable-cong u n _ _ (λ i m p q. inv b e i m (omega arith) q) in
       sym (rw (← all) (same-bytes hs))
 
-  module _ (l : j < u) {k w : ℕ} (ek : k ≡ 2 ^ n) (ew : w ≡ 2 ^ (n - 6)) (own : List ℕ) (eo : own ≡ wordsOf (2 ^ (n - 6)) (value n (present (take (j * k + k - j * k) (drop (j * k) hs))))) where
+  module _ (l : j < u) {k w : ℕ} (ek : k ≡ 2 ^ n) (ew : w ≡ 2 ^ (n - 6)) (own : List ℕ)
+      (eo : own ≡ wordsOf (2 ^ (n - 6)) (value n (present (take (j * k + k - j * k) (drop (j * k) hs))))) where
     own-is : own ≡ wordsOf (2 ^ (n - 6)) (value n (held n hs j))
     own-is = part-values u n hs is j k ek l own eo
 
-    fresh-is : (b : ℕ → Polynomial) → fresh ≡ answerWords u (2 ^ (n - 6)) (λ j. value n (b j)) → take (j * w + w - j * w) (drop (j * w) fresh) ≡ wordsOf (2 ^ (n - 6)) (value n (b j))
+    fresh-is : (b : ℕ → Polynomial) → fresh ≡ answerWords u (2 ^ (n - 6)) (λ j. value n (b j))
+        → take (j * w + w - j * w) (drop (j * w) fresh) ≡ wordsOf (2 ^ (n - 6)) (value n (b j))
     fresh-is b e = rw ew (answer-part u (2 ^ (n - 6)) j (λ j. value n (b j)) fresh e l)
 
     pub agreed-next : sameBytes own (take (j * w + w - j * w) (drop (j * w) fresh)) ≡ true → Agreed u n hs fresh (j + 1)
     agreed-next s b e i m h q = go (bool-cases (eqb i j))
       where
         go : (eqb i j ≡ true) ⊎ (eqb i j ≡ false) → held n hs i m ≡ b i m
-        go (inl p) = let f : i ≡ j = eqb-true i j p in rw f (same-coefficients n (held n hs j) (b j) (sym own-is ∙ bytes-same own _ s ∙ fresh-is b e) m q)
+        go (inl p) =
+            let f : i ≡ j = eqb-true i j p in rw f
+            (same-coefficients n (held n hs j) (b j) (sym own-is ∙ bytes-same own _ s ∙ fresh-is b e) m q)
         go (inr p) = inv b e i m (omega (arith, eqb-false i j p)) q
 
-    pub agreed-differ : sameBytes own (take (j * w + w - j * w) (drop (j * w) fresh)) ≡ false → (b : ℕ → Polynomial) → fresh ≡ answerWords u (2 ^ (n - 6)) (λ j. value n (b j)) → false ≡ sameBytes hs (answerTable u n b)
+    pub agreed-differ : sameBytes own (take (j * w + w - j * w) (drop (j * w) fresh)) ≡ false → (b : ℕ → Polynomial)
+        → fresh ≡ answerWords u (2 ^ (n - 6)) (λ j. value n (b j)) → false ≡ sameBytes hs (answerTable u n b)
     agreed-differ s b e = go (bool-cases (sameBytes hs (answerTable u n b)))
       where
-        go : (sameBytes hs (answerTable u n b) ≡ true) ⊎ (sameBytes hs (answerTable u n b) ≡ false) → false ≡ sameBytes hs (answerTable u n b)
+        go : (sameBytes hs (answerTable u n b) ≡ true) ⊎ (sameBytes hs (answerTable u n b) ≡ false)
+            → false ≡ sameBytes hs (answerTable u n b)
         go (inr f) = sym f
         go (inl f) =
             let t : hs ≡ answerTable u n b = bytes-same hs _ f in
-            let c : own ≡ take (j * w + w - j * w) (drop (j * w) fresh) = own-is ∙ words-cong (2 ^ (n - 6)) _ _ (λ p h. value-cong n _ _ p (λ m q. rw t (held-answerTable u n b j m l q))) ∙ sym (fresh-is b e) in
+            let c : own ≡ take (j * w + w - j * w) (drop (j * w) fresh) = own-is
+            ∙ words-cong (2 ^ (n - 6)) _ _ (λ p h. value-cong n _ _ p (λ m q. rw t (held-answerTable u n b j m l q)))
+            ∙ sym (fresh-is b e) in
             never (rw (← c) (same-bytes own)) s
 
 -- ---- against the verdict solved afresh
 module _ (u g : ℕ) (o t hs fresh : List ℕ) {v : Afresh} (e : verdict v fresh ≡ solveWords (ordered u g o t)) where
   pub against-solved : {b : Bool} → v ≡ Solved
-      → ((p : ℕ → Polynomial) → fresh ≡ answerWords u (2 ^ (u + g - 6)) (λ j. value (u + g) (p j)) → b ≡ sameBytes hs (answerTable u (u + g) p))
+      → ((p : ℕ → Polynomial) → fresh ≡ answerWords u (2 ^ (u + g - 6)) (λ j. value (u + g) (p j))
+      → b ≡ sameBytes hs (answerTable u (u + g) p))
       → b ≡ sameVerdict (solved hs) (solve (ordered u g o t))
   unfolding booleTable
   against-solved told same =
@@ -165,12 +179,14 @@ module _ (u g : ℕ) (o t hs fresh : List ℕ) {v : Afresh} (e : verdict v fresh
   pub against-none : {state : State} → v ≡ None state → false ≡ sameVerdict (solved hs) (solve (ordered u g o t))
   against-none {state} told = rw (none-by-values (ordered u g o t) state (rw told at e))
 
-against-state : (c : Condition) (held : State) (w : Verdict (List ℕ)) → w ≡ solveWords c → sameVerdict (none held) w ≡ sameVerdict (none held) (solve c)
+against-state : (c : Condition) (held : State) (w : Verdict (List ℕ)) → w ≡ solveWords c
+    → sameVerdict (none held) w ≡ sameVerdict (none held) (solve c)
 against-state c held (solved ws) e = rw (solved-by-values c ws e .0)
 against-state c held (none state) e = rw (none-by-values c state e)
 
 -- ---- question 13, of an entry whose condition t was read, and solved afresh by its values
-module _ (rs : List Record) (h : Heading) (eh : h ≡ headingOf rs) (t : List ℕ) (et : t ≡ table (h .unknowns + h .givens) (conditionIn rs)) where
+module _ (rs : List Record) (h : Heading) (eh : h ≡ headingOf rs) (t : List ℕ)
+    (et : t ≡ table (h .unknowns + h .givens) (conditionIn rs)) where
   pub condition-table : IsTable (h .unknowns + h .givens) t
   unfolding table
   condition-table = rw et (is-table (h .unknowns + h .givens) (conditionIn rs))

@@ -53,7 +53,8 @@ pub record TablesYes (u g : ℕ) (lent : List Lent) (more : List Asked) : Type 0
   pub lent-well : LentWell lent
   pub further : firstNo more ≡ 0
 
-pub tables-yes : (u g : ℕ) (lent : List Lent) (more : List Asked) → firstNo (asks Letters (lettersFit u g) ∷ (bufferQuestions lent ++ more)) ≡ 0
+pub tables-yes : (u g : ℕ) (lent : List Lent) (more : List Asked)
+    → firstNo (asks Letters (lettersFit u g) ∷ (bufferQuestions lent ++ more)) ≡ 0
     → TablesYes u g lent more
 unfolding bufferQuestions
 tables-yes u g lent more z =
@@ -63,7 +64,9 @@ tables-yes u g lent more z =
       letters = l .0;
       unknowns = unknowns-small u g (l .0);
       small = letters-small u g (l .0);
-      lent-well = lent-well lent (asked-before (roomQuestions lent) (bitQuestions lent) buffers) (asked-behind (roomQuestions lent) (bitQuestions lent) buffers);
+      lent-well =
+          lent-well lent (asked-before (roomQuestions lent) (bitQuestions lent) buffers)
+          (asked-behind (roomQuestions lent) (bitQuestions lent) buffers);
       further = asked-behind (bufferQuestions lent) more (l .1);
     }
 

@@ -25,7 +25,8 @@ lentEntry route U G condition = entry route (lentCondition U G condition)
 
 abbrev pub writeCall : ℕ → ℕ → ℕ → List ℕ → List ℕ → Answered Reply
 writeCall route U G condition out =
-    call (writeQuestions route U G condition (length out)) (length (lentEntry route U G condition) ∷ []) (lentEntry route U G condition into out ∷ [])
+    call (writeQuestions route U G condition (length out)) (length (lentEntry route U G condition) ∷ [])
+    (lentEntry route U G condition into out ∷ [])
 
 -- this paper's number and values for each case of `Written`: the entry's length
 abbrev pub written : Written → Reply

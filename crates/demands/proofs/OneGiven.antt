@@ -39,10 +39,12 @@ abbrev pub oneGiven : ℕ → ℕ → ℕ → List ℕ
 oneGiven U G i = table (U + G) (letter (U + i))
 
 bit-alone : (i : ℕ) → bit (2 ^ i) i ≡ true
-bit-alone i = let e : assign 0 i true ≡ 2 ^ i = assign-set 0 i (bit-none 0 i (pow-pos i)) ∙ zero-add (2 ^ i) in rw e at (bit-assign 0 i true)
+bit-alone i =
+    let e : assign 0 i true ≡ 2 ^ i = assign-set 0 i (bit-none 0 i (pow-pos i)) ∙ zero-add (2 ^ i) in rw e at (bit-assign 0 i true)
 
 module _ (U G i : ℕ) (h : i < G) where
-  value-given : (state : State) (choice : Choice) → choice .0 < 2 ^ U → value (U + G) (present (oneGiven U G i)) (point U state choice) ≡ bit (state .0) i
+  value-given : (state : State) (choice : Choice) → choice .0 < 2 ^ U
+      → value (U + G) (present (oneGiven U G i)) (point U state choice) ≡ bit (state .0) i
   value-given state choice l =
       value-cong (U + G) _ _ (point U state choice) (present-table (U + G) (letter (U + i)))
       ∙ value-letter (U + G) (U + i) (point U state choice) (omega arith)
@@ -55,20 +57,23 @@ module _ (U G i : ℕ) (h : i < G) where
   free-below : (s : ℕ) → s < 2 ^ i → blocked U G (present (oneGiven U G i)) (record { 0 = s }) ≡ false
   unfolding blocked
   free-below s l =
-      no-true _ (λ e. true≢false (sym (every-all (2 ^ U) _ e 0 (pow-pos U)) ∙ value-given (record { 0 = s }) (record { 0 = 0 }) (pow-pos U) ∙ bit-none s i l))
+      no-true _ (λ e. true≢false
+      (sym (every-all (2 ^ U) _ e 0 (pow-pos U)) ∙ value-given (record { 0 = s }) (record { 0 = 0 }) (pow-pos U) ∙ bit-none s i l))
 
   unsolvable : solvable (U + G) (present (oneGiven U G i)) (defaultOrder U) ≡ false
   unsolvable =
       no-true _ (λ e.
       let s = solvable-exactly U G (present (oneGiven U G i)) (defaultOrder U) (default-order U) (ownLetters U G) (own-holds U G) .0 e in
-      blocked-none U G (present (oneGiven U G i)) (record { 0 = 2 ^ i }) (pow-lt h) blocked-alone (ownLetters U G) (own-holds U G) (s .0) (s .1))
+      blocked-none U G (present (oneGiven U G i)) (record { 0 = 2 ^ i }) (pow-lt h) blocked-alone (ownLetters U G) (own-holds U G) (s .0)
+      (s .1))
 
   verdict-given : solve (conditionOf U G (oneGiven U G i)) ≡ none (record { 0 = 2 ^ i })
   unfolding solve smallestBlocked
   verdict-given =
       rw unsolvable
       (ap (λ (s : ℕ). none (record { 0 = s }))
-      (sym (first-found (2 ^ G) _ (2 ^ i) (pow-lt h) free-below (is-blocked U G (present (oneGiven U G i)) (record { 0 = 2 ^ i }) blocked-alone))))
+      (sym (first-found (2 ^ G) _ (2 ^ i) (pow-lt h) free-below
+      (is-blocked U G (present (oneGiven U G i)) (record { 0 = 2 ^ i }) blocked-alone))))
 
   monomials-given : monomials (U + G) (present (oneGiven U G i)) ≡ 2 ^ (U + i) ∷ []
   unfolding monomials letter

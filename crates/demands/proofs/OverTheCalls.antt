@@ -76,7 +76,8 @@ module _ (route : ℕ) (c : Condition) (condition out : List ℕ) (holds : lentC
         demand = right-demand c _ right (back .condition) (back .verdict);
         entry-written =
             done-one (writeQuestions route (c .U) (c .G) condition (length out)) _ _ out z
-            ∙ ap (λ (x : Condition). answered (accepted (length (entry route x) ∷ [])) ((entry route x ++ drop (length (entry route x)) out) ∷ [])) holds;
+            ∙ ap (λ (x : Condition). answered (accepted (length (entry route x) ∷ []))
+            ((entry route x ++ drop (length (entry route x)) out) ∷ [])) holds;
         read-if-room = only-room _ back;
         reads-back = λ condition₂ answers₂ z₂. read route c _ condition₂ answers₂ back z₂;
       }

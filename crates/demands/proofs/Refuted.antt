@@ -75,14 +75,16 @@ one-solves v = refl
 pub particular-refuted : Demand3 the-zero particular-archived → ⊥
 unfolding hasNone records firstRecords next untilEnd kind size fields widths valueOf valueIn fromLowFirst among answersIn hasMonomial valueOver putIn substitute product odd count value within constant pointOf one
 particular-refuted h =
-    let instance : InstanceOf 1 0 (answersIn (records particular-archived)) [] one = h .every-instance refl [] (no-givens []) one one-solves in
+    let instance : InstanceOf 1 0 (answersIn (records particular-archived)) [] one = h .every-instance refl []
+    (no-givens []) one one-solves in
     true≢false (sym (instance .1 0 (omega arith) (λ l. true)))
 
 -- .. and Löwenheim's answer, u = u, is no instance of it (each-other)
 pub particular-no-lowenheim : Demand3 the-zero particular-archived → ⊥
 unfolding hasNone records firstRecords next untilEnd kind size fields widths valueOf valueIn fromLowFirst among answersIn hasMonomial valueOver putIn substitute monomial product odd count value within constant letter pointOf present listed ownLetters letterAt place bit sum restrict nextCondition answerFrom booleAnswers particular lowenheim ownLowenheim defaultOrder
 particular-no-lowenheim h =
-    let instance : InstanceOf 1 0 (answersIn (records particular-archived)) (ownLetters 1 0) (ownLowenheim 1 0 (defaultOrder 1) (polynomial the-zero)) = h .each-other refl .forth in
+    let instance : InstanceOf 1 0 (answersIn (records particular-archived)) (ownLetters 1 0)
+    (ownLowenheim 1 0 (defaultOrder 1) (polynomial the-zero)) = h .each-other refl .forth in
     true≢false (sym (instance .1 0 (omega arith) (λ l. true)))
 
 -- ---- answers that do not make the condition zero
@@ -100,7 +102,8 @@ one-instance : InstanceOf 1 0 (answersIn (records unknowns-archived)) [] one
 unfolding records firstRecords next untilEnd kind size fields widths valueOf valueIn fromLowFirst among answersIn hasMonomial valueOver putIn substitute monomial product odd count value within constant pointOf bit one
 one-instance = (one, same)
   where
-    same : (j : ℕ) → j < 1 → (v : Valuation) → valueOver [] (putIn 1 0 [] (answersIn (records unknowns-archived) j) one) v ≡ valueOver [] (one j) v
+    same : (j : ℕ) → j < 1 → (v : Valuation)
+        → valueOver [] (putIn 1 0 [] (answersIn (records unknowns-archived) j) one) v ≡ valueOver [] (one j) v
     same zero l v = refl
     same (suc j) l v = absurd (omega arith)
 

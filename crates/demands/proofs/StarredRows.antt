@@ -48,7 +48,8 @@ archived text r reads holds =
 
 data AllRead : List (List ℕ) → List Row → Type 0 where
   done : AllRead [] []
-  _then_ : {text : List ℕ} {r : Row} {texts : List (List ℕ)} {rows : List Row} → Reads text r → AllRead texts rows → AllRead (text ∷ texts) (r ∷ rows)
+  _then_ : {text : List ℕ} {r : Row} {texts : List (List ℕ)} {rows : List Row} → Reads text r → AllRead texts rows
+      → AllRead (text ∷ texts) (r ∷ rows)
 
 infixr 20 _then_
 all-archived : {texts : List (List ℕ)} {rows : List Row} → AllRead texts rows → RowsHold rows → AllHold texts rows

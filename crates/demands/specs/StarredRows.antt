@@ -51,4 +51,5 @@ infixr 20 _also_
 -- every row with its text
 pub data AllHold : List (List ℕ) → List Row → Type 0 where
   end : AllHold [] []
-  _also_ : {text : List ℕ} {r : Row} {texts : List (List ℕ)} {rows : List Row} → TextHolds text r → AllHold texts rows → AllHold (text ∷ texts) (r ∷ rows)
+  _also_ : {text : List ℕ} {r : Row} {texts : List (List ℕ)} {rows : List Row} → TextHolds text r → AllHold texts rows
+      → AllHold (text ∷ texts) (r ∷ rows)

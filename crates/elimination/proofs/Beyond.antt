@@ -53,9 +53,11 @@ assign-same n p q x b c eb e j l = go (eqb j x) refl
 both-within : (n : ℕ) (f : ℕ → Bool) (x : ℕ) → Within n f → Within n (bothCases f x)
 unfolding bothCases
 both-within n f x w p q e =
-    ap₂ _&&_ (w (assign p x true) (assign q x true) (assign-same n p q x true true refl e)) (w (assign p x false) (assign q x false) (assign-same n p q x false false refl e))
+    ap₂ _&&_ (w (assign p x true) (assign q x true) (assign-same n p q x true true refl e))
+    (w (assign p x false) (assign q x false) (assign-same n p q x false false refl e))
 
-answered-same : (n : ℕ) (f : ℕ → Bool) (o : List ℕ) → InLetters n o → Within n f → (p q : ℕ) → Same n p q → Same n (answeredThrough f o p) (answeredThrough f o q)
+answered-same : (n : ℕ) (f : ℕ → Bool) (o : List ℕ) → InLetters n o → Within n f → (p q : ℕ) → Same n p q
+    → Same n (answeredThrough f o p) (answeredThrough f o q)
 unfolding answeredThrough chosenPoint
 answered-same n f [] b w p q e = e
 answered-same n f (x ∷ o) b w p q e =
@@ -63,12 +65,14 @@ answered-same n f (x ∷ o) b w p q e =
     let Q : ℕ = answeredThrough (bothCases f x) o q in
     let same : Same n P Q = answered-same n (bothCases f x) o (rest-in n x o b) (both-within n f x w) p q e in
     assign-same n P Q x _ _
-    (ap₂ (λ (r s : Bool). chosenValue r s (bit p x)) (w _ _ (assign-same n P Q x true true refl same)) (w _ _ (assign-same n P Q x false false refl same))
+    (ap₂ (λ (r s : Bool). chosenValue r s (bit p x)) (w _ _ (assign-same n P Q x true true refl same))
+    (w _ _ (assign-same n P Q x false false refl same))
     ∙ ap (chosenValue (f (assign Q x true)) (f (assign Q x false))) (e x (first-in n x o b)))
     same
 
 -- the values of Boole's answers at any point of the words
-pub value-answers-all : (n : ℕ) (f : Polynomial) (o : List ℕ) → InLetters n o → (j p : ℕ) → j < n → bit (answeredThrough (value n f) o p) j ≡ value n (booleAnswers n f o j) p
+pub value-answers-all : (n : ℕ) (f : Polynomial) (o : List ℕ) → InLetters n o → (j p : ℕ) → j < n
+    → bit (answeredThrough (value n f) o p) j ≡ value n (booleAnswers n f o j) p
 value-answers-all n f o b j p l =
     answered-same n (value n f) o b (value-within n f) p (p % 2 ^ n) (same-low n p) j l
     ∙ sym (value-answers n f o b j (p % 2 ^ n) l (mod-lt p (pow-pos n)))

@@ -23,7 +23,8 @@ use Rattle.elimination.specs.Inner.Stages.{noRepeats, answerAt, slotWord
 use Rattle.elimination.proofs.AnyOrder.{answer-first, answer-other, no-rest}
 
 -- a part element by element
-pub part-listed : (j k : ℕ) (t : List ℕ) → j * k + k ≤ length t → take (j * k + k - j * k) (drop (j * k) t) ≡ listed k (λ i. getD t (j * k + i) 0)
+pub part-listed : (j k : ℕ) (t : List ℕ) → j * k + k ≤ length t
+    → take (j * k + k - j * k) (drop (j * k) t) ≡ listed k (λ i. getD t (j * k + i) 0)
 part-listed j k t room =
     let count : j * k + k - j * k ≡ k = omega arith in
     let size : length (take k (drop (j * k) t)) ≡ k = length-take-le k (drop (j * k) t) (omega (arith, length-drop (j * k) t)) in
@@ -33,7 +34,8 @@ part-listed j k t room =
 
 -- ---- slots
 -- the slot of x copied
-pub slot-copied : (c k i x : ℕ) (o slots ys : List ℕ) → k ≡ 2 ^ c → i ≡ placeOf o x → i * k + k ≤ length slots → ys ≡ take (i * k + k - i * k) (drop (i * k) slots)
+pub slot-copied : (c k i x : ℕ) (o slots ys : List ℕ) → k ≡ 2 ^ c → i ≡ placeOf o x → i * k + k ≤ length slots
+    → ys ≡ take (i * k + k - i * k) (drop (i * k) slots)
     → ys ≡ listed k (λ w. slotWord (2 ^ c) o slots (x * k + w))
 unfolding slotWord
 slot-copied c k i x o slots ys ek ei room e =
@@ -51,12 +53,16 @@ slot-word k h [] x w once e l = absurd (true≢false (sym e))
 slot-word k h (y ∷ o) x w once e l = go (eqb x y) refl e (λ r. slot-word k (bothCases h y) o x w (no-rest y o once) r l)
   where
     go : (b : Bool) → eqb x y ≡ b → (b || has x o) ≡ true
-        → (has x o ≡ true → getD (slotWords k (bothCases h y) o) (placeOf o x * k + w) 0 ≡ wordOf (λ i. bit (answeredThrough (bothCases h y) o (64 * w + i)) x))
-        → getD (wordsOf k (answerAt h y o) ++ slotWords k (bothCases h y) o) (cond b 0 (suc (placeOf o x)) * k + w) 0 ≡ wordOf (λ i. bit (answeredThrough h (y ∷ o) (64 * w + i)) x)
+        → (has x o ≡ true → getD (slotWords k (bothCases h y) o) (placeOf o x * k + w) 0
+        ≡ wordOf (λ i. bit (answeredThrough (bothCases h y) o (64 * w + i)) x))
+        → getD (wordsOf k (answerAt h y o) ++ slotWords k (bothCases h y) o) (cond b 0 (suc (placeOf o x)) * k + w) 0
+        ≡ wordOf (λ i. bit (answeredThrough h (y ∷ o) (64 * w + i)) x)
     go true q r ih =
         let z : 0 * k + w ≡ w = omega (arith, zero-mul k) in
-        rw z (List·getD-append (wordsOf k (answerAt h y o)) _ 0 w (omega (arith, length-words k (answerAt h y o))) ∙ getD-words k (answerAt h y o) w l
-        ∙ word-cong _ _ (λ i m. sym (answer-first h y o once (64 * w + i)) ∙ ap (bit (answeredThrough h (y ∷ o) (64 * w + i))) (sym (eqb-true x y q))))
+        rw z (List·getD-append (wordsOf k (answerAt h y o)) _ 0 w (omega (arith, length-words k (answerAt h y o)))
+        ∙ getD-words k (answerAt h y o) w l
+        ∙ word-cong _ _ (λ i m. sym (answer-first h y o once (64 * w + i))
+        ∙ ap (bit (answeredThrough h (y ∷ o) (64 * w + i))) (sym (eqb-true x y q))))
     go false q r ih =
         let s : suc (placeOf o x) * k + w ≡ k + (placeOf o x * k + w) = omega (arith, suc-mul (placeOf o x) k) in
         rw s (sym (getD-drop k (wordsOf k (answerAt h y o) ++ slotWords k (bothCases h y) o) (placeOf o x * k + w) 0)
@@ -66,7 +72,8 @@ slot-word k h (y ∷ o) x w once e l = go (eqb x y) refl e (λ r. slot-word k (b
 
 -- ---- the words of answers
 -- they turn on the values at the answers' points alone
-pub answers-cong : (u k : ℕ) (g h : ℕ → ℕ → Bool) → 0 < k → ((x p : ℕ) → x < u → p < 64 * k → g x p ≡ h x p) → answerWords u k g ≡ answerWords u k h
+pub answers-cong : (u k : ℕ) (g h : ℕ → ℕ → Bool) → 0 < k → ((x p : ℕ) → x < u → p < 64 * k → g x p ≡ h x p)
+    → answerWords u k g ≡ answerWords u k h
 unfolding answerWords
 answers-cong u k g h pos e =
     words-cong (u * k) _ _ (λ i l.
@@ -74,7 +81,8 @@ answers-cong u k g h pos e =
     e (i / (64 * k)) (i % (64 * k)) (part-below u (64 * k) i b) (mod-lt i (omega arith)))
 
 -- part x of them
-pub answer-part : (u k x : ℕ) (h : ℕ → ℕ → Bool) (ws : List ℕ) → ws ≡ answerWords u k h → x < u → take (x * k + k - x * k) (drop (x * k) ws) ≡ wordsOf k (h x)
+pub answer-part : (u k x : ℕ) (h : ℕ → ℕ → Bool) (ws : List ℕ) → ws ≡ answerWords u k h → x < u
+    → take (x * k + k - x * k) (drop (x * k) ws) ≡ wordsOf k (h x)
 unfolding answerWords
 answer-part u k x h ws e l =
     let size : length ws ≡ u * k = ap length e ∙ length-words (u * k) _ in
@@ -84,7 +92,8 @@ answer-part u k x h ws e l =
     ap (λ (t : List ℕ). getD t (x * k + w) 0) e ∙ getD-words (u * k) _ (x * k + w) b
     ∙ word-cong _ _ (λ i n.
     let inner : 64 * w + i < 64 * k = omega arith in
-    ap₂ h (ap (λ (z : ℕ). z / (64 * k)) (part-point k x w i) ∙ digits-div x inner) (ap (λ (z : ℕ). z % (64 * k)) (part-point k x w i) ∙ digits-mod x inner)))
+    ap₂ h (ap (λ (z : ℕ). z / (64 * k)) (part-point k x w i) ∙ digits-div x inner)
+    (ap (λ (z : ℕ). z % (64 * k)) (part-point k x w i) ∙ digits-mod x inner)))
 
 -- the slots by unknown are the answers
 pub arranged : (u k : ℕ) (h : ℕ → Bool) (o slots : List ℕ) → IsOrder u o → noRepeats o ≡ true → 0 < k → slots ≡ slotWords k h o

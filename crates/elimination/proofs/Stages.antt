@@ -70,7 +70,8 @@ stages-empty k f [] [] z size = refl
 stages-empty k f [] (y ∷ s) z size = absurd (omega (arith, zero-mul k))
 stages-empty k f (x ∷ o) s z size = absurd (omega arith)
 
-stage-agree : (c : ℕ) (f g : ℕ → Bool) (o : List ℕ) → InLetters (6 + c) o → Agree (6 + c) f g → stageWords (2 ^ c) f o ≡ stageWords (2 ^ c) g o
+stage-agree : (c : ℕ) (f g : ℕ → Bool) (o : List ℕ) → InLetters (6 + c) o → Agree (6 + c) f g
+    → stageWords (2 ^ c) f o ≡ stageWords (2 ^ c) g o
 unfolding stageWords
 stage-agree c f g [] b e = refl
 stage-agree c f g (x ∷ o) b e =
@@ -84,12 +85,14 @@ known c h ws e p l = at-known (2 ^ c) h ws e p (omega (arith, points c))
 words-agree : (c : ℕ) (g h : ℕ → Bool) → Agree (6 + c) g h → wordsOf (2 ^ c) g ≡ wordsOf (2 ^ c) h
 words-agree c g h e = words-cong (2 ^ c) g h (λ p l. e p (omega (arith, points c)))
 
-pub remains-more : (c : ℕ) (o f f1 f2 : List ℕ) → InLetters (6 + c) o → 1 ≤ length o → f1 ≡ wordsOf (2 ^ c) (bothCases (bitAt f) (getD o 0 0))
+pub remains-more : (c : ℕ) (o f f1 f2 : List ℕ) → InLetters (6 + c) o → 1 ≤ length o
+    → f1 ≡ wordsOf (2 ^ c) (bothCases (bitAt f) (getD o 0 0))
     → f2 ≡ wordsOf (2 ^ c) (remainsThrough (bitAt f1) (take (length o - 1) (drop 1 o))) → f2 ≡ wordsOf (2 ^ c) (remainsThrough (bitAt f) o)
 unfolding remainsThrough
 remains-more c [] f f1 f2 b l e1 e2 = absurd (omega arith)
 remains-more c (x ∷ o) f f1 f2 b l e1 e2 =
-    e2 ∙ rw (rest-of 1 (x ∷ o)) (words-agree c _ _ (remains-agree (6 + c) (bitAt f1) (bothCases (bitAt f) x) o (rest-in (6 + c) x o b) (known c _ f1 e1)))
+    e2 ∙ rw (rest-of 1 (x ∷ o))
+    (words-agree c _ _ (remains-agree (6 + c) (bitAt f1) (bothCases (bitAt f) x) o (rest-in (6 + c) x o b) (known c _ f1 e1)))
 
 -- a part put behind the first
 mid-done : (k : ℕ) (x s ys : List ℕ) → length x ≡ k → k ≤ length s → putMid k (length (x ++ drop k s) - k) (x ++ drop k s) ys ≡ x ++ ys
@@ -99,7 +102,8 @@ mid-done k x s ys e l =
     let none : drop (length (x ++ drop k s) - k) (drop k (x ++ drop k s)) ≡ [] = drop-of-length-le (drop k (x ++ drop k s)) short in
     rw (take-at x (drop k s) k e, none, append-nil)
 
-pub stages-more : (c k : ℕ) (o f f1 x s ys : List ℕ) → k ≡ 2 ^ c → InLetters (6 + c) o → 1 ≤ length o → length s ≡ length o * 2 ^ c → IsWords (2 ^ c) f → x ≡ f
+pub stages-more : (c k : ℕ) (o f f1 x s ys : List ℕ) → k ≡ 2 ^ c → InLetters (6 + c) o → 1 ≤ length o → length s ≡ length o * 2 ^ c
+    → IsWords (2 ^ c) f → x ≡ f
     → f1 ≡ wordsOf (2 ^ c) (bothCases (bitAt f) (getD o 0 0)) → ys ≡ stageWords (2 ^ c) (bitAt f1) (take (length o - 1) (drop 1 o))
     → putMid k (length (x ++ drop k s) - k) (x ++ drop k s) ys ≡ stageWords (2 ^ c) (bitAt f) o
 unfolding stageWords
@@ -107,7 +111,8 @@ stages-more c k [] f f1 x s ys ek b l size is ex e1 ey = absurd (omega arith)
 stages-more c k (y ∷ o) f f1 x s ys ek b l size is ex e1 ey =
     let sx : length x ≡ k = ap length ex ∙ size-words (2 ^ c) _ f is ∙ sym ek in
     mid-done k x s ys sx (slot-room k c (y ∷ o) s ek size l)
-    ∙ ap₂ _++_ (ex ∙ is) (ey ∙ rw (rest-of 1 (y ∷ o)) (stage-agree c (bitAt f1) (bothCases (bitAt f) y) o (rest-in (6 + c) y o b) (known c _ f1 e1)))
+    ∙ ap₂ _++_ (ex ∙ is) (ey
+    ∙ rw (rest-of 1 (y ∷ o)) (stage-agree c (bitAt f1) (bothCases (bitAt f) y) o (rest-in (6 + c) y o b) (known c _ f1 e1)))
 
 -- ---- later answers put in
 pub put-none : (k : ℕ) (a s o : List ℕ) → length o ≡ 0 → IsWords k a → a ≡ wordsOf k (putWords k s o (bitAt a))
@@ -121,7 +126,8 @@ front-at k s p l = let h : p / 64 < k = omega arith in ap (λ (x : ℕ). bit x (
 
 pub put-more : (c k : ℕ) (o s a a1 a2 : List ℕ) → k ≡ 2 ^ c → InLetters (6 + c) o → 1 ≤ length o
     → a1 ≡ wordsOf (2 ^ c) (putWords (2 ^ c) (take (length s - k) (drop k s)) (take (length o - 1) (drop 1 o)) (bitAt a))
-    → a2 ≡ wordsOf (2 ^ c) (λ p. bitAt a1 (assign p (getD o 0 0) (bitAt (take k s) p))) → a2 ≡ wordsOf (2 ^ c) (putWords (2 ^ c) s o (bitAt a))
+    → a2 ≡ wordsOf (2 ^ c) (λ p. bitAt a1 (assign p (getD o 0 0) (bitAt (take k s) p)))
+    → a2 ≡ wordsOf (2 ^ c) (putWords (2 ^ c) s o (bitAt a))
 unfolding putWords
 put-more c k [] s a a1 a2 ek b l e1 e2 = absurd (omega arith)
 put-more c k (x ∷ o) s a a1 a2 ek b l e1 e2 =
@@ -129,25 +135,31 @@ put-more c k (x ∷ o) s a a1 a2 ek b l e1 e2 =
     let m : p < 64 * k = omega (arith, points c, ek) in
     ap (λ (y : Bool). bitAt a1 (assign p x y)) (front-at k s p m)
     ∙ known c _ a1 e1 (assign p x (bitAt s p)) (assign-lt (6 + c) p x (bitAt s p) h (first-in (6 + c) x o b))
-    ∙ ap₂ (λ (t r : List ℕ). putWords (2 ^ c) t r (bitAt a) (assign p x (bitAt s p))) (rest-of k s ∙ ap (λ (y : ℕ). drop y s) ek) (rest-of 1 (x ∷ o)))
+    ∙ ap₂ (λ (t r : List ℕ). putWords (2 ^ c) t r (bitAt a) (assign p x (bitAt s p))) (rest-of k s ∙ ap (λ (y : ℕ). drop y s) ek)
+    (rest-of 1 (x ∷ o)))
 
 -- the answers of the later unknowns put in lead to the answered point
-pub put-answers : (c : ℕ) (g : ℕ → Bool) (o s : List ℕ) (a : ℕ → Bool) → InLetters (6 + c) o → noRepeats o ≡ true → s ≡ slotWords (2 ^ c) g o
+pub put-answers : (c : ℕ) (g : ℕ → Bool) (o s : List ℕ) (a : ℕ → Bool) → InLetters (6 + c) o → noRepeats o ≡ true
+    → s ≡ slotWords (2 ^ c) g o
     → (p : ℕ) → p < 2 ^ (6 + c) → putWords (2 ^ c) s o a p ≡ a (answeredThrough g o p)
 unfolding putWords slotWords answeredThrough
 put-answers c g [] s a b once e p l = refl
 put-answers c g (x ∷ o) s a b once e p l =
     let front : List ℕ = wordsOf (2 ^ c) (answerAt g x o) in
-    let rest : drop (2 ^ c) s ≡ slotWords (2 ^ c) (bothCases g x) o = ap (drop (2 ^ c)) e ∙ drop-at front _ (2 ^ c) (length-words (2 ^ c) _) in
+    let rest : drop (2 ^ c) s ≡ slotWords (2 ^ c) (bothCases g x) o = ap (drop (2 ^ c)) e
+    ∙ drop-at front _ (2 ^ c) (length-words (2 ^ c) _) in
     let m : p < 64 * 2 ^ c = omega (arith, points c) in
     let value : bitAt s p ≡ answerAt g x o p =
-    sym (front-at (2 ^ c) s p m) ∙ ap (λ (t : List ℕ). bitAt (take (2 ^ c) t) p) e ∙ ap (λ (t : List ℕ). bitAt t p) (take-at front _ (2 ^ c) (length-words (2 ^ c) _)) ∙ at-words (2 ^ c) _ p m in
+    sym (front-at (2 ^ c) s p m) ∙ ap (λ (t : List ℕ). bitAt (take (2 ^ c) t) p) e
+    ∙ ap (λ (t : List ℕ). bitAt t p) (take-at front _ (2 ^ c) (length-words (2 ^ c) _)) ∙ at-words (2 ^ c) _ p m in
     ap (λ (y : Bool). putWords (2 ^ c) (drop (2 ^ c) s) o a (assign p x y)) value
-    ∙ put-answers c (bothCases g x) o (drop (2 ^ c) s) a (rest-in (6 + c) x o b) (no-rest x o once) rest (assign p x (answerAt g x o p)) (assign-lt (6 + c) p x _ l (first-in (6 + c) x o b))
+    ∙ put-answers c (bothCases g x) o (drop (2 ^ c) s) a (rest-in (6 + c) x o b) (no-rest x o once) rest (assign p x (answerAt g x o p))
+    (assign-lt (6 + c) p x _ l (first-in (6 + c) x o b))
     ∙ ap a (answered-more g x o once p)
 
 -- stages of which the first is written
-module _ (k c : ℕ) (o f x s : List ℕ) (ek : k ≡ 2 ^ c) (ex : x ≡ f) (sf : length f ≡ 2 ^ c) (size : length s ≡ length o * 2 ^ c) (l : 1 ≤ length o) where
+module _ (k c : ℕ) (o f x s : List ℕ) (ek : k ≡ 2 ^ c) (ex : x ≡ f) (sf : length f ≡ 2 ^ c) (size : length s ≡ length o * 2 ^ c)
+    (l : 1 ≤ length o) where
   fronted : length (x ++ drop k s) ≡ length s
   fronted = front-length k x s (ap length ex ∙ sf ∙ sym ek) (slot-room k c o s ek size l)
 
@@ -157,22 +169,27 @@ module _ (k c : ℕ) (o f x s : List ℕ) (ek : k ≡ 2 ^ c) (ex : x ≡ f) (sf 
   pub front-rest : length (take (length (x ++ drop k s) - k) (drop k (x ++ drop k s))) ≡ length (take (length o - 1) (drop 1 o)) * 2 ^ c
   front-rest = slots-rest k c o (x ++ drop k s) ek (fronted ∙ size) l
 
-pub both-copied : (k x : ℕ) (s f f1 : List ℕ) → s ≡ f → f1 ≡ wordsOf k (λ p. bitAt s (assign p x true) && bitAt s (assign p x false)) → f1 ≡ wordsOf k (bothCases (bitAt f) x)
+pub both-copied : (k x : ℕ) (s f f1 : List ℕ) → s ≡ f → f1 ≡ wordsOf k (λ p. bitAt s (assign p x true) && bitAt s (assign p x false))
+    → f1 ≡ wordsOf k (bothCases (bitAt f) x)
 unfolding bothCases
 both-copied k x s f f1 e e1 = e1 ∙ ap (λ (t : List ℕ). wordsOf k (λ p. bitAt t (assign p x true) && bitAt t (assign p x false))) e
 
 -- ---- the answers
-put-agree : (c : ℕ) (s o : List ℕ) (a b : ℕ → Bool) → InLetters (6 + c) o → Agree (6 + c) a b → Agree (6 + c) (putWords (2 ^ c) s o a) (putWords (2 ^ c) s o b)
+put-agree : (c : ℕ) (s o : List ℕ) (a b : ℕ → Bool) → InLetters (6 + c) o → Agree (6 + c) a b
+    → Agree (6 + c) (putWords (2 ^ c) s o a) (putWords (2 ^ c) s o b)
 unfolding putWords
 put-agree c s [] a b h e p l = e p l
 put-agree c s (x ∷ o) a b h e p l =
-    put-agree c (drop (2 ^ c) s) o a b (rest-in (6 + c) x o h) e (assign p x (bitAt s p)) (assign-lt (6 + c) p x (bitAt s p) l (first-in (6 + c) x o h))
+    put-agree c (drop (2 ^ c) s) o a b (rest-in (6 + c) x o h) e (assign p x (bitAt s p))
+    (assign-lt (6 + c) p x (bitAt s p) l (first-in (6 + c) x o h))
 
 -- what the code makes of the first stage and the slots behind it
-pub answered-front : (c k : ℕ) (o s own1 own2 own3 out : List ℕ) → k ≡ 2 ^ c → InLetters (6 + c) o → length s ≡ length o * 2 ^ c → 1 ≤ length o → own1 ≡ take k s
+pub answered-front : (c k : ℕ) (o s own1 own2 own3 out : List ℕ) → k ≡ 2 ^ c → InLetters (6 + c) o → length s ≡ length o * 2 ^ c
+    → 1 ≤ length o → own1 ≡ take k s
     → own2 ≡ wordsOf (length own1) (λ p. bitAt own1 p ⊕ bit p (getD o 0 0))
     → own3 ≡ wordsOf (2 ^ c) (putWords (2 ^ c) (take (length s - k) (drop k s)) (take (length o - 1) (drop 1 o)) (bitAt own2)) → out ≡ own3
-    → out ++ drop k s ≡ wordsOf (2 ^ c) (putWords (2 ^ c) (drop (2 ^ c) s) (drop 1 o) (λ p. bitAt s p ⊕ bit p (getD o 0 0))) ++ drop (2 ^ c) s
+    → out ++ drop k s ≡ wordsOf (2 ^ c) (putWords (2 ^ c) (drop (2 ^ c) s) (drop 1 o) (λ p. bitAt s p ⊕ bit p (getD o 0 0)))
+    ++ drop (2 ^ c) s
 answered-front c k o s own1 own2 own3 out ek b size l e1 e2 e3 eo =
     let room : k ≤ length s = slot-room k c o s ek size l in
     let s1 : length own1 ≡ 2 ^ c = ap length e1 ∙ length-take-le k s room ∙ ek in
@@ -188,7 +205,8 @@ pub length-stages : (c : ℕ) (g : ℕ → Bool) (o : List ℕ) → length (stag
 unfolding stageWords
 length-stages c g [] = sym (zero-mul (2 ^ c))
 length-stages c g (x ∷ o) =
-    length-append (wordsOf (2 ^ c) g) (stageWords (2 ^ c) (bothCases g x) o) ∙ ap₂ _+_ (length-words (2 ^ c) g) (length-stages c (bothCases g x) o) ∙ flip (length o) ∙ sym (suc-mul (length o) (2 ^ c))
+    length-append (wordsOf (2 ^ c) g) (stageWords (2 ^ c) (bothCases g x) o)
+    ∙ ap₂ _+_ (length-words (2 ^ c) g) (length-stages c (bothCases g x) o) ∙ flip (length o) ∙ sym (suc-mul (length o) (2 ^ c))
   where
     flip : (n : ℕ) → 2 ^ c + n * 2 ^ c ≡ n * 2 ^ c + 2 ^ c
     flip n = omega arith
@@ -201,19 +219,22 @@ first-stage c h y o s e p l =
     sym (front-at (2 ^ c) s p m) ∙ ap (λ (t : List ℕ). bitAt (take (2 ^ c) t) p) e
     ∙ ap (λ (t : List ℕ). bitAt t p) (take-at (wordsOf (2 ^ c) h) _ (2 ^ c) (length-words (2 ^ c) h)) ∙ at-words (2 ^ c) h p m
 
-pub stage-self : (c : ℕ) (h : ℕ → Bool) (o s : List ℕ) → InLetters (6 + c) o → s ≡ stageWords (2 ^ c) h o → s ≡ stageWords (2 ^ c) (bitAt s) o
+pub stage-self : (c : ℕ) (h : ℕ → Bool) (o s : List ℕ) → InLetters (6 + c) o → s ≡ stageWords (2 ^ c) h o
+    → s ≡ stageWords (2 ^ c) (bitAt s) o
 unfolding stageWords
 stage-self c h [] s b e = e
 stage-self c h (y ∷ o) s b e = e ∙ stage-agree c h (bitAt s) (y ∷ o) b (λ p l. sym (first-stage c h y o s e p l))
 
-answer-agree : (c : ℕ) (f g : ℕ → Bool) (o : List ℕ) → InLetters (6 + c) o → Agree (6 + c) f g → slotWords (2 ^ c) f o ≡ slotWords (2 ^ c) g o
+answer-agree : (c : ℕ) (f g : ℕ → Bool) (o : List ℕ) → InLetters (6 + c) o → Agree (6 + c) f g
+    → slotWords (2 ^ c) f o ≡ slotWords (2 ^ c) g o
 unfolding slotWords
 answer-agree c f g [] b e = refl
 answer-agree c f g (x ∷ o) b e =
     ap₂ _++_ (words-agree c _ _ (answerAt-agree (6 + c) f g x o b e))
     (answer-agree c (bothCases f x) (bothCases g x) o (rest-in (6 + c) x o b) (both-agree (6 + c) f g x (first-in (6 + c) x o b) e))
 
-pub answers-self : (c : ℕ) (h : ℕ → Bool) (o s : List ℕ) → InLetters (6 + c) o → s ≡ stageWords (2 ^ c) h o → slotWords (2 ^ c) (bitAt s) o ≡ slotWords (2 ^ c) h o
+pub answers-self : (c : ℕ) (h : ℕ → Bool) (o s : List ℕ) → InLetters (6 + c) o → s ≡ stageWords (2 ^ c) h o
+    → slotWords (2 ^ c) (bitAt s) o ≡ slotWords (2 ^ c) h o
 unfolding slotWords
 answers-self c h [] s b e = refl
 answers-self c h (y ∷ o) s b e = answer-agree c (bitAt s) h (y ∷ o) b (first-stage c h y o s e)
@@ -223,7 +244,8 @@ unfolding stageWords slotWords
 answers-none k s [] z e = e
 answers-none k s (x ∷ o) z e = absurd (omega arith)
 
-stages-tail : (c : ℕ) (g : ℕ → Bool) (x : ℕ) (o s : List ℕ) → s ≡ stageWords (2 ^ c) g (x ∷ o) → drop (2 ^ c) s ≡ stageWords (2 ^ c) (bothCases g x) o
+stages-tail : (c : ℕ) (g : ℕ → Bool) (x : ℕ) (o s : List ℕ) → s ≡ stageWords (2 ^ c) g (x ∷ o)
+    → drop (2 ^ c) s ≡ stageWords (2 ^ c) (bothCases g x) o
 unfolding stageWords
 stages-tail c g x o s e = ap (drop (2 ^ c)) e ∙ drop-at (wordsOf (2 ^ c) g) _ (2 ^ c) (length-words (2 ^ c) g)
 
@@ -231,7 +253,8 @@ pub rest-stages : (c k : ℕ) (o s : List ℕ) → k ≡ 2 ^ c → InLetters (6 
     → take (length s - k) (drop k s) ≡ stageWords (2 ^ c) (bitAt (take (length s - k) (drop k s))) (take (length o - 1) (drop 1 o))
 rest-stages c k [] s ek b l e = absurd (omega arith)
 rest-stages c k (x ∷ o) s ek b l e =
-    rw (rest-of k s, rest-of 1 (x ∷ o), ek) (stage-self c (bothCases (bitAt s) x) o (drop (2 ^ c) s) (rest-in (6 + c) x o b) (stages-tail c (bitAt s) x o s e))
+    rw (rest-of k s, rest-of 1 (x ∷ o), ek)
+    (stage-self c (bothCases (bitAt s) x) o (drop (2 ^ c) s) (rest-in (6 + c) x o b) (stages-tail c (bitAt s) x o s e))
 
 pub rest-once : (o : List ℕ) → noRepeats o ≡ true → noRepeats (take (length o - 1) (drop 1 o)) ≡ true
 rest-once o e = rw (rest-of 1 o) (go o e)
@@ -241,7 +264,8 @@ rest-once o e = rw (rest-of 1 o) (go o e)
     go (x ∷ o) e = no-rest x o e
 
 -- the slots behind the first answered, and then the first
-pub answers-more : (c k : ℕ) (o s ys s1 out : List ℕ) → k ≡ 2 ^ c → InLetters (6 + c) o → noRepeats o ≡ true → 1 ≤ length o → s ≡ stageWords (2 ^ c) (bitAt s) o
+pub answers-more : (c k : ℕ) (o s ys s1 out : List ℕ) → k ≡ 2 ^ c → InLetters (6 + c) o → noRepeats o ≡ true → 1 ≤ length o
+    → s ≡ stageWords (2 ^ c) (bitAt s) o
     → ys ≡ slotWords (2 ^ c) (bitAt (take (length s - k) (drop k s))) (take (length o - 1) (drop 1 o)) → s1 ≡ putMid k (length s - k) s ys
     → out ≡ wordsOf (2 ^ c) (putWords (2 ^ c) (drop (2 ^ c) s1) (drop 1 o) (λ p. bitAt s1 p ⊕ bit p (getD o 0 0))) ++ drop (2 ^ c) s1
     → out ≡ slotWords (2 ^ c) (bitAt s) o
@@ -257,7 +281,8 @@ answers-more c k (x ∷ o) s ys s1 out ek b once l e ey e1 eo =
     let whole : s1 ≡ take k s ++ ys = e1 ∙ rw (none, append-nil) in
     let tail : drop K s1 ≡ ys = ap (drop K) whole ∙ drop-at (take k s) ys K front in
     let answers : ys ≡ slotWords K (bothCases (bitAt s) x) o =
-    ey ∙ rw (rest-of k s, rest-of 1 (x ∷ o), ek) (answers-self c (bothCases (bitAt s) x) o (drop K s) (rest-in (6 + c) x o b) (stages-tail c (bitAt s) x o s e)) in
+    ey ∙ rw (rest-of k s, rest-of 1 (x ∷ o), ek)
+    (answers-self c (bothCases (bitAt s) x) o (drop K s) (rest-in (6 + c) x o b) (stages-tail c (bitAt s) x o s e)) in
     let same : Agree (6 + c) (bitAt s1) (bitAt s) = λ p h.
     (let m : p < 64 * K = omega (arith, points c) in
     let n : p < 64 * k = omega (arith, points c, ek) in
@@ -265,14 +290,16 @@ answers-more c k (x ∷ o) s ys s1 out ek b once l e ey e1 eo =
     eo ∙ ap₂ _++_
     (words-agree c _ _ (λ p h.
     put-answers c (bothCases (bitAt s) x) o (drop K s1) _ (rest-in (6 + c) x o b) (no-rest x o once) (tail ∙ answers) p h
-    ∙ ap₂ _⊕_ (same _ (answered-lt (6 + c) (bothCases (bitAt s) x) o p (rest-in (6 + c) x o b) h)) (answered-kept (bothCases (bitAt s) x) o p x (no-first x o once))))
+    ∙ ap₂ _⊕_ (same _ (answered-lt (6 + c) (bothCases (bitAt s) x) o p (rest-in (6 + c) x o b) h))
+    (answered-kept (bothCases (bitAt s) x) o p x (no-first x o once))))
     (tail ∙ answers)
 
 pub length-slots : (c : ℕ) (g : ℕ → Bool) (o : List ℕ) → length (slotWords (2 ^ c) g o) ≡ length o * 2 ^ c
 unfolding slotWords
 length-slots c g [] = sym (zero-mul (2 ^ c))
 length-slots c g (x ∷ o) =
-    length-append (wordsOf (2 ^ c) (answerAt g x o)) (slotWords (2 ^ c) (bothCases g x) o) ∙ ap₂ _+_ (length-words (2 ^ c) _) (length-slots c (bothCases g x) o) ∙ flip (length o) ∙ sym (suc-mul (length o) (2 ^ c))
+    length-append (wordsOf (2 ^ c) (answerAt g x o)) (slotWords (2 ^ c) (bothCases g x) o)
+    ∙ ap₂ _+_ (length-words (2 ^ c) _) (length-slots c (bothCases g x) o) ∙ flip (length o) ∙ sym (suc-mul (length o) (2 ^ c))
   where
     flip : (n : ℕ) → 2 ^ c + n * 2 ^ c ≡ n * 2 ^ c + 2 ^ c
     flip n = omega arith
@@ -305,7 +332,8 @@ place-rest o x h n = rw (rest-of 1 o) (go o h n)
         pick (inl e) = absurd (n (sym e))
         pick (inr e) = e
 
-pub place-later : (o : List ℕ) (x r : ℕ) → has x o ≡ true → getD o 0 0 ≢ x → r ≡ placeOf (take (length o - 1) (drop 1 o)) x → 1 + r ≡ placeOf o x
+pub place-later : (o : List ℕ) (x r : ℕ) → has x o ≡ true → getD o 0 0 ≢ x → r ≡ placeOf (take (length o - 1) (drop 1 o)) x
+    → 1 + r ≡ placeOf o x
 unfolding placeOf
 place-later [] x r h n e = absurd (omega (arith, some-place [] x h))
 place-later (y ∷ o) x r h n e = rw (ne-eqb x y (λ q. n (sym q))) (one r ∙ ap suc (e ∙ ap (λ (t : List ℕ). placeOf t x) (rest-of 1 (y ∷ o))))

@@ -40,7 +40,8 @@ point-below u g r l =
     let e : 2 ^ g * 2 ^ u ≡ 2 ^ (u + g) = sym (pow-add 2 g u) ∙ ap (λ (x : ℕ). 2 ^ x) (add-comm g u) in
     omega (arith, a, e, add-mul (r / 2 ^ u) 1 (2 ^ u), one-mul (2 ^ u), split r u, mod-lt r (pow-pos u))
 
-pub found-state : (u g r s end : ℕ) (f : List ℕ) → IgnoresUnknowns u (2 ^ (u + g - 6)) (bitAt f) → length f ≡ 2 ^ (u + g - 6) → First (64 * length f) (bitAt f) r → s ≡ r / 2 ^ u → end ≡ 2 ^ g → s < end
+pub found-state : (u g r s end : ℕ) (f : List ℕ) → IgnoresUnknowns u (2 ^ (u + g - 6)) (bitAt f) → length f ≡ 2 ^ (u + g - 6)
+    → First (64 * length f) (bitAt f) r → s ≡ r / 2 ^ u → end ≡ 2 ^ g → s < end
     → s ≡ smallestBelow (2 ^ g) (λ s. bitAt f (s * 2 ^ u))
 unfolding zeroChoice
 found-state u g r s end f same size first es ee l =
@@ -49,9 +50,11 @@ found-state u g r s end f same size first es ee l =
     first-found (2 ^ g) (λ s. bitAt f (s * 2 ^ u)) s (omega arith) (λ m h. first .zeros (m * 2 ^ u) (below-first u m r (omega arith)))
     (ap (λ (x : ℕ). bitAt f (x * 2 ^ u)) es ∙ sym (same r inside) ∙ first .one (omega (arith, size)))
 
-pub no-state : (u g r s end : ℕ) (f : List ℕ) → First (64 * length f) (bitAt f) r → s ≡ r / 2 ^ u → end ≡ 2 ^ g → end ≤ s → end ≡ smallestBelow (2 ^ g) (λ s. bitAt f (s * 2 ^ u))
+pub no-state : (u g r s end : ℕ) (f : List ℕ) → First (64 * length f) (bitAt f) r → s ≡ r / 2 ^ u → end ≡ 2 ^ g → end ≤ s
+    → end ≡ smallestBelow (2 ^ g) (λ s. bitAt f (s * 2 ^ u))
 no-state u g r s end f first es ee l =
-    first-none (2 ^ g) (λ s. bitAt f (s * 2 ^ u)) end (omega arith) (omega arith) (λ m h. first .zeros (m * 2 ^ u) (below-first u m r (omega arith)))
+    first-none (2 ^ g) (λ s. bitAt f (s * 2 ^ u)) end (omega arith) (omega arith)
+    (λ m h. first .zeros (m * 2 ^ u) (below-first u m r (omega arith)))
 
 -- ---- solving on words
 pub order-letters : (u g c : ℕ) (o : List ℕ) → IsOrder u o → c ≡ u + g - 6 → InLetters (6 + c) o
@@ -66,13 +69,17 @@ same-slots a b m t e h = e ∙ ap (λ (x : ℕ). m * 2 ^ x) (sym h)
 pub own-stages : (c : ℕ) (f o s : List ℕ) → InLetters (6 + c) o → s ≡ stageWords (2 ^ c) (bitAt f) o → s ≡ stageWords (2 ^ c) (bitAt s) o
 own-stages c f o s b e = stage-self c (bitAt f) o s b e
 
-pub state-remains : (u g c r : ℕ) (f f1 o : List ℕ) → c ≡ u + g - 6 → f1 ≡ wordsOf (2 ^ c) (remainsThrough (bitAt f) o) → r ≡ smallestBelow (2 ^ g) (λ s. bitAt f1 (s * 2 ^ u))
+pub state-remains : (u g c r : ℕ) (f f1 o : List ℕ) → c ≡ u + g - 6 → f1 ≡ wordsOf (2 ^ c) (remainsThrough (bitAt f) o)
+    → r ≡ smallestBelow (2 ^ g) (λ s. bitAt f1 (s * 2 ^ u))
     → r ≡ smallestBelow (2 ^ g) (λ s. remainsThrough (bitAt f) o (s * 2 ^ u))
 state-remains u g c r f f1 o ec e1 er =
-    er ∙ smallest-cong (2 ^ g) _ _ (λ s l. at-known (2 ^ c) _ f1 e1 (s * 2 ^ u) (omega (arith, state-room u g s (2 ^ u) l refl, room (u + g), ap (λ (x : ℕ). 2 ^ x) ec)))
+    er ∙ smallest-cong (2 ^ g) _ _
+    (λ s l. at-known (2 ^ c) _ f1 e1 (s * 2 ^ u)
+    (omega (arith, state-room u g s (2 ^ u) l refl, room (u + g), ap (λ (x : ℕ). 2 ^ x) ec)))
 
 -- what remains turns on the letters outside the order alone
-pub remains-ignores : (u g c : ℕ) (f f1 o : List ℕ) → IsOrder u o → c ≡ u + g - 6 → f1 ≡ wordsOf (2 ^ c) (remainsThrough (bitAt f) o) → IgnoresUnknowns u (2 ^ (u + g - 6)) (bitAt f1)
+pub remains-ignores : (u g c : ℕ) (f f1 o : List ℕ) → IsOrder u o → c ≡ u + g - 6 → f1 ≡ wordsOf (2 ^ c) (remainsThrough (bitAt f) o)
+    → IgnoresUnknowns u (2 ^ (u + g - 6)) (bitAt f1)
 unfolding zeroChoice
 remains-ignores u g c f f1 o is ec e1 p l =
     let q : ℕ = p / 2 ^ u * 2 ^ u in
@@ -83,14 +90,17 @@ remains-ignores u g c f f1 o is ec e1 p l =
     (λ j h out. bit-above u j p q (ltb-false j u (sym (is j) ∙ out)) (sym (shl-shr (p / 2 ^ u) u)))
     ∙ sym (at-known (2 ^ c) _ f1 e1 q n)
 
-pub slots-answered : (u g c : ℕ) (f o s1 s2 : List ℕ) → c ≡ u + g - 6 → InLetters (6 + c) o → s1 ≡ stageWords (2 ^ c) (bitAt f) o → s2 ≡ slotWords (2 ^ c) (bitAt s1) o
+pub slots-answered : (u g c : ℕ) (f o s1 s2 : List ℕ) → c ≡ u + g - 6 → InLetters (6 + c) o → s1 ≡ stageWords (2 ^ c) (bitAt f) o
+    → s2 ≡ slotWords (2 ^ c) (bitAt s1) o
     → s2 ≡ slotWords (2 ^ (u + g - 6)) (bitAt f) o
 slots-answered u g c f o s1 s2 ec b e1 e2 =
     e2 ∙ answers-self c (bitAt f) o s1 b e1 ∙ ap (λ (x : ℕ). slotWords (2 ^ x) (bitAt f) o) ec
 
 -- the answers by unknown, from the slots
-pub answers-arranged : (u m c : ℕ) (f o slots answers : List ℕ) → IsOrder u o → noRepeats o ≡ true → c ≡ m → slots ≡ slotWords (2 ^ m) (bitAt f) o
-    → answers ≡ listed (u * 2 ^ c) (slotWord (2 ^ c) o slots) → answers ≡ answerWords u (2 ^ m) (λ x p. bit (answeredThrough (bitAt f) o p) x)
+pub answers-arranged : (u m c : ℕ) (f o slots answers : List ℕ) → IsOrder u o → noRepeats o ≡ true → c ≡ m
+    → slots ≡ slotWords (2 ^ m) (bitAt f) o
+    → answers ≡ listed (u * 2 ^ c) (slotWord (2 ^ c) o slots)
+    → answers ≡ answerWords u (2 ^ m) (λ x p. bit (answeredThrough (bitAt f) o p) x)
 answers-arranged u m c f o slots answers is once ec es ea =
     let pos : 0 < 2 ^ m = pow-pos m in
     ea ∙ ap (λ (x : ℕ). listed (u * 2 ^ x) (slotWord (2 ^ x) o slots)) ec ∙ arranged u (2 ^ m) (bitAt f) o slots is once pos es

@@ -39,7 +39,8 @@ answer-bytes j (m ∷ ms) = omega (arith, answer-bytes j ms)
 -- the condition's records
 pub condition-most : (c : Condition) → length (bytes (conditionRecords c)) ≤ 3 * 2 ^ width c
 unfolding conditionRecords
-condition-most c = omega (arith, condition-bytes (monomials (width c) (present (c .table))), length-monomials (width c) (present (c .table)))
+condition-most c =
+    omega (arith, condition-bytes (monomials (width c) (present (c .table))), length-monomials (width c) (present (c .table)))
 
 -- the answers' records
 pub answers-most : (j n : ℕ) (a : List ℕ) → length (bytes (answerRecords j n a)) ≤ j * (4 * 2 ^ n)
@@ -47,7 +48,8 @@ unfolding answerRecords bytes
 answers-most zero n a = omega arith
 answers-most (suc j) n a =
     let e : length (bytes (answerRecords (suc j) n a)) ≡ length (bytes (answerRecords j n a)) + 4 * length (monomials n (held n a j)) =
-    length-bytes (answerRecords j n a) (map (answerRecord j) (monomials n (held n a j))) ∙ ap (λ (k : ℕ). length (bytes (answerRecords j n a)) + k) (answer-bytes j (monomials n (held n a j))) in
+    length-bytes (answerRecords j n a) (map (answerRecord j) (monomials n (held n a j)))
+    ∙ ap (λ (k : ℕ). length (bytes (answerRecords j n a)) + k) (answer-bytes j (monomials n (held n a j))) in
     let ih : length (bytes (answerRecords j n a)) ≤ j * (4 * 2 ^ n) = answers-most j n a in
     omega (arith, length-monomials n (held n a j), suc-mul j (4 * 2 ^ n))
 
@@ -64,7 +66,8 @@ module _ (U n : ℕ) (hu : U ≤ 6) (hn : n ≤ 10) where
       omega (arith, answers-most U n a)
   verdict-most (none state) = omega arith
 
-pub entry-most : (route : ℕ) (c : Condition) (v : Verdict (List ℕ)) → c .U ≤ 6 → width c ≤ 10 → length (bytes (entryRecords route c v)) ≤ 27654
+pub entry-most : (route : ℕ) (c : Condition) (v : Verdict (List ℕ)) → c .U ≤ 6 → width c ≤ 10
+    → length (bytes (entryRecords route c v)) ≤ 27654
 unfolding entryRecords bytes fields bodyOf lowFirst
 entry-most route c v hu hn =
     let told : List Record = verdictRecords (c .U) (width c) v in

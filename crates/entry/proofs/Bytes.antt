@@ -11,11 +11,13 @@ use Rattle.entry.specs.Held.{next, untilEnd, firstRecords, records}
 use Rattle.entry.proofs.Records.{next-front}
 
 -- bytes in two parts, the second behind the first
-joined : (r rest bs : List ℕ) → r ≡ take (length r) bs → rest ≡ take (length rest) (drop (length r) bs) → r ++ rest ≡ take (length (r ++ rest)) bs
+joined : (r rest bs : List ℕ) → r ≡ take (length r) bs → rest ≡ take (length rest) (drop (length r) bs)
+    → r ++ rest ≡ take (length (r ++ rest)) bs
 joined r rest bs e f = rw (length-append r rest, take-add (length r) (length rest) bs, ← e, ← f)
 
 -- those of a record and the ones behind it
-until-bytes : (r : Record) (rs : List Record) (bs : List ℕ) → r ≡ take (length r) bs → bytes rs ≡ take (length (bytes rs)) (drop (length r) bs)
+until-bytes : (r : Record) (rs : List Record) (bs : List ℕ) → r ≡ take (length r) bs
+    → bytes rs ≡ take (length (bytes rs)) (drop (length r) bs)
     → bytes (untilEnd r rs) ≡ take (length (bytes (untilEnd r rs))) bs
 unfolding bytes untilEnd
 until-bytes [] rs bs e f = refl

@@ -99,7 +99,8 @@ module _ (r : Record) (rs : List Record) (c : endsThere (r ∷ rs) ≡ true) whe
   nothing-behind e = empty-is rs (rw e at c)
 
 -- the start, the end and a kind 5 are made from what they say
-start-again : (r : Record) → IsMade r → kind r ≡ 1 → r ≡ startRecord (valueOf routeField r) (valueOf unknownsField r) (valueOf givensField r)
+start-again : (r : Record) → IsMade r → kind r ≡ 1
+    → r ≡ startRecord (valueOf routeField r) (valueOf unknownsField r) (valueOf givensField r)
 unfolding fields valueOf valueIn valuesIn
 start-again r w k = of-kind 1 r w k ∙ rw k
 
@@ -154,7 +155,8 @@ stands p k h = go (or-cases (eqb k 4) _ (in-row (getD followers p []) k (rows-st
     go (inr e) = further (or-cases (eqb k 5) (among maskField (fields k)) e)
 
 -- only kind 3 names an unknown, and no kind with a monomial is an end or a kind 5
-implied : (test : ℕ → Bool) (k : ℕ) → (not (among maskField (fields k)) || test k) ≡ true → among maskField (fields k) ≡ true → test k ≡ true
+implied : (test : ℕ → Bool) (k : ℕ) → (not (among maskField (fields k)) || test k) ≡ true → among maskField (fields k) ≡ true
+    → test k ≡ true
 implied test k e h = rw h at e
 
 monomial-kind : (k : ℕ) → among maskField (fields k) ≡ true → (eqb k 4 ≡ false) × (eqb k 5 ≡ false)
@@ -169,11 +171,14 @@ monomial-kind k h = (no 4 refl, no 5 refl)
     flip false e = refl
 
     no : (x : ℕ) → everyBelow 6 (λ i. not (among maskField (fields i)) || not (eqb i x)) ≡ true → eqb k x ≡ false
-    no x e = flip (eqb k x) (implied (λ i. not (eqb i x)) k (every-kind (λ i. not (among maskField (fields i)) || not (eqb i x)) e k some) h)
+    no x e =
+        flip (eqb k x) (implied (λ i. not (eqb i x)) k (every-kind (λ i. not (among maskField (fields i)) || not (eqb i x)) e k some) h)
 
 unknown-kind : (k : ℕ) → among unknownField (fields k) ≡ true → k ≡ 3
 unfolding among fields everyBelow
-unknown-kind k h = eqb-true k 3 (rw h at (every-kind (λ i. not (among unknownField (fields i)) || eqb i 3) refl k (λ e. never h (ap (among unknownField) e))))
+unknown-kind k h =
+    eqb-true k 3 (rw h at
+    (every-kind (λ i. not (among unknownField (fields i)) || eqb i 3) refl k (λ e. never h (ap (among unknownField) e))))
 
 -- ---- kind 5 or not
 -- a kind 5, or none
@@ -188,7 +193,8 @@ module _ {A : Type 0} (a : A) where
   unless-cases (r ∷ rs) = go (bool-cases (isNone r)) (unless-cases rs)
     where
       go : (isNone r ≡ true) ⊎ (isNone r ≡ false) → (unlessNone a rs ≡ solved a) ⊎ ((state : State) × (unlessNone a rs ≡ none state))
-          → (cond (isNone r) (none (record { 0 = valueOf stateField r })) (unlessNone a rs) ≡ solved a) ⊎ ((state : State) × (cond (isNone r) (none (record { 0 = valueOf stateField r })) (unlessNone a rs) ≡ none state))
+          → (cond (isNone r) (none (record { 0 = valueOf stateField r })) (unlessNone a rs) ≡ solved a) ⊎
+          ((state : State) × (cond (isNone r) (none (record { 0 = valueOf stateField r })) (unlessNone a rs) ≡ none state))
       go (inl e) ih = inr (record { 0 = valueOf stateField r }, rw e)
       go (inr e) (inl f) = inl (rw e f)
       go (inr e) (inr f) = inr (f .0, rw e (f .1))
@@ -198,7 +204,8 @@ module _ {A : Type 0} (a : A) where
 
   -- ---- the shape that question 11 leaves
   -- behind a kind 5 stands the end
-  behind-none : (route : ℕ) (rs : List Record) → AllMade rs → kindsFollow 5 route rs ≡ true → endsThere rs ≡ true → rs ≡ endRecord route ∷ []
+  behind-none : (route : ℕ) (rs : List Record) → AllMade rs → kindsFollow 5 route rs ≡ true → endsThere rs ≡ true
+      → rs ≡ endRecord route ∷ []
   unfolding kindsFollow mayFollow has AllMade
   behind-none route [] w o c = never o refl
   behind-none route (r ∷ rs) w o c =
@@ -241,15 +248,18 @@ module _ {A : Type 0} (a : A) where
       behind zero e n ih m = never m refl
       behind (suc q) e n ih m = ih q (ap (λ (x : ℕ). kindsFollow x route rs) (sym e) ∙ kinds-on (suc p) route r rs o n) (ends-on r rs c n)
 
-      go : (k : ℕ) → kind r ≡ k → ((q : ℕ) → kindsFollow (suc q) route rs ≡ true → endsThere rs ≡ true → Shape rs) → Stands (kind r) → Shape (r ∷ rs)
+      go : (k : ℕ) → kind r ≡ k → ((q : ℕ) → kindsFollow (suc q) route rs ≡ true → endsThere rs ≡ true → Shape rs) → Stands (kind r)
+          → Shape (r ∷ rs)
       go k e ih (an-end q) =
           let end : isEnd r ≡ true = rw q in
           ap (λ (l : List Record). r ∷ l) (nothing-behind r rs c end) ∙ end-shape route r (w .0) q (same-route (suc p) route r rs o end)
-          ∙ ap (λ (l : List Record). onlyMonomials (r ∷ l) ++ (noneRecords (unlessNone a (r ∷ l)) ++ (endRecord route ∷ []))) (sym (nothing-behind r rs c end))
+          ∙ ap (λ (l : List Record). onlyMonomials (r ∷ l) ++ (noneRecords (unlessNone a (r ∷ l)) ++ (endRecord route ∷ [])))
+          (sym (nothing-behind r rs c end))
       go k e ih (a-none q) =
           let n : isEnd r ≡ false = rw q in
           let b : rs ≡ endRecord route ∷ [] =
-          behind-none route rs (w .1) (ap (λ (x : ℕ). kindsFollow x route rs) (sym q) ∙ kinds-on (suc p) route r rs o n) (ends-on r rs c n) in
+          behind-none route rs (w .1) (ap (λ (x : ℕ). kindsFollow x route rs) (sym q) ∙ kinds-on (suc p) route r rs o n)
+          (ends-on r rs c n) in
           ap (λ (l : List Record). r ∷ l) b ∙ none-shape route r (w .0) q
           ∙ ap (λ (l : List Record). onlyMonomials (r ∷ l) ++ (noneRecords (unlessNone a (r ∷ l)) ++ (endRecord route ∷ []))) (sym b)
       go k e ih (a-monomial m) =
@@ -262,7 +272,8 @@ module _ {A : Type 0} (a : A) where
   behind-answer route [] o c = refl
   behind-answer route (r ∷ rs) o c = go (behind-answer route rs) (or-cases (eqb (kind r) 3) (eqb (kind r) 4 || false) (may 3 route r rs o))
     where
-      go : (kindsFollow 3 route rs ≡ true → endsThere rs ≡ true → unlessNone a rs ≡ solved a) → (eqb (kind r) 3 ≡ true) ⊎ ((eqb (kind r) 4 || false) ≡ true)
+      go : (kindsFollow 3 route rs ≡ true → endsThere rs ≡ true → unlessNone a rs ≡ solved a)
+          → (eqb (kind r) 3 ≡ true) ⊎ ((eqb (kind r) 4 || false) ≡ true)
           → cond (isNone r) (none (record { 0 = valueOf stateField r })) (unlessNone a rs) ≡ solved a
       go ih (inl e) =
           let k : kind r ≡ 3 = eqb-true _ _ e in
@@ -278,12 +289,14 @@ module _ {A : Type 0} (a : A) where
   unfolding hasMonomial kind fields among
   no-monomials i m route = refl
 
-  none-alone : (p route j m : ℕ) (state : State) (rs : List Record) → AllMade rs → kindsFollow p route rs ≡ true → endsThere rs ≡ true → unlessNone a rs ≡ none state
+  none-alone : (p route j m : ℕ) (state : State) (rs : List Record) → AllMade rs → kindsFollow p route rs ≡ true → endsThere rs ≡ true
+      → unlessNone a rs ≡ none state
       → hasMonomial (suc j) m rs ≡ false
   unfolding unlessNone hasMonomial AllMade among fields
   none-alone p route j m s [] w o c e = refl
   none-alone p route j m s (r ∷ rs) w o c e =
-      go (bool-cases (isEnd r)) (bool-cases (isNone r)) (bool-cases (among unknownField (fields (kind r)))) (none-alone (kind r) route j m s rs (w .1))
+      go (bool-cases (isEnd r)) (bool-cases (isNone r)) (bool-cases (among unknownField (fields (kind r))))
+      (none-alone (kind r) route j m s rs (w .1))
     where
       go : (isEnd r ≡ true) ⊎ (isEnd r ≡ false) → (isNone r ≡ true) ⊎ (isNone r ≡ false)
           → (among unknownField (fields (kind r)) ≡ true) ⊎ (among unknownField (fields (kind r)) ≡ false)
@@ -297,13 +310,17 @@ module _ {A : Type 0} (a : A) where
           rw (k, b) (no-monomials (suc j) m route)
       go (inr f) (inr n) (inl u) ih =
           let k : kind r ≡ 3 = unknown-kind (kind r) u in
-          let b : unlessNone a rs ≡ solved a = behind-answer route rs (ap (λ (x : ℕ). kindsFollow x route rs) (sym k) ∙ kinds-on p route r rs o f) (ends-on r rs c f) in
+          let b : unlessNone a rs
+          ≡ solved a =
+          behind-answer route rs (ap (λ (x : ℕ). kindsFollow x route rs) (sym k) ∙ kinds-on p route r rs o f) (ends-on r rs c f) in
           clash (sym b ∙ (rw n at e))
       go (inr f) (inr n) (inr u) ih =
-          rw (u, ne-eqb (suc j) 0 (λ (z : suc j ≡ 0). absurd (omega arith)), and-false (isMonomial r)) (ih (kinds-on p route r rs o f) (ends-on r rs c f) (rw n at e))
+          rw (u, ne-eqb (suc j) 0 (λ (z : suc j ≡ 0). absurd (omega arith)), and-false (isMonomial r))
+          (ih (kinds-on p route r rs o f) (ends-on r rs c f) (rw n at e))
 
   -- the state is in bounds
-  state-bounds : (U G q : ℕ) (state : State) (rs : List Record) → fitsBehind U G q rs ≡ true → unlessNone a rs ≡ none state → state .0 < 2 ^ G
+  state-bounds : (U G q : ℕ) (state : State) (rs : List Record) → fitsBehind U G q rs ≡ true → unlessNone a rs ≡ none state
+      → state .0 < 2 ^ G
   unfolding unlessNone among fields
   state-bounds U G q s [] f e = clash e
   state-bounds U G q s (r ∷ rs) f e = go (bool-cases (isNone r)) (state-bounds U G _ s rs (fits-rest U G q r rs f))
@@ -324,7 +341,8 @@ starts route [] w o = never o refl
 starts route (r ∷ rs) w o = (rs, w .1, ap (λ (x : Record). x ∷ rs) (start-again r (w .0) (eqb-true _ _ (may 0 route r rs o))))
 
 -- ---- the entry of what some records hold
-module _ (rs : List Record) (w : AllMade rs) (k : kindsFit rs ≡ true) (c : endsThere rs ≡ true) (l : unknownsOf rs + givensOf rs ≤ 10) (f : numbersFit rs ≡ true) where
+module _ (rs : List Record) (w : AllMade rs) (k : kindsFit rs ≡ true) (c : endsThere rs ≡ true) (l : unknownsOf rs + givensOf rs ≤ 10)
+    (f : numbersFit rs ≡ true) where
   abbrev U : ℕ
   U = unknownsOf rs
 
@@ -369,8 +387,10 @@ module _ (rs : List Record) (w : AllMade rs) (k : kindsFit rs ≡ true) (c : end
   unfolding answersIn
   answer-table j m = go (bool-cases (ltb j U))
     where
-      go : (ltb j U ≡ true) ⊎ (ltb j U ≡ false) → (ltb j U && has m (monomials (U + G) (held (U + G) answered j))) ≡ hasMonomial (suc j) m rs
-      go (inl h) = rw h (one-table (suc j) m (held (U + G) answered j) (λ b. held-answerTable U (U + G) (answersIn rs) j m (ltb-true _ _ h) b))
+      go : (ltb j U ≡ true) ⊎ (ltb j U ≡ false)
+          → (ltb j U && has m (monomials (U + G) (held (U + G) answered j))) ≡ hasMonomial (suc j) m rs
+      go (inl h) =
+          rw h (one-table (suc j) m (held (U + G) answered j) (λ b. held-answerTable U (U + G) (answersIn rs) j m (ltb-true _ _ h) b))
       go (inr h) = rw h (sym (absent (suc j) m (λ w. many (w .0))))
         where
           many : suc j ≤ U → ⊥
@@ -380,7 +400,8 @@ module _ (rs : List Record) (w : AllMade rs) (k : kindsFit rs ≡ true) (c : end
   unfolding heldVerdict verdictRecords hasMonomial kindsFit among fields kind
   verdict-table j m = go (unless-cases answered rs)
     where
-      go : (unlessNone answered rs ≡ solved answered) ⊎ ((state : State) × (unlessNone answered rs ≡ none state)) → hasMonomial (suc j) m (verdictRecords U (U + G) (unlessNone answered rs)) ≡ hasMonomial (suc j) m rs
+      go : (unlessNone answered rs ≡ solved answered) ⊎ ((state : State) × (unlessNone answered rs ≡ none state))
+          → hasMonomial (suc j) m (verdictRecords U (U + G) (unlessNone answered rs)) ≡ hasMonomial (suc j) m rs
       go (inl e) = rw e (answers-monomials U (U + G) j m answered ∙ answer-table j m)
       go (inr e) = rw (e .1) (sym (none-alone answered 0 (routeOf rs) j m (e .0) rs w k c (e .1)))
 
@@ -388,8 +409,11 @@ module _ (rs : List Record) (w : AllMade rs) (k : kindsFit rs ≡ true) (c : end
   unfolding heldCondition
   same-monomials i m = entry-monomials (routeOf rs) (heldCondition rs) (heldVerdict rs) i m ∙ go i
     where
-      go : (i : ℕ) → ((eqb i 0 && has m (monomials (U + G) (present (heldCondition rs .table)))) || hasMonomial i m (verdictRecords U (U + G) (heldVerdict rs))) ≡ hasMonomial i m rs
-      go zero = rw (verdict-no-condition (routeOf rs) (heldCondition rs) (heldVerdict rs) m (heldVerdict rs)) (or-false (has m (monomials (U + G) (present (heldCondition rs .table)))) ∙ condition-table m)
+      go : (i : ℕ) → ((eqb i 0 && has m (monomials (U + G) (present (heldCondition rs .table)))) || hasMonomial i m
+          (verdictRecords U (U + G) (heldVerdict rs))) ≡ hasMonomial i m rs
+      go zero =
+          rw (verdict-no-condition (routeOf rs) (heldCondition rs) (heldVerdict rs) m (heldVerdict rs))
+          (or-false (has m (monomials (U + G) (present (heldCondition rs .table)))) ∙ condition-table m)
       go (suc j) = rw (ne-eqb (suc j) 0 (λ (z : suc j ≡ 0). absurd (omega arith))) (verdict-table j m)
 
   -- ---- the same verdict
@@ -397,7 +421,8 @@ module _ (rs : List Record) (w : AllMade rs) (k : kindsFit rs ≡ true) (c : end
   unfolding heldVerdict
   held-fits = go (unless-cases answered rs)
     where
-      go : (unlessNone answered rs ≡ solved answered) ⊎ ((state : State) × (unlessNone answered rs ≡ none state)) → VerdictFits U G (unlessNone answered rs)
+      go : (unlessNone answered rs ≡ solved answered) ⊎ ((state : State) × (unlessNone answered rs ≡ none state))
+          → VerdictFits U G (unlessNone answered rs)
       go (inl e) = rw e (answers-fit U G (answersIn rs))
       go (inr e) = rw (e .1) (state-bounds answered U G 0 (e .0) rs places (e .1))
 
@@ -405,14 +430,17 @@ module _ (rs : List Record) (w : AllMade rs) (k : kindsFit rs ≡ true) (c : end
   unfolding heldVerdict
   same-verdict = go (unless-cases answered rs)
     where
-      go : (unlessNone answered rs ≡ solved answered) ⊎ ((state : State) × (unlessNone answered rs ≡ none state)) → unlessNone answered (entryRecords (routeOf rs) (heldCondition rs) (unlessNone answered rs)) ≡ unlessNone answered rs
+      go : (unlessNone answered rs ≡ solved answered) ⊎ ((state : State) × (unlessNone answered rs ≡ none state))
+          → unlessNone answered (entryRecords (routeOf rs) (heldCondition rs) (unlessNone answered rs)) ≡ unlessNone answered rs
       go (inl e) = rw e (solved-unless answered (routeOf rs) (heldCondition rs) answered)
       go (inr e) = rw (e .1) (none-unless answered (routeOf rs) (heldCondition rs) (e .0))
 
   -- ---- the monomials of both rise, and so are the same in the same order
-  rise : (ss : List Record) → AllMade ss → kindsFollow 1 (routeOf rs) ss ≡ true → endsThere ss ≡ true → fitsBehind U G 0 ss ≡ true → fitsBehind U G 0 (onlyMonomials ss) ≡ true
+  rise : (ss : List Record) → AllMade ss → kindsFollow 1 (routeOf rs) ss ≡ true → endsThere ss ≡ true → fitsBehind U G 0 ss ≡ true
+      → fitsBehind U G 0 (onlyMonomials ss) ≡ true
   rise ss w o e p =
-      let q : ss ≡ onlyMonomials ss ++ (noneRecords (unlessNone answered ss) ++ (endRecord (routeOf rs) ∷ [])) = shape answered 0 (routeOf rs) ss w o e in
+      let q : ss ≡ onlyMonomials ss
+      ++ (noneRecords (unlessNone answered ss) ++ (endRecord (routeOf rs) ∷ [])) = shape answered 0 (routeOf rs) ss w o e in
       fits-front U G 0 (onlyMonomials ss) (noneRecords (unlessNone answered ss) ++ (endRecord (routeOf rs) ∷ [])) (rw q at p)
 
   pub canonical : rs ≡ entryRecords (routeOf rs) (heldCondition rs) (heldVerdict rs)
@@ -442,7 +470,8 @@ module _ (rs : List Record) (w : AllMade rs) (k : kindsFit rs ≡ true) (c : end
           let cs : endsThere ss ≡ true = sym (ap endsThere e) ∙ c in
           let ps : fitsBehind U G 0 ss ≡ true = sym (ap (fitsBehind U G 0) e) ∙ places in
           let em : onlyMonomials ss ≡ onlyMonomials tail =
-          rising-unique U G 0 0 (onlyMonomials ss) (onlyMonomials tail) (only-made ss ws) (only-made tail made) (only-all ss) (only-all tail)
+          rising-unique U G 0 0 (onlyMonomials ss) (onlyMonomials tail) (only-made ss ws) (only-made tail made) (only-all ss)
+          (only-all tail)
           (rise ss ws os cs ps) (rise tail made kinds ends fits)
           (λ i m. only-has i m ss ∙ sym (ap (hasMonomial i m) e) ∙ sym (same-monomials i m) ∙ sym (only-has i m tail)) in
           let ev : unlessNone answered ss ≡ unlessNone answered tail = sym (ap (unlessNone answered) e) ∙ sym same-verdict in

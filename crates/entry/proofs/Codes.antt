@@ -49,7 +49,8 @@ module _ (code : ℕ) where
       go zero n = absurd (n refl)
       go (suc j) n = let d : suc j - 1 ≡ j = omega arith in rw d
 
-of-tagged : (i : ℕ) (ms : List ℕ) → ((m : ℕ) → has m ms ≡ true → m < 1024) → map listedRecord (tagged (1024 * i) ms) ≡ map (monomialRecord i) ms
+of-tagged : (i : ℕ) (ms : List ℕ) → ((m : ℕ) → has m ms ≡ true → m < 1024)
+    → map listedRecord (tagged (1024 * i) ms) ≡ map (monomialRecord i) ms
 unfolding tagged
 of-tagged i [] h = refl
 of-tagged i (m ∷ ms) h =
@@ -92,7 +93,8 @@ each-next f xs p l = rw (add-one, take-suc xs p 0 l, each-append f (take p xs) (
 
 each-most : (f : ℕ → List ℕ) (xs : List ℕ) (p : ℕ) → length (each f (take p xs)) ≤ length (each f xs)
 each-most f xs p =
-    let e : each f xs ≡ each f (take p xs) ++ each f (drop p xs) = ap (each f) (sym (take-append-drop p xs)) ∙ each-append f (take p xs) (drop p xs) in
+    let e : each f xs ≡ each f (take p xs) ++ each f (drop p xs) = ap (each f) (sym (take-append-drop p xs))
+    ∙ each-append f (take p xs) (drop p xs) in
     omega (arith, ap length e, length-append (each f (take p xs)) (each f (drop p xs)))
 
 -- what such a loop keeps: the parts of the first p numbers are put
@@ -102,7 +104,8 @@ pub record Putting (f : ℕ → List ℕ) (xs old : List ℕ) (from p at : ℕ) 
   pub room : from + length (each f xs) ≤ length old
   pub put : Put old from (each f (take p xs)) at new
 
-pub putting-start : (f : ℕ → List ℕ) (xs old : List ℕ) (from : ℕ) → from + length (each f xs) ≤ length old → Putting f xs old from 0 from old
+pub putting-start : (f : ℕ → List ℕ) (xs old : List ℕ) (from : ℕ) → from + length (each f xs) ≤ length old
+    → Putting f xs old from 0 from old
 unfolding each
 putting-start f xs old from r = record { turn = omega arith; long = refl; room = r; put = put-none old from (omega arith) }
 

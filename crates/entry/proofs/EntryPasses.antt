@@ -58,7 +58,8 @@ late-follows p k (inr e) (inl h) = rw (e, h)
 late-follows p k (inr e) (inr h) = rw (e, h)
 
 -- a record that is no end, and those behind it
-kinds-on : (p again : ℕ) (r : Record) (rs : List Record) → mayFollow p (kind r) ≡ true → isEnd r ≡ false → kindsFollow (kind r) again rs ≡ true → kindsFollow p again (r ∷ rs) ≡ true
+kinds-on : (p again : ℕ) (r : Record) (rs : List Record) → mayFollow p (kind r) ≡ true → isEnd r ≡ false
+    → kindsFollow (kind r) again rs ≡ true → kindsFollow p again (r ∷ rs) ≡ true
 unfolding kindsFollow
 kinds-on p again r rs m e k = both m (rw e k)
 
@@ -68,28 +69,36 @@ unfolding kindsFollow kind fields given
 end-kind p route h = both h (eq-eqb _ route (made-value 4 (route ∷ []) refl routeField))
 
 module _ (route : ℕ) (rest : List Record) where
-  condition-kinds : (p : ℕ) (ms : List ℕ) → BeforeAnswers p → ((q : ℕ) → BeforeAnswers q → kindsFollow q route rest ≡ true) → kindsFollow p route (map conditionRecord ms ++ rest) ≡ true
+  condition-kinds : (p : ℕ) (ms : List ℕ) → BeforeAnswers p → ((q : ℕ) → BeforeAnswers q → kindsFollow q route rest ≡ true)
+      → kindsFollow p route (map conditionRecord ms ++ rest) ≡ true
   unfolding kind has
   condition-kinds p [] h k = k p h
   condition-kinds p (m ∷ ms) h k =
-      kinds-on p route (conditionRecord m) (map conditionRecord ms ++ rest) (early-follows p 2 h refl) refl (condition-kinds 2 ms (inr refl) k)
+      kinds-on p route (conditionRecord m) (map conditionRecord ms ++ rest) (early-follows p 2 h refl) refl
+      (condition-kinds 2 ms (inr refl) k)
 
-  answer-kinds : (j p : ℕ) (ms : List ℕ) → BeforeEnd p → ((q : ℕ) → BeforeEnd q → kindsFollow q route rest ≡ true) → kindsFollow p route (map (answerRecord j) ms ++ rest) ≡ true
+  answer-kinds : (j p : ℕ) (ms : List ℕ) → BeforeEnd p → ((q : ℕ) → BeforeEnd q → kindsFollow q route rest ≡ true)
+      → kindsFollow p route (map (answerRecord j) ms ++ rest) ≡ true
   unfolding kind
   answer-kinds j p [] h k = k p h
   answer-kinds j p (m ∷ ms) h k =
-      kinds-on p route (answerRecord j m) (map (answerRecord j) ms ++ rest) (late-follows p 3 h (inl refl)) refl (answer-kinds j 3 ms (inr refl) k)
+      kinds-on p route (answerRecord j m) (map (answerRecord j) ms ++ rest) (late-follows p 3 h (inl refl)) refl
+      (answer-kinds j 3 ms (inr refl) k)
 
-answers-kinds : (j n p route : ℕ) (a : List ℕ) (rest : List Record) → BeforeEnd p → ((q : ℕ) → BeforeEnd q → kindsFollow q route rest ≡ true) → kindsFollow p route (answerRecords j n a ++ rest) ≡ true
+answers-kinds : (j n p route : ℕ) (a : List ℕ) (rest : List Record) → BeforeEnd p
+    → ((q : ℕ) → BeforeEnd q → kindsFollow q route rest ≡ true) → kindsFollow p route (answerRecords j n a ++ rest) ≡ true
 unfolding answerRecords
 answers-kinds zero n p route a rest h k = k p h
 answers-kinds (suc j) n p route a rest h k =
     rw (append-assoc (answerRecords j n a) (map (answerRecord j) (monomials n (held n a j))) rest)
-    (answers-kinds j n p route a (map (answerRecord j) (monomials n (held n a j)) ++ rest) h (λ q o. answer-kinds route rest j q (monomials n (held n a j)) o k))
+    (answers-kinds j n p route a (map (answerRecord j) (monomials n (held n a j)) ++ rest) h
+    (λ q o. answer-kinds route rest j q (monomials n (held n a j)) o k))
 
-verdict-kinds : (U n p route : ℕ) (v : Verdict (List ℕ)) → BeforeAnswers p → kindsFollow p route (verdictRecords U n v ++ (endRecord route ∷ [])) ≡ true
+verdict-kinds : (U n p route : ℕ) (v : Verdict (List ℕ)) → BeforeAnswers p
+    → kindsFollow p route (verdictRecords U n v ++ (endRecord route ∷ [])) ≡ true
 unfolding verdictRecords kind mayFollow has
-verdict-kinds U n p route (solved a) h = answers-kinds U n p route a (endRecord route ∷ []) (inl h) (λ q o. end-kind q route (late-follows q 4 o (inr refl)))
+verdict-kinds U n p route (solved a) h =
+    answers-kinds U n p route a (endRecord route ∷ []) (inl h) (λ q o. end-kind q route (late-follows q 4 o (inr refl)))
 verdict-kinds U n p route (none state) h =
     kinds-on p route (noneRecord (state .0)) (endRecord route ∷ []) (early-follows p 5 h refl) refl (end-kind 5 route refl)
 
@@ -100,12 +109,14 @@ entry-kinds route c v = ap (λ (x : ℕ). kindsFollow 0 x (entryRecords route c 
     from-start : kindsFollow 0 route (entryRecords route c v) ≡ true
     from-start =
         kinds-on 0 route (startRecord route (c .U) (c .G)) _ refl refl
-        (condition-kinds route (verdictRecords (c .U) (width c) v ++ (endRecord route ∷ [])) 1 (monomials (width c) (present (c .table))) (inl refl)
+        (condition-kinds route (verdictRecords (c .U) (width c) v ++ (endRecord route ∷ [])) 1 (monomials (width c) (present (c .table)))
+        (inl refl)
         (λ q h. verdict-kinds (c .U) (width c) q route v h))
 
 -- ---- question 12: the places of a table's monomials rise, and stay between those of the tables before and behind it
 -- a record without a monomial that is in bounds, and those behind it
-fits-on : (U G q : ℕ) (r : Record) (rs : List Record) → isMonomial r ≡ false → inBounds U G r ≡ true → fitsBehind U G 0 rs ≡ true → fitsBehind U G q (r ∷ rs) ≡ true
+fits-on : (U G q : ℕ) (r : Record) (rs : List Record) → isMonomial r ≡ false → inBounds U G r ≡ true → fitsBehind U G 0 rs ≡ true
+    → fitsBehind U G q (r ∷ rs) ≡ true
 unfolding fitsBehind standsBehind
 fits-on U G q r rs o b k = both b (rw (place-other r o) k)
 
@@ -125,7 +136,8 @@ module _ (U G i : ℕ) (l : U + G ≤ 10) (u : i ≤ U) where
       (λ x e. place-rises i m x sm (mask-small (U + G) x l (b x (has-rest x m ms e))) (rises-first m ms r x e))
       (place-most i m sm) k)))
 
-  pub fits-table : (q : ℕ) (f : Polynomial) (rest : List Record) → q ≤ 16384 * i → ((p : ℕ) → p ≤ 16384 * suc i → fitsBehind U G p rest ≡ true)
+  pub fits-table : (q : ℕ) (f : Polynomial) (rest : List Record) → q ≤ 16384 * i
+      → ((p : ℕ) → p ≤ 16384 * suc i → fitsBehind U G p rest ≡ true)
       → fitsBehind U G q (map (monomialRecord i) (monomials (U + G) f) ++ rest) ≡ true
   fits-table q f rest h k =
       fits-behind-all q (monomials (U + G) f) rest (monomials-rise (U + G) f)
@@ -133,7 +145,8 @@ module _ (U G i : ℕ) (l : U + G ≤ 10) (u : i ≤ U) where
       (λ m e. omega (arith, place-least i m)) (omega arith) k
 
 module _ (U G : ℕ) (l : U + G ≤ 10) where
-  answers-fit : (j : ℕ) (a : List ℕ) (q : ℕ) (rest : List Record) → j ≤ U → q ≤ 16384 → ((p : ℕ) → p ≤ 16384 * suc j → fitsBehind U G p rest ≡ true)
+  answers-fit : (j : ℕ) (a : List ℕ) (q : ℕ) (rest : List Record) → j ≤ U → q ≤ 16384
+      → ((p : ℕ) → p ≤ 16384 * suc j → fitsBehind U G p rest ≡ true)
       → fitsBehind U G q (answerRecords j (U + G) a ++ rest) ≡ true
   unfolding answerRecords
   answers-fit zero a q rest hj hq k = k q (omega arith)
@@ -146,7 +159,8 @@ module _ (U G : ℕ) (l : U + G ≤ 10) where
   unfolding fitsBehind kind fields among allFit
   end-fits q route = fits-on U G q (endRecord route) [] refl (made-fits 4 (route ∷ []) refl U G) refl
 
-  verdict-fits : (v : Verdict (List ℕ)) (q route : ℕ) → VerdictFits U G v → q ≤ 16384 → fitsBehind U G q (verdictRecords U (U + G) v ++ (endRecord route ∷ [])) ≡ true
+  verdict-fits : (v : Verdict (List ℕ)) (q route : ℕ) → VerdictFits U G v → q ≤ 16384
+      → fitsBehind U G q (verdictRecords U (U + G) v ++ (endRecord route ∷ [])) ≡ true
   unfolding verdictRecords kind fields among allFit
   verdict-fits (solved a) q route s h = answers-fit U a q (endRecord route ∷ []) (omega arith) h (λ p b. end-fits p route)
   verdict-fits (none state) q route s h =
@@ -158,10 +172,12 @@ module _ (c : Condition) (l : width c ≤ 10) (route : ℕ) (v : Verdict (List �
   unfolding entryRecords conditionRecords kind fields among allFit
   entry-places =
       fits-on (c .U) (c .G) 0 (startRecord route (c .U) (c .G)) _ refl (made-fits 1 (route ∷ c .U ∷ c .G ∷ []) refl (c .U) (c .G))
-      (fits-table (c .U) (c .G) 0 l (omega arith) 0 (present (c .table)) (verdictRecords (c .U) (width c) v ++ (endRecord route ∷ [])) (omega arith)
+      (fits-table (c .U) (c .G) 0 l (omega arith) 0 (present (c .table)) (verdictRecords (c .U) (width c) v ++ (endRecord route ∷ []))
+      (omega arith)
       (λ p h. verdict-fits (c .U) (c .G) l v p route s (omega arith)))
 
   pub entry-numbers : numbersFit (entryRecords route c v) ≡ true
   unfolding numbersFit
   entry-numbers =
-      rw (entry-unknowns route c v, entry-givens route c v) (sym (numbers-by-places (c .U) (c .G) l (entryRecords route c v)) ∙ entry-places)
+      rw (entry-unknowns route c v, entry-givens route c v)
+      (sym (numbers-by-places (c .U) (c .G) l (entryRecords route c v)) ∙ entry-places)

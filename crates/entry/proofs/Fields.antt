@@ -64,7 +64,8 @@ module _ (r : Record) where
 
 -- ---- kinds
 -- a test of kinds that every kind of the layout passes, and every kind that has no fields
-pub of-every : (test : ℕ → Bool) → everyBelow (suc (length layout)) test ≡ true → ((k : ℕ) → fields k ≡ [] → test k ≡ true) → (k : ℕ) → test k ≡ true
+pub of-every : (test : ℕ → Bool) → everyBelow (suc (length layout)) test ≡ true → ((k : ℕ) → fields k ≡ [] → test k ≡ true) → (k : ℕ)
+    → test k ≡ true
 of-every test e none k = go (bool-cases (test k))
   where
     go : (test k ≡ true) ⊎ (test k ≡ false) → test k ≡ true
@@ -77,7 +78,8 @@ other true false e f = never e refl
 other false c e f = refl
 
 -- only these kinds have the field
-pub lacks : (f : Field) (ks : List ℕ) → everyBelow (suc (length layout)) (λ k. not (among f (fields k)) || has k ks) ≡ true → (k : ℕ) → has k ks ≡ false → among f (fields k) ≡ false
+pub lacks : (f : Field) (ks : List ℕ) → everyBelow (suc (length layout)) (λ k. not (among f (fields k)) || has k ks) ≡ true → (k : ℕ)
+    → has k ks ≡ false → among f (fields k) ≡ false
 unfolding among
 lacks f ks e k h =
     other (among f (fields k)) (has k ks) (of-every (λ k. not (among f (fields k)) || has k ks) e (λ k z. rw z) k) h
@@ -127,7 +129,8 @@ module _ (U G : ℕ) (r : Record) where
   unfolding inBounds bodyFits valueOf valueIn fields
   condition-fits e = rw e (and-true _)
 
-  pub answer-fits : kind r ≡ 3 → inBounds U G r ≡ (fieldFits U G unknownField (valueOf unknownField r) && fieldFits U G maskField (valueOf maskField r))
+  pub answer-fits : kind r ≡ 3
+      → inBounds U G r ≡ (fieldFits U G unknownField (valueOf unknownField r) && fieldFits U G maskField (valueOf maskField r))
   unfolding inBounds bodyFits valueOf valueIn fields
   answer-fits e = rw e (ap (_&&_ (fieldFits U G unknownField _)) (and-true _))
 
@@ -137,7 +140,8 @@ module _ (U G : ℕ) (r : Record) where
 
 -- ---- sizes
 -- 0 where there is no such kind
-pub no-size : (ks : List ℕ) → everyBelow (suc (length layout)) (λ k. has k ks || eqb (size k) 0) ≡ true → (k : ℕ) → has k ks ≡ false → size k ≡ 0
+pub no-size : (ks : List ℕ) → everyBelow (suc (length layout)) (λ k. has k ks || eqb (size k) 0) ≡ true → (k : ℕ) → has k ks ≡ false
+    → size k ≡ 0
 unfolding size
 no-size ks e k h =
     let t : (has k ks || eqb (size k) 0) ≡ true = of-every (λ k. has k ks || eqb (size k) 0) e (λ k z. right (has k ks) (rw z)) k in

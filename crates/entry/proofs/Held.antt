@@ -40,18 +40,26 @@ unfolding answerRecords hasMonomial
 no-condition zero n m a = refl
 no-condition (suc j) n m a =
     monomial-append 0 m (answerRecords j n a) (map (answerRecord j) (monomials n (held n a j)))
-    ∙ rw (no-condition j n m a, table-monomials 0 m (suc j) (monomials n (held n a j)), ne-eqb 0 (suc j) (λ (e : 0 ≡ suc j). absurd (omega arith)))
+    ∙ rw (
+      no-condition j n m a,
+      table-monomials 0 m (suc j) (monomials n (held n a j)),
+      ne-eqb 0 (suc j)
+          (λ (e : 0 ≡ suc j). absurd (omega arith)),
+    )
 
 -- .. and for each unknown those of its answer
-pub answers-monomials : (k n i m : ℕ) (a : List ℕ) → hasMonomial (suc i) m (answerRecords k n a) ≡ (ltb i k && has m (monomials n (held n a i)))
+pub answers-monomials : (k n i m : ℕ) (a : List ℕ)
+    → hasMonomial (suc i) m (answerRecords k n a) ≡ (ltb i k && has m (monomials n (held n a i)))
 unfolding answerRecords hasMonomial
 answers-monomials zero n i m a = rw (le-ltb i 0 (omega arith))
 answers-monomials (suc j) n i m a =
     monomial-append (suc i) m (answerRecords j n a) (map (answerRecord j) (monomials n (held n a j)))
-    ∙ rw (answers-monomials j n i m a, table-monomials (suc i) m (suc j) (monomials n (held n a j))) (last (bool-cases (eqb (suc i) (suc j))))
+    ∙ rw (answers-monomials j n i m a, table-monomials (suc i) m (suc j) (monomials n (held n a j)))
+    (last (bool-cases (eqb (suc i) (suc j))))
   where
     last : (eqb (suc i) (suc j) ≡ true) ⊎ (eqb (suc i) (suc j) ≡ false)
-        → ((ltb i j && has m (monomials n (held n a i))) || (eqb (suc i) (suc j) && has m (monomials n (held n a j)))) ≡ (ltb i (suc j) && has m (monomials n (held n a i)))
+        → ((ltb i j && has m (monomials n (held n a i))) || (eqb (suc i) (suc j) && has m (monomials n (held n a j))))
+        ≡ (ltb i (suc j) && has m (monomials n (held n a i)))
     last (inl e) =
         let q : suc i ≡ suc j = eqb-true _ _ e in
         let p : i ≡ j = omega arith in
@@ -60,7 +68,8 @@ answers-monomials (suc j) n i m a =
         rw e
         (or-false (ltb i j && has m (monomials n (held n a i)))
         ∙ ap (λ (b : Bool). b && has m (monomials n (held n a i)))
-        (bool-iff (ltb i j) (ltb i (suc j)) (λ l. lt-ltb i (suc j) (omega (arith, ltb-true i j l))) (λ l. lt-ltb i j (other (ltb-true i (suc j) l) (eqb-false (suc i) (suc j) e)))))
+        (bool-iff (ltb i j) (ltb i (suc j)) (λ l. lt-ltb i (suc j) (omega (arith, ltb-true i j l)))
+        (λ l. lt-ltb i j (other (ltb-true i (suc j) l) (eqb-false (suc i) (suc j) e)))))
       where
         other : i < suc j → (suc i ≡ suc j → ⊥) → i < j
         other l n = omega arith
@@ -70,7 +79,8 @@ answers-made : (j n : ℕ) (a : List ℕ) → AllMade (answerRecords j n a)
 unfolding answerRecords AllMade
 answers-made zero n a = tt
 answers-made (suc j) n a =
-    all-made-append (answerRecords j n a) (map (answerRecord j) (monomials n (held n a j))) (answers-made j n a) (monomials-made (suc j) (monomials n (held n a j)))
+    all-made-append (answerRecords j n a) (map (answerRecord j) (monomials n (held n a j))) (answers-made j n a)
+    (monomials-made (suc j) (monomials n (held n a j)))
 
 verdict-made : (U n : ℕ) (v : Verdict (List ℕ)) → AllMade (verdictRecords U n v)
 unfolding verdictRecords AllMade fields
@@ -96,14 +106,16 @@ module _ (route : ℕ) (c : Condition) (v : Verdict (List ℕ)) where
   unfolding entryRecords conditionRecords AllMade fields
   entry-made = (
     made-is 1 (route ∷ c .U ∷ c .G ∷ []) refl,
-    all-made-append (map conditionRecord (monomials (width c) (present (c .table)))) _ (monomials-made 0 (monomials (width c) (present (c .table))))
+    all-made-append (map conditionRecord (monomials (width c) (present (c .table)))) _
+        (monomials-made 0 (monomials (width c) (present (c .table))))
         (all-made-append (verdictRecords (c .U) (width c) v) _ (verdict-made (c .U) (width c) v) (made-is 4 (route ∷ []) refl, tt)),
   )
 
   abbrev told : List Record
   told = verdictRecords (c .U) (width c) v
 
-  pub entry-monomials : (i m : ℕ) → hasMonomial i m (entryRecords route c v) ≡ ((eqb i 0 && has m (monomials (width c) (present (c .table)))) || hasMonomial i m told)
+  pub entry-monomials : (i m : ℕ)
+      → hasMonomial i m (entryRecords route c v) ≡ ((eqb i 0 && has m (monomials (width c) (present (c .table)))) || hasMonomial i m told)
   unfolding entryRecords conditionRecords hasMonomial kind fields among
   entry-monomials i m =
       monomial-append i m (map conditionRecord (monomials (width c) (present (c .table)))) (told ++ (endRecord route ∷ []))
@@ -140,7 +152,14 @@ pub answers-held : (route : ℕ) (c : Condition) (a : List ℕ) (j m : ℕ) → 
 unfolding answersIn verdictRecords
 answers-held route c a j m h l =
     entry-monomials route c (solved a) (suc j) m
-    ∙ rw (ne-eqb (suc j) 0 (λ (e : suc j ≡ 0). absurd (omega arith)), answers-monomials (c .U) (width c) j m a, lt-ltb j (c .U) h, has-monomials (width c) (held (width c) a j) m, lt-ltb m (2 ^ width c) l)
+    ∙ rw (
+      ne-eqb (suc j) 0 (λ (e : suc j ≡ 0). absurd (omega arith)),
+      answers-monomials (c .U) (width c) j m a,
+      lt-ltb j
+          (c .U) h,
+      has-monomials (width c) (held (width c) a j) m,
+      lt-ltb m (2 ^ width c) l,
+    )
     (and-true (held (width c) a j m))
 
 -- ---- the verdict
@@ -150,8 +169,10 @@ unfolding unlessNone
 unless-append a [] ss e = refl
 unless-append {A} a (r ∷ rs) ss e = go (bool-cases (isNone r)) (unless-append a rs ss)
   where
-    go : (isNone r ≡ true) ⊎ (isNone r ≡ false) → (unlessNone a rs ≡ solved a → unlessNone a (rs ++ ss) ≡ unlessNone a ss) → cond (isNone r) (none (record { 0 = valueOf stateField r })) (unlessNone a (rs ++ ss)) ≡ unlessNone a ss
-    go (inl f) ih = let c : none (record { 0 = valueOf stateField r }) ≡ solved a = rw f at e in let z : _≡_ {A = ℕ} 0 1 = (cc) in absurd (omega arith)
+    go : (isNone r ≡ true) ⊎ (isNone r ≡ false) → (unlessNone a rs ≡ solved a → unlessNone a (rs ++ ss) ≡ unlessNone a ss)
+        → cond (isNone r) (none (record { 0 = valueOf stateField r })) (unlessNone a (rs ++ ss)) ≡ unlessNone a ss
+    go (inl f) ih =
+        let c : none (record { 0 = valueOf stateField r }) ≡ solved a = rw f at e in let z : _≡_ {A = ℕ} 0 1 = (cc) in absurd (omega arith)
     go (inr f) ih = rw f (ih (rw f at e))
 
 module _ {A : Type 0} (a : A) where
@@ -168,23 +189,27 @@ module _ {A : Type 0} (a : A) where
       ∙ monomials-unless (suc j) (monomials n (held n b j))
 
   module _ (route : ℕ) (c : Condition) where
-    entry-unless : (v : Verdict (List ℕ)) → unlessNone a (entryRecords route c v) ≡ unlessNone a (verdictRecords (c .U) (width c) v ++ (endRecord route ∷ []))
+    entry-unless : (v : Verdict (List ℕ))
+        → unlessNone a (entryRecords route c v) ≡ unlessNone a (verdictRecords (c .U) (width c) v ++ (endRecord route ∷ []))
     unfolding entryRecords conditionRecords unlessNone kind
     entry-unless v =
-        unless-append a (map conditionRecord (monomials (width c) (present (c .table)))) (verdictRecords (c .U) (width c) v ++ (endRecord route ∷ []))
+        unless-append a (map conditionRecord (monomials (width c) (present (c .table))))
+        (verdictRecords (c .U) (width c) v ++ (endRecord route ∷ []))
         (monomials-unless 0 (monomials (width c) (present (c .table))))
 
     pub solved-unless : (b : List ℕ) → unlessNone a (entryRecords route c (solved b)) ≡ solved a
     unfolding verdictRecords unlessNone kind
     solved-unless b =
-        entry-unless (solved b) ∙ unless-append a (answerRecords (c .U) (width c) b) (endRecord route ∷ []) (answers-unless (c .U) (width c) b)
+        entry-unless (solved b)
+        ∙ unless-append a (answerRecords (c .U) (width c) b) (endRecord route ∷ []) (answers-unless (c .U) (width c) b)
 
     pub none-unless : (state : State) → unlessNone a (entryRecords route c (none state)) ≡ none state
     unfolding verdictRecords unlessNone kind fields given
     none-unless state =
         entry-unless (none state) ∙ ap (λ (i : ℕ). none (record { 0 = i })) (made-value 5 (state .0 ∷ []) refl stateField)
 
-pub verdict-back : (route : ℕ) (c : Condition) (v : Verdict (List ℕ)) → VerdictFits (c .U) (c .G) v → heldVerdict (entryRecords route c v) ≡ v
+pub verdict-back : (route : ℕ) (c : Condition) (v : Verdict (List ℕ)) → VerdictFits (c .U) (c .G) v
+    → heldVerdict (entryRecords route c v) ≡ v
 unfolding heldVerdict
 verdict-back route c (solved a) fits =
     let e : answerTable (c .U) (width c) (answersIn (entryRecords route c (solved a))) ≡ answerTable (c .U) (width c) (held (width c) a) =

@@ -135,7 +135,8 @@ module _ (k : ℕ) (vs : List ℕ) (h : length vs ≡ length (fields k)) where
       go (f ∷ fs) e l = ap suc (length-body (f ∷ fs) vs e)
 
 -- ---- what question 12 tells of a field
-value-fits : (U G : ℕ) (f : Field) (fs : List Field) (bs : List ℕ) → among f fs ≡ true → bodyFits U G fs bs ≡ true → fieldFits U G f (valueIn f fs bs) ≡ true
+value-fits : (U G : ℕ) (f : Field) (fs : List Field) (bs : List ℕ) → among f fs ≡ true → bodyFits U G fs bs ≡ true
+    → fieldFits U G f (valueIn f fs bs) ≡ true
 unfolding among bodyFits valueIn
 value-fits U G f [] bs h b = never h refl
 value-fits U G f (g ∷ fs) bs h b = go (bool-cases (sameField f g)) (value-fits U G f fs (drop (width g) bs))
@@ -152,7 +153,8 @@ value-fits U G f (g ∷ fs) bs h b = go (bool-cases (sameField f g)) (value-fits
     go (inl e) ih = rw e (ap (λ (x : Field). fieldFits U G x (fromLowFirst (take (width g) bs))) (same-field f g e) ∙ here)
     go (inr e) ih = rw e (ih (rw e at h) behind)
 
-pub field-fits : (U G : ℕ) (f : Field) (r : Record) → among f (fields (kind r)) ≡ true → inBounds U G r ≡ true → fieldFits U G f (valueOf f r) ≡ true
+pub field-fits : (U G : ℕ) (f : Field) (r : Record) → among f (fields (kind r)) ≡ true → inBounds U G r ≡ true
+    → fieldFits U G f (valueOf f r) ≡ true
 unfolding inBounds valueOf
 field-fits U G f r h b = value-fits U G f (fields (kind r)) (drop 1 r) h b
 

@@ -53,7 +53,8 @@ pub table-monomials : (i m k : ℕ) (ms : List ℕ) → hasMonomial i m (map (mo
 unfolding hasMonomial has
 table-monomials i m k [] = sym (and-false (eqb i k))
 table-monomials i m k (x ∷ ms) =
-    rw (monomial-is x k, monomial-table x k, monomial-mask x k, table-monomials i m k ms) (sym (and-or-distrib-left (eqb i k) (eqb m x) (has m ms)))
+    rw (monomial-is x k, monomial-table x k, monomial-mask x k, table-monomials i m k ms)
+    (sym (and-or-distrib-left (eqb i k) (eqb m x) (has m ms)))
 
 -- ---- one that stands in bytes
 -- only kinds 2 and 3 hold a monomial

@@ -41,7 +41,9 @@ place-rises i m k hm hk e = let l : rank 10 m < rank 10 k = ltb-true _ _ (sym (b
 -- both together
 place-before : (i m j k : ℕ) → m < 2 ^ 10 → k < 2 ^ 10 → (ltb i j || (eqb i j && before m k)) ≡ ltb (place i m) (place j k)
 unfolding place
-place-before i m j k hm hk = bool-iff _ _ (λ e. lt-ltb _ _ (up (or-cases (ltb i j) (eqb i j && before m k) e))) (λ e. down (bool-cases (ltb i j)) (bool-cases (eqb i j)) (ltb-true _ _ e))
+place-before i m j k hm hk =
+    bool-iff _ _ (λ e. lt-ltb _ _ (up (or-cases (ltb i j) (eqb i j && before m k) e)))
+    (λ e. down (bool-cases (ltb i j)) (bool-cases (eqb i j)) (ltb-true _ _ e))
   where
     sm : rank 10 m < 16384
     sm = rank-small m hm
@@ -58,7 +60,8 @@ place-before i m j k hm hk = bool-iff _ _ (λ e. lt-ltb _ _ (up (or-cases (ltb i
     same : eqb i j ≡ true → suc (16384 * i + rank 10 m) < suc (16384 * j + rank 10 k) → rank 10 m < rank 10 k
     same f l = omega (arith, eqb-true i j f)
 
-    down : (ltb i j ≡ true) ⊎ (ltb i j ≡ false) → (eqb i j ≡ true) ⊎ (eqb i j ≡ false) → suc (16384 * i + rank 10 m) < suc (16384 * j + rank 10 k) → (ltb i j || (eqb i j && before m k)) ≡ true
+    down : (ltb i j ≡ true) ⊎ (ltb i j ≡ false) → (eqb i j ≡ true) ⊎ (eqb i j ≡ false)
+        → suc (16384 * i + rank 10 m) < suc (16384 * j + rank 10 k) → (ltb i j || (eqb i j && before m k)) ≡ true
     down (inl e) f l = rw e
     down (inr e) (inl f) l = or-right (ltb i j) (both f (before-rank 10 m k hm hk ∙ lt-ltb _ _ (same f l)))
     down (inr e) (inr f) l = let a : j ≤ i = ltb-false i j e in absurd (omega (arith, eqb-false i j f, sk))
@@ -84,9 +87,13 @@ module _ (U G : ℕ) (l : U + G ≤ 10) where
   unfolding inOrder standsBehind standsBefore
   in-order-places r s br bs = go (bool-cases (isMonomial r)) (bool-cases (isMonomial s))
     where
-      go : (isMonomial r ≡ true) ⊎ (isMonomial r ≡ false) → (isMonomial s ≡ true) ⊎ (isMonomial s ≡ false) → inOrder r s ≡ (eqb (placeOf s) 0 || ltb (placeOf r) (placeOf s))
+      go : (isMonomial r ≡ true) ⊎ (isMonomial r ≡ false) → (isMonomial s ≡ true) ⊎ (isMonomial s ≡ false)
+          → inOrder r s ≡ (eqb (placeOf s) 0 || ltb (placeOf r) (placeOf s))
       go p (inr q) = rw (q, and-false (isMonomial r), place-other s q)
-      go (inr p) (inl q) = rw (p, place-other r p, place-monomial s q) (sym (or-right (eqb (place (tableIn s) (valueOf maskField s)) 0) (lt-ltb 0 (place (tableIn s) (valueOf maskField s)) (omega (arith, place-least (tableIn s) (valueOf maskField s))))))
+      go (inr p) (inl q) =
+          rw (p, place-other r p, place-monomial s q)
+          (sym (or-right (eqb (place (tableIn s) (valueOf maskField s)) 0)
+          (lt-ltb 0 (place (tableIn s) (valueOf maskField s)) (omega (arith, place-least (tableIn s) (valueOf maskField s))))))
       go (inl p) (inl q) =
           let hr : valueOf maskField r < 2 ^ 10 = mask-small (U + G) (valueOf maskField r) l (mask-in-bounds U G r br p) in
           let hs : valueOf maskField s < 2 ^ 10 = mask-small (U + G) (valueOf maskField s) l (mask-in-bounds U G s bs q) in
@@ -96,12 +103,16 @@ module _ (U G : ℕ) (l : U + G ≤ 10) where
           some : place (tableIn s) (valueOf maskField s) ≡ 0 → ⊥
           some e = omega (arith, place-least (tableIn s) (valueOf maskField s))
 
-  fits-behind : (p : Record) (rs : List Record) → inBounds U G p ≡ true → fitsBehind U G (placeOf p) rs ≡ (allInBounds U G rs && allInOrder (p ∷ rs))
+  fits-behind : (p : Record) (rs : List Record) → inBounds U G p ≡ true
+      → fitsBehind U G (placeOf p) rs ≡ (allInBounds U G rs && allInOrder (p ∷ rs))
   unfolding fitsBehind allInBounds allInOrder
   fits-behind p [] b = refl
   fits-behind p (r ∷ rs) b = go (bool-cases (inBounds U G r)) (fits-behind r rs)
     where
-      go : (inBounds U G r ≡ true) ⊎ (inBounds U G r ≡ false) → (inBounds U G r ≡ true → fitsBehind U G (placeOf r) rs ≡ (allInBounds U G rs && allInOrder (r ∷ rs))) → (inBounds U G r && (standsBehind (placeOf p) (placeOf r) && fitsBehind U G (placeOf r) rs)) ≡ ((inBounds U G r && allInBounds U G rs) && (inOrder p r && allInOrder (r ∷ rs)))
+      go : (inBounds U G r ≡ true) ⊎ (inBounds U G r ≡ false)
+          → (inBounds U G r ≡ true → fitsBehind U G (placeOf r) rs ≡ (allInBounds U G rs && allInOrder (r ∷ rs)))
+          → (inBounds U G r && (standsBehind (placeOf p) (placeOf r) && fitsBehind U G (placeOf r) rs))
+          ≡ ((inBounds U G r && allInBounds U G rs) && (inOrder p r && allInOrder (r ∷ rs)))
       go (inl e) ih = rw (e, ih e, ← in-order-places p r b e) (and-left-comm (inOrder p r) (allInBounds U G rs) (allInOrder (r ∷ rs)))
       go (inr e) ih = rw e
 

@@ -33,18 +33,22 @@ use Rattle.entry.proofs.Bound.{entry-most}
 use Rattle.entry.proofs.Passes.{Passes}
 
 -- demand 3, of an entry, whatever stands behind it: what its kind 3 and kind 5 records say of the condition is right
-pub entry-right : (route : ℕ) (c : Condition) (behind : List ℕ) → IsOrder (c .U) (c .order) → RightVerdict c (says (records (entry route c ++ behind)))
+pub entry-right : (route : ℕ) (c : Condition) (behind : List ℕ) → IsOrder (c .U) (c .order)
+    → RightVerdict c (says (records (entry route c ++ behind)))
 unfolding says solve booleTable AreBooles
 entry-right route c behind is = rw (entry-records route c behind) (go (solvable (width c) (polynomial c) (c .order)) refl)
   where
     go : (b : Bool) → solvable (width c) (polynomial c) (c .order) ≡ b
-        → RightVerdict c (says (entryRecords route c (cond b (solved (booleTable c)) (none (smallestBlocked (c .U) (c .G) (polynomial c))))))
+        → RightVerdict c (says
+        (entryRecords route c (cond b (solved (booleTable c)) (none (smallestBlocked (c .U) (c .G) (polynomial c))))))
     go true e =
         rw (solved-unless (answersIn (entryRecords route c (solved (booleTable c)))) route c (booleTable c))
         (right-solved c is e (answersIn (entryRecords route c (solved (booleTable c))))
-        (λ j m h l. answers-held route c (booleTable c) j m h l ∙ held-answerTable (c .U) (width c) (booleAnswers (width c) (polynomial c) (c .order)) j m h l))
+        (λ j m h l. answers-held route c (booleTable c) j m h l
+        ∙ held-answerTable (c .U) (width c) (booleAnswers (width c) (polynomial c) (c .order)) j m h l))
     go false e =
-        rw (none-unless (answersIn (entryRecords route c (none (smallestBlocked (c .U) (c .G) (polynomial c))))) route c (smallestBlocked (c .U) (c .G) (polynomial c)))
+        rw (none-unless (answersIn (entryRecords route c (none (smallestBlocked (c .U) (c .G) (polynomial c))))) route c
+        (smallestBlocked (c .U) (c .G) (polynomial c)))
         (right-none c is e)
 
 -- what reading finds in records that were written
@@ -90,7 +94,8 @@ reads-back route c behind a = rw (entry-records route c behind) (written route c
 
 -- bytes that pass questions 10, 11, 1, 2 and 12 are, as far as they are used, the bytes of the entry of what they hold
 pub accepted-canonical : (bs : List ℕ) → AreBytes bs → Passes (records bs)
-    → take (length (bytes (records bs))) bs ≡ bytes (entryRecords (routeOf (records bs)) (heldCondition (records bs)) (heldVerdict (records bs)))
+    → take (length (bytes (records bs))) bs
+    ≡ bytes (entryRecords (routeOf (records bs)) (heldCondition (records bs)) (heldVerdict (records bs)))
 accepted-canonical bs are p =
     sym (records-bytes bs)
     ∙ ap bytes (canonical (records bs) (records-made bs are) (p .kinds) (records-end bs)
@@ -102,7 +107,8 @@ unfolding sameBytes
 bytes-same [] [] e = refl
 bytes-same [] (y ∷ ys) e = never e refl
 bytes-same (x ∷ xs) [] e = never e refl
-bytes-same (x ∷ xs) (y ∷ ys) e = ap₂ _∷_ (eqb-true x y (and-left (eqb x y) (sameBytes xs ys) e)) (bytes-same xs ys (and-right (eqb x y) (sameBytes xs ys) e))
+bytes-same (x ∷ xs) (y ∷ ys) e =
+    ap₂ _∷_ (eqb-true x y (and-left (eqb x y) (sameBytes xs ys) e)) (bytes-same xs ys (and-right (eqb x y) (sameBytes xs ys) e))
 
 pub same-bytes : (xs : List ℕ) → sameBytes xs xs ≡ true
 unfolding sameBytes
@@ -130,7 +136,8 @@ audited-entry bs are p h =
     (verdict-same (heldVerdict (records bs)) (solve (heldCondition (records bs))) h)
 
 -- .. and every entry that the writer makes passes, whatever stands behind it
-pub entry-holds : (route : ℕ) (c : Condition) (behind : List ℕ) → Archivable route c → answersHold (records (entry route c ++ behind)) ≡ true
+pub entry-holds : (route : ℕ) (c : Condition) (behind : List ℕ) → Archivable route c
+    → answersHold (records (entry route c ++ behind)) ≡ true
 unfolding answersHold
 entry-holds route c behind a =
     let r : ReadsBack route c (records (entry route c ++ behind)) = reads-back route c behind a in

@@ -32,7 +32,8 @@ unfolding onlyMonomials allMonomials
 only-all [] = refl
 only-all (r ∷ rs) = go (bool-cases (isMonomial r)) (only-all rs)
   where
-    go : (isMonomial r ≡ true) ⊎ (isMonomial r ≡ false) → allMonomials (onlyMonomials rs) ≡ true → allMonomials (cond (isMonomial r) (r ∷ onlyMonomials rs) (onlyMonomials rs)) ≡ true
+    go : (isMonomial r ≡ true) ⊎ (isMonomial r ≡ false) → allMonomials (onlyMonomials rs) ≡ true
+        → allMonomials (cond (isMonomial r) (r ∷ onlyMonomials rs) (onlyMonomials rs)) ≡ true
     go (inl e) ih = rw e (both e ih)
     go (inr e) ih = rw e ih
 
@@ -41,7 +42,9 @@ unfolding onlyMonomials hasMonomial
 only-has i m [] = refl
 only-has i m (r ∷ rs) = go (bool-cases (isMonomial r)) (only-has i m rs)
   where
-    go : (isMonomial r ≡ true) ⊎ (isMonomial r ≡ false) → hasMonomial i m (onlyMonomials rs) ≡ hasMonomial i m rs → hasMonomial i m (cond (isMonomial r) (r ∷ onlyMonomials rs) (onlyMonomials rs)) ≡ ((isMonomial r && (eqb i (tableIn r) && eqb m (valueOf maskField r))) || hasMonomial i m rs)
+    go : (isMonomial r ≡ true) ⊎ (isMonomial r ≡ false) → hasMonomial i m (onlyMonomials rs) ≡ hasMonomial i m rs
+        → hasMonomial i m (cond (isMonomial r) (r ∷ onlyMonomials rs) (onlyMonomials rs))
+        ≡ ((isMonomial r && (eqb i (tableIn r) && eqb m (valueOf maskField r))) || hasMonomial i m rs)
     go (inl e) ih = rw e (rw (e, ih))
     go (inr e) ih = rw e ih
 
@@ -55,7 +58,8 @@ only-made (r ∷ rs) h = go (isMonomial r) (only-made rs (h .1))
     go false ih = ih
 
 -- ---- one record
-same-monomial : (r s : Record) → IsMade r → IsMade s → isMonomial r ≡ true → isMonomial s ≡ true → tableIn r ≡ tableIn s → valueOf maskField r ≡ valueOf maskField s → r ≡ s
+same-monomial : (r s : Record) → IsMade r → IsMade s → isMonomial r ≡ true → isMonomial s ≡ true → tableIn r ≡ tableIn s
+    → valueOf maskField r ≡ valueOf maskField s → r ≡ s
 same-monomial r s v w p q i m = monomial-again r v p ∙ ap₂ monomialRecord i m ∙ sym (monomial-again s w q)
 
 has-self : (r : Record) (rs : List Record) → isMonomial r ≡ true → hasMonomial (tableIn r) (valueOf maskField r) (r ∷ rs) ≡ true
@@ -63,14 +67,22 @@ unfolding hasMonomial
 has-self r rs h = rw (h, eq-eqb (tableIn r) (tableIn r) refl, eq-eqb (valueOf maskField r) (valueOf maskField r) refl)
 
 -- it is the first record, or stands behind it
-pub has-cases : (i m : ℕ) (r : Record) (rs : List Record) → hasMonomial i m (r ∷ rs) ≡ true → ((isMonomial r ≡ true) × (i ≡ tableIn r) × (m ≡ valueOf maskField r)) ⊎ (hasMonomial i m rs ≡ true)
+pub has-cases : (i m : ℕ) (r : Record) (rs : List Record) → hasMonomial i m (r ∷ rs) ≡ true
+    → ((isMonomial r ≡ true) × (i ≡ tableIn r) × (m ≡ valueOf maskField r)) ⊎ (hasMonomial i m rs ≡ true)
 unfolding hasMonomial
 has-cases i m r rs h = go (or-cases (isMonomial r && (eqb i (tableIn r) && eqb m (valueOf maskField r))) (hasMonomial i m rs) h)
   where
-    go : ((isMonomial r && (eqb i (tableIn r) && eqb m (valueOf maskField r))) ≡ true) ⊎ (hasMonomial i m rs ≡ true) → ((isMonomial r ≡ true) × (i ≡ tableIn r) × (m ≡ valueOf maskField r)) ⊎ (hasMonomial i m rs ≡ true)
+    go : ((isMonomial r && (eqb i (tableIn r) && eqb m (valueOf maskField r))) ≡ true) ⊎ (hasMonomial i m rs ≡ true)
+        → ((isMonomial r ≡ true) × (i ≡ tableIn r) × (m ≡ valueOf maskField r)) ⊎ (hasMonomial i m rs ≡ true)
     go (inl e) =
-        let f : (eqb i (tableIn r) && eqb m (valueOf maskField r)) ≡ true = and-right (isMonomial r) (eqb i (tableIn r) && eqb m (valueOf maskField r)) e in
-        inl (and-left (isMonomial r) _ e, eqb-true _ _ (and-left (eqb i (tableIn r)) (eqb m (valueOf maskField r)) f), eqb-true _ _ (and-right (eqb i (tableIn r)) (eqb m (valueOf maskField r)) f))
+        let f : (eqb i (tableIn r) && eqb m (valueOf maskField r))
+        ≡ true = and-right (isMonomial r) (eqb i (tableIn r) && eqb m (valueOf maskField r)) e in
+        inl (
+          and-left (isMonomial r) _ e,
+          eqb-true _ _ (and-left (eqb i (tableIn r)) (eqb m (valueOf maskField r)) f),
+          eqb-true _ _
+              (and-right (eqb i (tableIn r)) (eqb m (valueOf maskField r)) f),
+        )
     go (inr e) = inr e
 
 -- ---- rising places
@@ -86,8 +98,10 @@ module _ (U G q : ℕ) (r : Record) (rs : List Record) (f : fitsBehind U G q (r 
   fits-place : isMonomial r ≡ true → q < place (tableIn r) (valueOf maskField r)
   unfolding fitsBehind standsBehind
   fits-place h =
-      let e : (eqb (placeOf r) 0 || ltb q (placeOf r)) ≡ true = and-left _ (fitsBehind U G (placeOf r) rs) (and-right (inBounds U G r) _ f) in
-      let g : (eqb (place (tableIn r) (valueOf maskField r)) 0 || ltb q (place (tableIn r) (valueOf maskField r))) ≡ true = rw (place-monomial r h) at e in
+      let e : (eqb (placeOf r) 0 || ltb q (placeOf r))
+      ≡ true = and-left _ (fitsBehind U G (placeOf r) rs) (and-right (inBounds U G r) _ f) in
+      let g : (eqb (place (tableIn r) (valueOf maskField r)) 0 || ltb q (place (tableIn r) (valueOf maskField r)))
+      ≡ true = rw (place-monomial r h) at e in
       ltb-true _ _ (rw (ne-eqb (place (tableIn r) (valueOf maskField r)) 0 some) at g)
     where
       some : place (tableIn r) (valueOf maskField r) ≡ 0 → ⊥
@@ -97,7 +111,8 @@ module _ (U G q : ℕ) (r : Record) (rs : List Record) (f : fitsBehind U G q (r 
 above : (U G q i m : ℕ) (rs : List Record) → allMonomials rs ≡ true → fitsBehind U G q rs ≡ true → hasMonomial i m rs ≡ true → q < place i m
 unfolding allMonomials hasMonomial
 above U G q i m [] a f h = never h refl
-above U G q i m (r ∷ rs) a f h = go (above U G (placeOf r) i m rs (and-right (isMonomial r) (allMonomials rs) a) (fits-rest U G q r rs f)) (has-cases i m r rs h)
+above U G q i m (r ∷ rs) a f h =
+    go (above U G (placeOf r) i m rs (and-right (isMonomial r) (allMonomials rs) a) (fits-rest U G q r rs f)) (has-cases i m r rs h)
   where
     mono : isMonomial r ≡ true
     mono = and-left (isMonomial r) (allMonomials rs) a
@@ -105,26 +120,34 @@ above U G q i m (r ∷ rs) a f h = go (above U G (placeOf r) i m rs (and-right (
     first : q < place (tableIn r) (valueOf maskField r)
     first = fits-place U G q r rs f mono
 
-    go : (hasMonomial i m rs ≡ true → placeOf r < place i m) → ((isMonomial r ≡ true) × (i ≡ tableIn r) × (m ≡ valueOf maskField r)) ⊎ (hasMonomial i m rs ≡ true) → q < place i m
+    go : (hasMonomial i m rs ≡ true → placeOf r < place i m)
+        → ((isMonomial r ≡ true) × (i ≡ tableIn r) × (m ≡ valueOf maskField r)) ⊎ (hasMonomial i m rs ≡ true) → q < place i m
     go ih (inl e) = rw (e .1, e .2) first
-    go ih (inr e) = let l : place (tableIn r) (valueOf maskField r) < place i m = rw (place-monomial r mono) at (ih e) in omega (arith, first)
+    go ih (inr e) =
+        let l : place (tableIn r) (valueOf maskField r) < place i m = rw (place-monomial r mono) at (ih e) in omega (arith, first)
 
 -- so it is not there a second time
-once : (U G q : ℕ) (r : Record) (rs : List Record) → allMonomials (r ∷ rs) ≡ true → fitsBehind U G q (r ∷ rs) ≡ true → hasMonomial (tableIn r) (valueOf maskField r) rs ≡ true → ⊥
+once : (U G q : ℕ) (r : Record) (rs : List Record) → allMonomials (r ∷ rs) ≡ true → fitsBehind U G q (r ∷ rs) ≡ true
+    → hasMonomial (tableIn r) (valueOf maskField r) rs ≡ true → ⊥
 unfolding allMonomials
 once U G q r rs a f h =
-    let l : placeOf r < place (tableIn r) (valueOf maskField r) = above U G (placeOf r) (tableIn r) (valueOf maskField r) rs (and-right (isMonomial r) (allMonomials rs) a) (fits-rest U G q r rs f) h in
+    let l : placeOf r < place (tableIn r) (valueOf maskField r) = above U G (placeOf r) (tableIn r) (valueOf maskField r) rs
+    (and-right (isMonomial r) (allMonomials rs) a) (fits-rest U G q r rs f) h in
     let e : placeOf r ≡ place (tableIn r) (valueOf maskField r) = place-monomial r (and-left (isMonomial r) (allMonomials rs) a) in
     omega arith
 
-pub rising-unique : (U G p q : ℕ) (xs ys : List Record) → AllMade xs → AllMade ys → allMonomials xs ≡ true → allMonomials ys ≡ true → fitsBehind U G p xs ≡ true → fitsBehind U G q ys ≡ true
+pub rising-unique : (U G p q : ℕ) (xs ys : List Record) → AllMade xs → AllMade ys → allMonomials xs ≡ true → allMonomials ys ≡ true
+    → fitsBehind U G p xs ≡ true → fitsBehind U G q ys ≡ true
     → ((i m : ℕ) → hasMonomial i m xs ≡ hasMonomial i m ys) → xs ≡ ys
 unfolding allMonomials hasMonomial AllMade
 rising-unique U G p q [] [] v w a b f g h = refl
-rising-unique U G p q [] (y ∷ ys) v w a b f g h = never (has-self y ys (and-left (isMonomial y) (allMonomials ys) b)) (sym (h (tableIn y) (valueOf maskField y)))
-rising-unique U G p q (x ∷ xs) [] v w a b f g h = never (has-self x xs (and-left (isMonomial x) (allMonomials xs) a)) (h (tableIn x) (valueOf maskField x))
+rising-unique U G p q [] (y ∷ ys) v w a b f g h =
+    never (has-self y ys (and-left (isMonomial y) (allMonomials ys) b)) (sym (h (tableIn y) (valueOf maskField y)))
+rising-unique U G p q (x ∷ xs) [] v w a b f g h =
+    never (has-self x xs (and-left (isMonomial x) (allMonomials xs) a)) (h (tableIn x) (valueOf maskField x))
 rising-unique U G p q (x ∷ xs) (y ∷ ys) v w a b f g h =
-    go (rising-unique U G (placeOf x) (placeOf y) xs ys (v .1) (w .1) (and-right (isMonomial x) (allMonomials xs) a) (and-right (isMonomial y) (allMonomials ys) b) (fits-rest U G p x xs f) (fits-rest U G q y ys g))
+    go (rising-unique U G (placeOf x) (placeOf y) xs ys (v .1) (w .1) (and-right (isMonomial x) (allMonomials xs) a)
+    (and-right (isMonomial y) (allMonomials ys) b) (fits-rest U G p x xs f) (fits-rest U G q y ys g))
     (has-cases (tableIn x) (valueOf maskField x) y ys (sym (h (tableIn x) (valueOf maskField x)) ∙ has-self x xs mx))
     (has-cases (tableIn y) (valueOf maskField y) x xs (h (tableIn y) (valueOf maskField y) ∙ has-self y ys my))
   where
@@ -134,9 +157,12 @@ rising-unique U G p q (x ∷ xs) (y ∷ ys) v w a b f g h =
     my : isMonomial y ≡ true
     my = and-left (isMonomial y) (allMonomials ys) b
 
-    tails : x ≡ y → (i m : ℕ) → ((isMonomial x && (eqb i (tableIn x) && eqb m (valueOf maskField x))) ≡ true) ⊎ ((isMonomial x && (eqb i (tableIn x) && eqb m (valueOf maskField x))) ≡ false) → hasMonomial i m xs ≡ hasMonomial i m ys
+    tails : x ≡ y → (i m : ℕ)
+        → ((isMonomial x && (eqb i (tableIn x) && eqb m (valueOf maskField x))) ≡ true) ⊎
+        ((isMonomial x && (eqb i (tableIn x) && eqb m (valueOf maskField x))) ≡ false) → hasMonomial i m xs ≡ hasMonomial i m ys
     tails e i m (inl t) =
-        let c : (eqb i (tableIn x) && eqb m (valueOf maskField x)) ≡ true = and-right (isMonomial x) (eqb i (tableIn x) && eqb m (valueOf maskField x)) t in
+        let c : (eqb i (tableIn x) && eqb m (valueOf maskField x))
+        ≡ true = and-right (isMonomial x) (eqb i (tableIn x) && eqb m (valueOf maskField x)) t in
         let ei : i ≡ tableIn x = eqb-true _ _ (and-left (eqb i (tableIn x)) (eqb m (valueOf maskField x)) c) in
         let em : m ≡ valueOf maskField x = eqb-true _ _ (and-right (eqb i (tableIn x)) (eqb m (valueOf maskField x)) c) in
         bool-iff (hasMonomial i m xs) (hasMonomial i m ys)
@@ -147,17 +173,25 @@ rising-unique U G p q (x ∷ xs) (y ∷ ys) v w a b f g h =
     same : (((i m : ℕ) → hasMonomial i m xs ≡ hasMonomial i m ys) → xs ≡ ys) → x ≡ y → x ∷ xs ≡ y ∷ ys
     same ih e = ap₂ _∷_ e (ih (λ i m. tails e i m (bool-cases (isMonomial x && (eqb i (tableIn x) && eqb m (valueOf maskField x))))))
 
-    apart : place (tableIn x) (valueOf maskField x) < place (tableIn y) (valueOf maskField y) → place (tableIn y) (valueOf maskField y) < place (tableIn x) (valueOf maskField x) → ⊥
+    apart : place (tableIn x) (valueOf maskField x) < place (tableIn y) (valueOf maskField y)
+        → place (tableIn y) (valueOf maskField y) < place (tableIn x) (valueOf maskField x) → ⊥
     apart k l = omega arith
 
-    go : (((i m : ℕ) → hasMonomial i m xs ≡ hasMonomial i m ys) → xs ≡ ys) → ((isMonomial y ≡ true) × (tableIn x ≡ tableIn y) × (valueOf maskField x ≡ valueOf maskField y)) ⊎ (hasMonomial (tableIn x) (valueOf maskField x) ys ≡ true)
-        → ((isMonomial x ≡ true) × (tableIn y ≡ tableIn x) × (valueOf maskField y ≡ valueOf maskField x)) ⊎ (hasMonomial (tableIn y) (valueOf maskField y) xs ≡ true) → x ∷ xs ≡ y ∷ ys
+    go : (((i m : ℕ) → hasMonomial i m xs ≡ hasMonomial i m ys) → xs ≡ ys)
+        → ((isMonomial y ≡ true) × (tableIn x ≡ tableIn y) × (valueOf maskField x ≡ valueOf maskField y)) ⊎
+        (hasMonomial (tableIn x) (valueOf maskField x) ys ≡ true)
+        → ((isMonomial x ≡ true) × (tableIn y ≡ tableIn x) × (valueOf maskField y ≡ valueOf maskField x)) ⊎
+        (hasMonomial (tableIn y) (valueOf maskField y) xs ≡ true) → x ∷ xs ≡ y ∷ ys
     go ih (inl e) k = same ih (same-monomial x y (v .0) (w .0) mx my (e .1) (e .2))
     go ih (inr e) (inl k) = same ih (sym (same-monomial y x (w .0) (v .0) my mx (k .1) (k .2)))
     go ih (inr e) (inr k) =
         absurd (apart
-        (rw (place-monomial x mx) at (above U G (placeOf x) (tableIn y) (valueOf maskField y) xs (and-right (isMonomial x) (allMonomials xs) a) (fits-rest U G p x xs f) k))
-        (rw (place-monomial y my) at (above U G (placeOf y) (tableIn x) (valueOf maskField x) ys (and-right (isMonomial y) (allMonomials ys) b) (fits-rest U G q y ys g) e)))
+        (rw (place-monomial x mx) at
+        (above U G (placeOf x) (tableIn y) (valueOf maskField y) xs (and-right (isMonomial x) (allMonomials xs) a)
+        (fits-rest U G p x xs f) k))
+        (rw (place-monomial y my) at
+        (above U G (placeOf y) (tableIn x) (valueOf maskField x) ys (and-right (isMonomial y) (allMonomials ys) b)
+        (fits-rest U G q y ys g) e)))
 
 -- ---- monomials in bounds
 pub held-bounds : (U G q i m : ℕ) (rs : List Record) → fitsBehind U G q rs ≡ true → hasMonomial i m rs ≡ true → (i ≤ U) × (m < 2 ^ (U + G))
@@ -165,8 +199,10 @@ unfolding hasMonomial
 held-bounds U G q i m [] f h = never h refl
 held-bounds U G q i m (r ∷ rs) f h = go (held-bounds U G (placeOf r) i m rs (fits-rest U G q r rs f)) (has-cases i m r rs h)
   where
-    go : (hasMonomial i m rs ≡ true → (i ≤ U) × (m < 2 ^ (U + G))) → ((isMonomial r ≡ true) × (i ≡ tableIn r) × (m ≡ valueOf maskField r)) ⊎ (hasMonomial i m rs ≡ true) → (i ≤ U) × (m < 2 ^ (U + G))
-    go ih (inl e) = (rw (e .1) (table-in-bounds U G r (fits-bounds U G q r rs f)), rw (e .2) (mask-in-bounds U G r (fits-bounds U G q r rs f) (e .0)))
+    go : (hasMonomial i m rs ≡ true → (i ≤ U) × (m < 2 ^ (U + G)))
+        → ((isMonomial r ≡ true) × (i ≡ tableIn r) × (m ≡ valueOf maskField r)) ⊎ (hasMonomial i m rs ≡ true) → (i ≤ U) × (m < 2 ^ (U + G))
+    go ih (inl e) =
+        (rw (e .1) (table-in-bounds U G r (fits-bounds U G q r rs f)), rw (e .2) (mask-in-bounds U G r (fits-bounds U G q r rs f) (e .0)))
     go ih (inr e) = ih e
 
 -- the records in front fit by themselves
@@ -175,4 +211,5 @@ unfolding fitsBehind
 fits-front U G q [] ys f = refl
 fits-front U G q (x ∷ xs) ys f =
     both (fits-bounds U G q x (xs ++ ys) f)
-    (both (and-left (standsBehind q (placeOf x)) (fitsBehind U G (placeOf x) (xs ++ ys)) (and-right (inBounds U G x) _ f)) (fits-front U G (placeOf x) xs ys (fits-rest U G q x (xs ++ ys) f)))
+    (both (and-left (standsBehind q (placeOf x)) (fitsBehind U G (placeOf x) (xs ++ ys)) (and-right (inBounds U G x) _ f))
+    (fits-front U G (placeOf x) xs ys (fits-rest U G q x (xs ++ ys) f)))

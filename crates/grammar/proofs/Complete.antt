@@ -30,7 +30,8 @@ Claim a-factor l e r = reads factor (l ++ r) ≡ found e r
 sum-joined : (c : Symbol) → joinsSum c ≡ true → is timesSign c ≡ false → (l m : List Symbol) (s t : Tree) (r : List Symbol)
     → Claim a-sum l s (c ∷ (m ++ r)) → Claim a-product m t r → Claim a-sum (l ++ (c ∷ m)) (joined (is orSign c) s t) r
 sum-joined c j n l m s t r first second h =
-    ap (reads sum) (append-assoc l (c ∷ m) r) ∙ first n ∙ fixed (sumFrom s) (c ∷ (m ++ r)) ∙ rw j (then-found _ (second ∙ product-ends t r h))
+    ap (reads sum) (append-assoc l (c ∷ m) r) ∙ first n ∙ fixed (sumFrom s) (c ∷ (m ++ r))
+    ∙ rw j (then-found _ (second ∙ product-ends t r h))
 
 derived : {k : Kind} {l : List Symbol} {t : Tree} → Derives k l t → (r : List Symbol) → Claim k l t r
 derived (one-product {l} {s} p) r = λ h. fixed sum (l ++ r) ∙ then-found _ (derived p r ∙ product-ends s r h)

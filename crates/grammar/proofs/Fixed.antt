@@ -77,8 +77,14 @@ closed-shrinks e (x ∷ l) e′ r h = ⊎-elim (λ w. omega (arith, rest (w .1))
 
 module _ (p : Reader → List Symbol → Reading) (sh : Shrinks p) where
   step-shrinks : Shrinks (step p)
-  step-shrinks sum l e r h = let t = andThen-found (p product l) (λ f r′. p (sumFrom f) r′) h in omega (arith, sh product l (t .0) (t .1) (t .2), sh (sumFrom (t .0)) (t .1) e r (t .3))
-  step-shrinks product l e r h = let t = andThen-found (p factor l) (λ f r′. p (productFrom f) r′) h in omega (arith, sh factor l (t .0) (t .1) (t .2), sh (productFrom (t .0)) (t .1) e r (t .3))
+  step-shrinks sum l e r h =
+      let t =
+      andThen-found (p product l) (λ f r′. p (sumFrom f) r′) h in omega
+      (arith, sh product l (t .0) (t .1) (t .2), sh (sumFrom (t .0)) (t .1) e r (t .3))
+  step-shrinks product l e r h =
+      let t =
+      andThen-found (p factor l) (λ f r′. p (productFrom f) r′) h in omega
+      (arith, sh factor l (t .0) (t .1) (t .2), sh (productFrom (t .0)) (t .1) e r (t .3))
   step-shrinks factor [] e r h = nothing-found h
   step-shrinks factor (unknownLetter j ∷ l) e r h = omega (arith, rest h)
   step-shrinks factor (givenLetter i ∷ l) e r h = omega (arith, rest h)
@@ -86,8 +92,10 @@ module _ (p : Reader → List Symbol → Reading) (sh : Shrinks p) where
   step-shrinks factor (single x ∷ l) e r h =
       ⊎-elim (λ w. omega (arith, rest (w .1)))
       (λ w. ⊎-elim (λ w. omega (arith, rest (w .1)))
-      (λ w. ⊎-elim (λ w. let t = andThen-found (p factor l) (λ f r′. found (negation f) r′) (w .1) in omega (arith, sh factor l (t .0) (t .1) (t .2), rest (t .3)))
-      (λ w. ⊎-elim (λ w. let t = andThen-found (p sum l) closed (w .1) in omega (arith, sh sum l (t .0) (t .1) (t .2), closed-shrinks (t .0) (t .1) e r (t .3)))
+      (λ w. ⊎-elim (λ w. let t = andThen-found (p factor l) (λ f r′. found (negation f) r′) (w .1) in omega
+      (arith, sh factor l (t .0) (t .1) (t .2), rest (t .3)))
+      (λ w. ⊎-elim (λ w. let t = andThen-found (p sum l) closed (w .1) in omega
+      (arith, sh sum l (t .0) (t .1) (t .2), closed-shrinks (t .0) (t .1) e r (t .3)))
       (λ w. nothing-found (w .1))
       (cond-cases (eqb x openSign) (w .1)))
       (cond-cases (eqb x notSign) (w .1)))
@@ -110,8 +118,12 @@ module _ (p : Reader → List Symbol → Reading) (sh : Shrinks p) where
   module _ (q : Reader → List Symbol → Reading) where
     step-cong : (m : Reader) (l : List Symbol)
         → ((m′ : Reader) (l′ : List Symbol) → calls m′ l′ < calls m l → p m′ l′ ≡ q m′ l′) → step p m l ≡ step q m l
-    step-cong sum l h = andThen-cong (p product l) (q product l) _ _ (h product l (omega arith)) (λ e r a. h (sumFrom e) r (omega (arith, sh product l e r a)))
-    step-cong product l h = andThen-cong (p factor l) (q factor l) _ _ (h factor l (omega arith)) (λ e r a. h (productFrom e) r (omega (arith, sh factor l e r a)))
+    step-cong sum l h =
+        andThen-cong (p product l) (q product l) _ _ (h product l (omega arith))
+        (λ e r a. h (sumFrom e) r (omega (arith, sh product l e r a)))
+    step-cong product l h =
+        andThen-cong (p factor l) (q factor l) _ _ (h factor l (omega arith))
+        (λ e r a. h (productFrom e) r (omega (arith, sh factor l e r a)))
     step-cong factor [] h = refl
     step-cong factor (unknownLetter j ∷ l) h = refl
     step-cong factor (givenLetter i ∷ l) h = refl

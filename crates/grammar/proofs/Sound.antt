@@ -117,12 +117,22 @@ module _ (p : Reader → List Symbol → Reading) (sd : Sound p) where
       let t = andThen-found (p product l) (λ f r′. p (sumFrom f) r′) h in
       let a = sd product l (t .0) (t .1) (t .2) in
       let b = sd (sumFrom (t .0)) (t .1) e r (t .3) in
-      record { prefix = a .prefix ++ b .prefix; whole = append-assoc (a .prefix) (b .prefix) r ∙ rw (b .whole) (a .whole); means = b .means (a .prefix) (one-product (a .means)) }
+      record {
+        prefix = a .prefix ++ b .prefix;
+        whole = append-assoc (a .prefix) (b .prefix) r
+            ∙ rw (b .whole) (a .whole);
+        means = b .means (a .prefix) (one-product (a .means));
+      }
   step-sound product l e r h =
       let t = andThen-found (p factor l) (λ f r′. p (productFrom f) r′) h in
       let a = sd factor l (t .0) (t .1) (t .2) in
       let b = sd (productFrom (t .0)) (t .1) e r (t .3) in
-      record { prefix = a .prefix ++ b .prefix; whole = append-assoc (a .prefix) (b .prefix) r ∙ rw (b .whole) (a .whole); means = b .means (a .prefix) (one-factor (a .means)) }
+      record {
+        prefix = a .prefix ++ b .prefix;
+        whole = append-assoc (a .prefix) (b .prefix) r
+            ∙ rw (b .whole) (a .whole);
+        means = b .means (a .prefix) (one-factor (a .means));
+      }
   step-sound factor [] e r h = nothing-found h
   step-sound factor (unknownLetter j ∷ l) e r h = alone (unknownLetter j) l is-unknown h
   step-sound factor (givenLetter i ∷ l) e r h = alone (givenLetter i) l is-given h

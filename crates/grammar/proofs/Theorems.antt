@@ -48,7 +48,8 @@ pub reads-exactly : (text : List ℕ) → (grammarReads text ≡ true) ↔ ((t :
 reads-exactly text = (λ h. (treeOf text, reads-derived text h), λ d. derived-reads text (d .1) .0)
 
 -- what is read from a text is told by its derivation alone: its value is that of the derived tree ..
-pub value-derived : (text : List ℕ) {t : Tree} → Sum (symbols text) t → (state : State) (choice : Choice) → textValue text state choice ≡ valueAt t state choice
+pub value-derived : (text : List ℕ) {t : Tree} → Sum (symbols text) t → (state : State) (choice : Choice)
+    → textValue text state choice ≡ valueAt t state choice
 unfolding textValue
 value-derived text d state choice = ap (λ (s : Tree). valueAt s state choice) (derived-reads text d .1)
 
@@ -81,7 +82,8 @@ module _ (U G : ℕ) (a b : List ℕ) (ra : IsRead U G a) (rb : IsRead U G b) wh
       ∙ ap (λ (t : List ℕ). value (U + G) (present t) (point U state choice)) e
       ∙ value-text U G b rb state choice hc
 
-  agree-at : Agree U G a b → (p : ℕ) → p < 2 ^ (U + G) → value (U + G) (present (textTable U G a)) p ≡ value (U + G) (present (textTable U G b)) p
+  agree-at : Agree U G a b → (p : ℕ) → p < 2 ^ (U + G)
+      → value (U + G) (present (textTable U G a)) p ≡ value (U + G) (present (textTable U G b)) p
   agree-at h p l =
       let q = parts U G p l in
       subst (λ (x : ℕ). value (U + G) (present (textTable U G a)) x ≡ value (U + G) (present (textTable U G b)) x) (q .whole)
@@ -92,7 +94,8 @@ module _ (U G : ℕ) (a b : List ℕ) (ra : IsRead U G a) (rb : IsRead U G b) wh
   agree-same : Agree U G a b → textTable U G a ≡ textTable U G b
   unfolding textTable table
   agree-same h =
-      same-table (U + G) (textTable U G a) (textTable U G b) (is-table (U + G) (normalForm U G (treeOf a))) (is-table (U + G) (normalForm U G (treeOf b)))
+      same-table (U + G) (textTable U G a) (textTable U G b) (is-table (U + G) (normalForm U G (treeOf a)))
+      (is-table (U + G) (normalForm U G (treeOf b)))
       (agree-at h)
 
   pub same-normal-form : (textTable U G a ≡ textTable U G b) ↔ Agree U G a b

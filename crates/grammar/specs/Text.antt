@@ -26,4 +26,5 @@ textTable U G text = table (U + G) (normalForm U G (treeOf text))
 
 -- two texts have the same value at every state and choice
 abbrev pub Agree : ℕ → ℕ → List ℕ → List ℕ → Type 0
-Agree U G a b = (state : State) (choice : Choice) → state .0 < 2 ^ G → choice .0 < 2 ^ U → textValue a state choice ≡ textValue b state choice
+Agree U G a b =
+    (state : State) (choice : Choice) → state .0 < 2 ^ G → choice .0 < 2 ^ U → textValue a state choice ≡ textValue b state choice

@@ -58,7 +58,8 @@ digit-most : (b : Bool) → digit b ≤ 1
 digit-most true = omega arith
 digit-most false = omega arith
 
-kept-next : (f : ℕ → Bool) (tag : ℕ) (masks : List ℕ) (p : ℕ) → p < length masks → kept f tag masks (p + 1) ≡ kept f tag masks p ++ cond (f (getD masks p 0)) ((tag + getD masks p 0) ∷ []) []
+kept-next : (f : ℕ → Bool) (tag : ℕ) (masks : List ℕ) (p : ℕ) → p < length masks
+    → kept f tag masks (p + 1) ≡ kept f tag masks p ++ cond (f (getD masks p 0)) ((tag + getD masks p 0) ∷ []) []
 unfolding kept
 kept-next f tag masks p l =
     ap (λ (ms : List ℕ). tagged tag (keep f ms)) (ap (λ (i : ℕ). take i masks) (add-one p) ∙ take-suc masks p 0 l)
@@ -75,7 +76,8 @@ pub record Listing (f : ℕ → Bool) (tag : ℕ) (masks old : List ℕ) (from p
   pub place : at ≡ from + length (kept f tag masks p)
   pub front : take at new ≡ take from old ++ kept f tag masks p
 
-pub listing-start : (f : ℕ → Bool) (tag : ℕ) (masks old : List ℕ) (from : ℕ) → from + length masks ≤ length old → Listing f tag masks old from 0 from old
+pub listing-start : (f : ℕ → Bool) (tag : ℕ) (masks old : List ℕ) (from : ℕ) → from + length masks ≤ length old
+    → Listing f tag masks old from 0 from old
 unfolding kept tagged keep
 listing-start f tag masks old from r =
     record { turn = omega arith; room = r; most = omega arith; long = refl; place = omega arith; front = sym (append-nil (take from old)) }
@@ -84,26 +86,39 @@ module _ {f : ℕ → Bool} {tag : ℕ} {masks old : List ℕ} {from p at : ℕ}
   pub listing-room : p < length masks → at < length new
   listing-room l = omega (arith, w .most, w .room, w .long)
 
-  pub listing-more : p < length masks → {m : ℕ} → m ≡ getD masks p 0 → {v : ℕ} → v ≡ tag + m → {d : ℕ} → d ≡ digit (f m) → Listing f tag masks old from (p + 1) (at + d) (set new at v)
+  pub listing-more : p < length masks → {m : ℕ} → m ≡ getD masks p 0 → {v : ℕ} → v ≡ tag + m → {d : ℕ} → d ≡ digit (f m)
+      → Listing f tag masks old from (p + 1) (at + d) (set new at v)
   listing-more l {m} em {v} ev {d} ed =
       let b : Bool = f (getD masks p 0) in
       let one : List ℕ = cond b ((tag + getD masks p 0) ∷ []) [] in
       let e : d ≡ digit b = ed ∙ ap (λ (x : ℕ). digit (f x)) em in
       let u : v ≡ tag + getD masks p 0 = ev ∙ ap (λ (x : ℕ). tag + x) em in
-      let s : take (at + digit b) (set new at (tag + getD masks p 0)) ≡ take at new ++ one = stored b new at (tag + getD masks p 0) (listing-room l) in
+      let s : take (at + digit b) (set new at (tag + getD masks p 0))
+      ≡ take at new ++ one = stored b new at (tag + getD masks p 0) (listing-room l) in
       record {
         turn = omega arith;
         room = w .room;
         most = omega (arith, w .most, digit-most b);
         long = length-set new at v ∙ w .long;
-        place = omega (arith, w .place, ap length (kept-next f tag masks p l), length-append (kept f tag masks p) one, length-one b (tag + getD masks p 0));
-        front = rw (e, u) (s ∙ ap (λ (x : List ℕ). x ++ one) (w .front) ∙ append-assoc (take from old) (kept f tag masks p) one ∙ ap (λ (x : List ℕ). take from old ++ x) (sym (kept-next f tag masks p l)));
+        place =
+            omega (
+              arith,
+              w .place,
+              ap length (kept-next f tag masks p l),
+              length-append (kept f tag masks p) one,
+              length-one b
+                  (tag + getD masks p 0),
+            );
+        front =
+            rw (e, u) (s ∙ ap (λ (x : List ℕ). x ++ one) (w .front) ∙ append-assoc (take from old) (kept f tag masks p) one
+            ∙ ap (λ (x : List ℕ). take from old ++ x) (sym (kept-next f tag masks p l)));
       }
 
   pub listing-end : length masks ≤ p → Listed old from (tagged tag (keep f masks)) at new
   unfolding kept
   listing-end l =
-      let e : tagged tag (keep f (take p masks)) ≡ tagged tag (keep f masks) = ap (λ (ms : List ℕ). tagged tag (keep f ms)) (take-all p masks l) in
+      let e : tagged tag (keep f (take p masks))
+      ≡ tagged tag (keep f masks) = ap (λ (ms : List ℕ). tagged tag (keep f ms)) (take-all p masks l) in
       record {
         place = w .place ∙ ap (λ (x : List ℕ). from + length x) e;
         inside = omega (arith, w .most, w .room, w .turn);
@@ -112,14 +127,17 @@ module _ {f : ℕ → Bool} {tag : ℕ} {masks old : List ℕ} {from p at : ℕ}
       }
 
 -- ---- the two loops
-pub listed-monomials : (n tag : ℕ) (f : Polynomial) {masks old new : List ℕ} {from r : ℕ} → masks ≡ order n → Listed old from (tagged tag (keep f masks)) r new → Listed old from (tagged tag (monomials n f)) r new
+pub listed-monomials : (n tag : ℕ) (f : Polynomial) {masks old new : List ℕ} {from r : ℕ} → masks ≡ order n
+    → Listed old from (tagged tag (keep f masks)) r new → Listed old from (tagged tag (monomials n f)) r new
 unfolding monomials
 listed-monomials n tag f e w = rw e at w
 
 -- the masks for n letters, from the front of the buffer on
-pub listed-order : (n o : ℕ) {masks old new : List ℕ} {r : ℕ} → n ≤ o → masks ≡ order o → Listed old 0 (tagged 0 (keep (λ m. ltb m (2 ^ n)) masks)) r new → take (2 ^ n) new ≡ order n
+pub listed-order : (n o : ℕ) {masks old new : List ℕ} {r : ℕ} → n ≤ o → masks ≡ order o
+    → Listed old 0 (tagged 0 (keep (λ m. ltb m (2 ^ n)) masks)) r new → take (2 ^ n) new ≡ order n
 listed-order n o {masks} {old} {new} {r} h e w =
-    let is : tagged 0 (keep (λ m. ltb m (2 ^ n)) masks) ≡ order n = tagged-zero (keep (λ m. ltb m (2 ^ n)) masks) ∙ ap (keep (λ m. ltb m (2 ^ n))) e ∙ order-fewer n o h in
+    let is : tagged 0 (keep (λ m. ltb m (2 ^ n)) masks) ≡ order n = tagged-zero (keep (λ m. ltb m (2 ^ n)) masks)
+    ∙ ap (keep (λ m. ltb m (2 ^ n))) e ∙ order-fewer n o h in
     let size : r ≡ 2 ^ n = w .place ∙ zero-add _ ∙ ap length is ∙ length-order n in
     ap (λ (k : ℕ). take k new) (sym size) ∙ w .front ∙ is
 
@@ -129,6 +147,7 @@ mask-place n p {masks} e l em =
     let q : p < 2 ^ n = rw (e, length-order n) at l in
     rw (em, e) (order-below n p q)
 
-pub mask-in-words : (n p : ℕ) {masks : List ℕ} {m k : ℕ} → masks ≡ order n → p < length masks → m ≡ getD masks p 0 → k ≡ 2 ^ (n - 6) → m < 64 * k
+pub mask-in-words : (n p : ℕ) {masks : List ℕ} {m k : ℕ} → masks ≡ order n → p < length masks → m ≡ getD masks p 0 → k ≡ 2 ^ (n - 6)
+    → m < 64 * k
 mask-in-words n p e l em ek =
     rw ek (omega (arith, mask-place n p e l em, room n))

@@ -15,7 +15,9 @@ use Rattle.ring.specs.Lists.{listed, has}
 use Rattle.order.specs.Order.{keep, below}
 
 pub ltb-suc : (m k : ℕ) → ltb m (suc k) ≡ (ltb m k || eqb m k)
-ltb-suc m k = sym (bool-iff (ltb m k || eqb m k) (ltb m (suc k)) (λ e. lt-ltb m (suc k) (up (or-cases _ _ e))) (λ e. down (ltb-true m (suc k) e) (bool-cases (eqb m k))))
+ltb-suc m k =
+    sym (bool-iff (ltb m k || eqb m k) (ltb m (suc k)) (λ e. lt-ltb m (suc k) (up (or-cases _ _ e)))
+    (λ e. down (ltb-true m (suc k) e) (bool-cases (eqb m k))))
   where
     up : (ltb m k ≡ true) ⊎ (eqb m k ≡ true) → m < suc k
     up (inl e) = omega (arith, ltb-true m k e)
@@ -31,7 +33,8 @@ unfolding keep
 keep-append t [] ys = refl
 keep-append t (x ∷ xs) ys = go (t x) (keep-append t xs ys)
   where
-    go : (b : Bool) → keep t (xs ++ ys) ≡ keep t xs ++ keep t ys → cond b (x ∷ keep t (xs ++ ys)) (keep t (xs ++ ys)) ≡ cond b (x ∷ keep t xs) (keep t xs) ++ keep t ys
+    go : (b : Bool) → keep t (xs ++ ys) ≡ keep t xs ++ keep t ys
+        → cond b (x ∷ keep t (xs ++ ys)) (keep t (xs ++ ys)) ≡ cond b (x ∷ keep t xs) (keep t xs) ++ keep t ys
     go true e = ap (λ (l : List ℕ). x ∷ l) e
     go false e = e
 
@@ -64,7 +67,8 @@ unfolding keep
 keep-all t [] h = refl
 keep-all t (x ∷ xs) h = go (t x) (keep-all t xs) h
   where
-    go : (b : Bool) → (length (keep t xs) ≡ length xs → keep t xs ≡ xs) → length (cond b (x ∷ keep t xs) (keep t xs)) ≡ suc (length xs) → cond b (x ∷ keep t xs) (keep t xs) ≡ x ∷ xs
+    go : (b : Bool) → (length (keep t xs) ≡ length xs → keep t xs ≡ xs) → length (cond b (x ∷ keep t xs) (keep t xs)) ≡ suc (length xs)
+        → cond b (x ∷ keep t xs) (keep t xs) ≡ x ∷ xs
     go true ih h = ap (λ (l : List ℕ). x ∷ l) (ih (omega arith))
     go false ih h = absurd (omega (arith, length-keep t xs))
 
@@ -87,7 +91,8 @@ unfolding has keep
 has-keep t m [] = sym (and-false (t m))
 has-keep t m (x ∷ xs) = go (bool-cases (eqb m x)) (t x) refl (has-keep t m xs)
   where
-    go : (eqb m x ≡ true) ⊎ (eqb m x ≡ false) → (b : Bool) → t x ≡ b → has m (keep t xs) ≡ (t m && has m xs) → has m (cond b (x ∷ keep t xs) (keep t xs)) ≡ (t m && (eqb m x || has m xs))
+    go : (eqb m x ≡ true) ⊎ (eqb m x ≡ false) → (b : Bool) → t x ≡ b → has m (keep t xs) ≡ (t m && has m xs)
+        → has m (cond b (x ∷ keep t xs) (keep t xs)) ≡ (t m && (eqb m x || has m xs))
     go (inl e) true ex h = let ix : m ≡ x = eqb-true _ _ e in rw (e, ix, ex)
     go (inl e) false ex h = let ix : m ≡ x = eqb-true _ _ e in h ∙ rw (ix, ex)
     go (inr e) true ex h = rw (e, h) refl

@@ -45,7 +45,8 @@ unfolding rises
 rises-cons m [] h r = refl
 rises-cons m (k ∷ ks) h r = both (h k (has-first k ks)) r
 
-pub rises-append : (xs ys : List ℕ) → rises xs ≡ true → rises ys ≡ true → ((m k : ℕ) → has m xs ≡ true → has k ys ≡ true → before m k ≡ true) → rises (xs ++ ys) ≡ true
+pub rises-append : (xs ys : List ℕ) → rises xs ≡ true → rises ys ≡ true
+    → ((m k : ℕ) → has m xs ≡ true → has k ys ≡ true → before m k ≡ true) → rises (xs ++ ys) ≡ true
 rises-append [] ys r s h = s
 rises-append (x ∷ xs) ys r s h =
     rises-cons x (xs ++ ys) (λ k i. go k (or-cases (has k xs) (has k ys) (sym (has-append k xs ys) ∙ i)))
@@ -128,7 +129,8 @@ group-rises (suc b) k =
     last e m l i (inl f) = let g = in-group b k m i in rw f (before-smaller m b (g .0 ∙ sym e) (g .1))
     last e m l i (inr f) = never f refl
 
-    go : (eqb (letters b) k ≡ true) ⊎ (eqb (letters b) k ≡ false) → rises (group b k) ≡ true → rises (group b k ++ cond (eqb (letters b) k) (b ∷ []) []) ≡ true
+    go : (eqb (letters b) k ≡ true) ⊎ (eqb (letters b) k ≡ false) → rises (group b k) ≡ true
+        → rises (group b k ++ cond (eqb (letters b) k) (b ∷ []) []) ≡ true
     go (inl e) r = rw e (rises-append (group b k) (b ∷ []) r refl (λ m l i j. last (eqb-true (letters b) k e) m l i (has-cases l b [] j)))
     go (inr e) r = rw (e, append-nil) r
 
@@ -161,20 +163,26 @@ order-rises n = groups-rise n (suc n)
 -- it has the masks below 2 ^ n, and by `rises-once` each of them once
 pub has-order : (n m : ℕ) → has m (order n) ≡ ltb m (2 ^ n)
 unfolding order
-has-order n m = has-groups n (suc n) m ∙ bool-iff (ltb (letters m) (suc n) && ltb m (2 ^ n)) (ltb m (2 ^ n)) (and-right (ltb (letters m) (suc n)) (ltb m (2 ^ n))) few
+has-order n m =
+    has-groups n (suc n) m
+    ∙ bool-iff (ltb (letters m) (suc n) && ltb m (2 ^ n)) (ltb m (2 ^ n)) (and-right (ltb (letters m) (suc n)) (ltb m (2 ^ n))) few
   where
     few : ltb m (2 ^ n) ≡ true → (ltb (letters m) (suc n) && ltb m (2 ^ n)) ≡ true
     few e = both (lt-ltb (letters m) (suc n) (omega (arith, letters-most n m (ltb-true m (2 ^ n) e)))) e
 
 length-more : (k : ℕ) (xs : List ℕ)
-    → length (keep (λ m. ltb (letters m) (suc k)) xs) ≡ length (keep (λ m. ltb (letters m) k) xs) + length (keep (λ m. eqb (letters m) k) xs)
+    → length (keep (λ m. ltb (letters m) (suc k)) xs)
+    ≡ length (keep (λ m. ltb (letters m) k) xs) + length (keep (λ m. eqb (letters m) k) xs)
 unfolding keep
 length-more k [] = refl
-length-more k (x ∷ xs) = rw (ltb-suc (letters x) k) (go (bool-cases (ltb (letters x) k)) (bool-cases (eqb (letters x) k)) (length-more k xs))
+length-more k (x ∷ xs) =
+    rw (ltb-suc (letters x) k) (go (bool-cases (ltb (letters x) k)) (bool-cases (eqb (letters x) k)) (length-more k xs))
   where
     go : (ltb (letters x) k ≡ true) ⊎ (ltb (letters x) k ≡ false) → (eqb (letters x) k ≡ true) ⊎ (eqb (letters x) k ≡ false)
-        → length (keep (λ m. ltb (letters m) (suc k)) xs) ≡ length (keep (λ m. ltb (letters m) k) xs) + length (keep (λ m. eqb (letters m) k) xs)
-        → length (cond (ltb (letters x) k || eqb (letters x) k) (x ∷ keep (λ m. ltb (letters m) (suc k)) xs) (keep (λ m. ltb (letters m) (suc k)) xs))
+        → length (keep (λ m. ltb (letters m) (suc k)) xs)
+        ≡ length (keep (λ m. ltb (letters m) k) xs) + length (keep (λ m. eqb (letters m) k) xs)
+        → length (cond (ltb (letters x) k || eqb (letters x) k) (x ∷ keep (λ m. ltb (letters m) (suc k)) xs)
+        (keep (λ m. ltb (letters m) (suc k)) xs))
         ≡ length (cond (ltb (letters x) k) (x ∷ keep (λ m. ltb (letters m) k) xs) (keep (λ m. ltb (letters m) k) xs))
         + length (cond (eqb (letters x) k) (x ∷ keep (λ m. eqb (letters m) k) xs) (keep (λ m. eqb (letters m) k) xs))
     go (inl e) (inl f) ih = absurd (omega (arith, ltb-true (letters x) k e, eqb-true (letters x) k f))
@@ -213,11 +221,13 @@ unfolding monomials
 monomials-rise n f = rises-keep f (order n) (order-rises n)
 
 -- the only rising list of these monomials
-pub monomials-unique : (n : ℕ) (f : Polynomial) (xs : List ℕ) → rises xs ≡ true → ((m : ℕ) → has m xs ≡ (f m && ltb m (2 ^ n))) → xs ≡ monomials n f
+pub monomials-unique : (n : ℕ) (f : Polynomial) (xs : List ℕ) → rises xs ≡ true → ((m : ℕ) → has m xs ≡ (f m && ltb m (2 ^ n)))
+    → xs ≡ monomials n f
 monomials-unique n f xs r h = rises-unique xs (monomials n f) r (monomials-rise n f) (λ m. h m ∙ sym (has-monomials n f m))
 
 pub monomials-same : (n : ℕ) (f g : Polynomial) → ((m : ℕ) → m < 2 ^ n → f m ≡ g m) → monomials n f ≡ monomials n g
-monomials-same n f g h = monomials-unique n g (monomials n f) (monomials-rise n f) (λ m. has-monomials n f m ∙ go m (bool-cases (ltb m (2 ^ n))))
+monomials-same n f g h =
+    monomials-unique n g (monomials n f) (monomials-rise n f) (λ m. has-monomials n f m ∙ go m (bool-cases (ltb m (2 ^ n))))
   where
     go : (m : ℕ) → (ltb m (2 ^ n) ≡ true) ⊎ (ltb m (2 ^ n) ≡ false) → (f m && ltb m (2 ^ n)) ≡ (g m && ltb m (2 ^ n))
     go m (inl e) = ap (λ (b : Bool). b && ltb m (2 ^ n)) (h m (ltb-true m (2 ^ n) e))
@@ -243,7 +253,8 @@ order-once n m h = sym (monomials-unique n (λ k. eqb k m) (m ∷ []) refl (λ k
   where
     only : (k : ℕ) → eqb k m ≡ (eqb k m && ltb k (2 ^ n))
     only k =
-        bool-iff (eqb k m) (eqb k m && ltb k (2 ^ n)) (λ e. both e (rw (eqb-true k m e) (lt-ltb m (2 ^ n) h))) (and-left (eqb k m) (ltb k (2 ^ n)))
+        bool-iff (eqb k m) (eqb k m && ltb k (2 ^ n)) (λ e. both e (rw (eqb-true k m e) (lt-ltb m (2 ^ n) h)))
+        (and-left (eqb k m) (ltb k (2 ^ n)))
 
 -- 'smaller n skips masks that are too large': the order for n letters, from that for o letters
 pub order-fewer : (n o : ℕ) → n ≤ o → keep (λ m. ltb m (2 ^ n)) (order o) ≡ order n
@@ -253,4 +264,5 @@ order-fewer n o h = sym (monomials-unique o (λ m. ltb m (2 ^ n)) (order n) (ord
     within : (m : ℕ) → ltb m (2 ^ n) ≡ (ltb m (2 ^ n) && ltb m (2 ^ o))
     within m =
         let p : 2 ^ n ≤ 2 ^ o = pow-mono h in
-        bool-iff (ltb m (2 ^ n)) (ltb m (2 ^ n) && ltb m (2 ^ o)) (λ e. both e (lt-ltb m (2 ^ o) (omega (arith, ltb-true m (2 ^ n) e)))) (and-left (ltb m (2 ^ n)) (ltb m (2 ^ o)))
+        bool-iff (ltb m (2 ^ n)) (ltb m (2 ^ n) && ltb m (2 ^ o)) (λ e. both e (lt-ltb m (2 ^ o) (omega (arith, ltb-true m (2 ^ n) e))))
+        (and-left (ltb m (2 ^ n)) (ltb m (2 ^ o)))

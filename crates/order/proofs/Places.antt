@@ -54,9 +54,11 @@ module _ (n low m : ℕ) (ms : List ℕ) (c : climbs n low (m ∷ ms) ≡ true) 
 climbs-has : (n low : ℕ) (ms : List ℕ) → climbs n low ms ≡ true → (k : ℕ) → has k ms ≡ true → (k < 2 ^ n) × (low ≤ rank n k)
 unfolding has
 climbs-has n low [] c k i = never i refl
-climbs-has n low (m ∷ ms) c k i = go (climbs-first n low m ms c) (climbs-has n (suc (rank n m)) ms (climbs-rest n low m ms c) k) (has-cases k m ms i)
+climbs-has n low (m ∷ ms) c k i =
+    go (climbs-first n low m ms c) (climbs-has n (suc (rank n m)) ms (climbs-rest n low m ms c) k) (has-cases k m ms i)
   where
-    go : (m < 2 ^ n) × (low ≤ rank n m) → (has k ms ≡ true → (k < 2 ^ n) × (suc (rank n m) ≤ rank n k)) → (k ≡ m) ⊎ (has k ms ≡ true) → (k < 2 ^ n) × (low ≤ rank n k)
+    go : (m < 2 ^ n) × (low ≤ rank n m) → (has k ms ≡ true → (k < 2 ^ n) × (suc (rank n m) ≤ rank n k)) → (k ≡ m) ⊎ (has k ms ≡ true)
+        → (k < 2 ^ n) × (low ≤ rank n k)
     go f ih (inl e) = rw e f
     go f ih (inr j) = let r = ih j in (r .0, omega (arith, r .1, f .1))
 

@@ -28,7 +28,8 @@ pub before-cases : (m k : ℕ) → before m k ≡ true → (letters m < letters 
 unfolding before
 before-cases m k e = go (or-cases (ltb (letters m) (letters k)) (eqb (letters m) (letters k) && ltb m k) e)
   where
-    go : (ltb (letters m) (letters k) ≡ true) ⊎ ((eqb (letters m) (letters k) && ltb m k) ≡ true) → (letters m < letters k) ⊎ ((letters m ≡ letters k) × (m < k))
+    go : (ltb (letters m) (letters k) ≡ true) ⊎ ((eqb (letters m) (letters k) && ltb m k) ≡ true)
+        → (letters m < letters k) ⊎ ((letters m ≡ letters k) × (m < k))
     go (inl f) = inl (ltb-true _ _ f)
     go (inr f) = inr (eqb-true _ _ (and-left _ (ltb m k) f), ltb-true _ _ (and-right (eqb (letters m) (letters k)) _ f))
 
@@ -42,7 +43,8 @@ before-irreflexive m e = go (before-cases m m e)
 pub before-transitive : (m k l : ℕ) → before m k ≡ true → before k l ≡ true → before m l ≡ true
 before-transitive m k l e f = go (before-cases m k e) (before-cases k l f)
   where
-    go : (letters m < letters k) ⊎ ((letters m ≡ letters k) × (m < k)) → (letters k < letters l) ⊎ ((letters k ≡ letters l) × (k < l)) → before m l ≡ true
+    go : (letters m < letters k) ⊎ ((letters m ≡ letters k) × (m < k)) → (letters k < letters l) ⊎ ((letters k ≡ letters l) × (k < l))
+        → before m l ≡ true
     go (inl g) (inl h) = before-fewer m l (omega arith)
     go (inl g) (inr h) = before-fewer m l (omega (arith, h .0))
     go (inr g) (inl h) = before-fewer m l (omega (arith, g .0))
@@ -60,7 +62,8 @@ compared a b = go (bool-cases (ltb a b)) (bool-cases (ltb b a))
 pub before-total : (m k : ℕ) → (before m k ≡ true) ⊎ ((m ≡ k) ⊎ (before k m ≡ true))
 before-total m k = go (compared (letters m) (letters k)) (compared m k)
   where
-    go : (letters m < letters k) ⊎ ((letters m ≡ letters k) ⊎ (letters k < letters m)) → (m < k) ⊎ ((m ≡ k) ⊎ (k < m)) → (before m k ≡ true) ⊎ ((m ≡ k) ⊎ (before k m ≡ true))
+    go : (letters m < letters k) ⊎ ((letters m ≡ letters k) ⊎ (letters k < letters m)) → (m < k) ⊎ ((m ≡ k) ⊎ (k < m))
+        → (before m k ≡ true) ⊎ ((m ≡ k) ⊎ (before k m ≡ true))
     go (inl l) c = inl (before-fewer m k l)
     go (inr (inr l)) c = inr (inr (before-fewer k m l))
     go (inr (inl e)) (inl l) = inl (before-smaller m k e l)
@@ -70,7 +73,9 @@ before-total m k = go (compared (letters m) (letters k)) (compared m k)
 -- one number in place of two
 pub before-rank : (n m k : ℕ) → m < 2 ^ n → k < 2 ^ n → before m k ≡ ltb (rank n m) (rank n k)
 unfolding rank
-before-rank n m k hm hk = bool-iff (before m k) (ltb (rank n m) (rank n k)) (λ e. lt-ltb _ _ (up (before-cases m k e))) (λ e. down (before-total m k) (ltb-true _ _ e))
+before-rank n m k hm hk =
+    bool-iff (before m k) (ltb (rank n m) (rank n k)) (λ e. lt-ltb _ _ (up (before-cases m k e)))
+    (λ e. down (before-total m k) (ltb-true _ _ e))
   where
     climb : (i j : ℕ) → i < 2 ^ n → letters i < letters j → rank n i < rank n j
     climb i j hi l = let d : letters i * 2 ^ n + i < letters j * 2 ^ n = digits-lt l hi in omega arith

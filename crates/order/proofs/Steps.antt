@@ -45,7 +45,8 @@ unfolding everyBelow nth choose
 first = refl
 
 nth-first : (n k : ℕ) → n ≤ 10 → k ≤ 10 → 0 < choose n k → nth n k 0 + 1 ≡ 2 ^ k
-nth-first n k hn hk h = go (or-cases (leb (choose n k) 0) (eqb (nth n k 0 + 1) (2 ^ k)) (every-all 11 _ (every-all 11 _ first n (omega arith)) k (omega arith)))
+nth-first n k hn hk h =
+    go (or-cases (leb (choose n k) 0) (eqb (nth n k 0 + 1) (2 ^ k)) (every-all 11 _ (every-all 11 _ first n (omega arith)) k (omega arith)))
   where
     go : (leb (choose n k) 0 ≡ true) ⊎ (eqb (nth n k 0 + 1) (2 ^ k) ≡ true) → nth n k 0 + 1 ≡ 2 ^ k
     go (inl e) = absurd (omega (arith, leb-true (choose n k) 0 e))
@@ -69,7 +70,8 @@ module _ {k r m left rest : ℕ} where
         same = let s : m + nth (suc n) left rest ≡ nth 10 k r = g .same in simp (lt-ltb rest (choose n left) h) at s;
       }
 
-  with-letter : (n : ℕ) → SoFar k r m left rest (suc n) → choose n left ≤ rest → (0 < left) × SoFar k r (m + 2 ^ n) (left - 1) (rest - choose n left) n
+  with-letter : (n : ℕ) → SoFar k r m left rest (suc n) → choose n left ≤ rest → (0 < left)
+      × SoFar k r (m + 2 ^ n) (left - 1) (rest - choose n left) n
   unfolding nth
   with-letter n g h =
       let w = less n left rest (g .inside) h in

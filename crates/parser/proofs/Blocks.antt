@@ -32,7 +32,8 @@ use Rattle.parser.proofs.Codes.{sum-sign}
 
 -- ---- the loops
 module _ (k : ℕ) (xs t : List ℕ) (i : ℕ) where
-  pub pair-more : (op : ℕ) (v : ℕ) → t ≡ filled i (paired op k xs) xs → i < k → k + k ≤ length xs → v ≡ joinOf op (getD t i 0) (getD t (k + i) 0)
+  pub pair-more : (op : ℕ) (v : ℕ) → t ≡ filled i (paired op k xs) xs → i < k → k + k ≤ length xs
+      → v ≡ joinOf op (getD t i 0) (getD t (k + i) 0)
       → set t i v ≡ filled (i + 1) (paired op k xs) xs
   unfolding paired
   pair-more op v e l room ev =
@@ -40,7 +41,8 @@ module _ (k : ℕ) (xs t : List ℕ) (i : ℕ) where
       let other : getD t (k + i) 0 ≡ getD xs (k + i) 0 = rw e (filled-high i (paired op k xs) xs (k + i) (omega arith) (omega arith)) in
       filled-more i (paired op k xs) xs t e v (omega arith) (ev ∙ ap₂ (joinOf op) own other)
 
-  pub each-more : (op word v : ℕ) → t ≡ filled i (λ n. joinOf op (getD xs n 0) word) xs → i < k → k ≤ length xs → v ≡ joinOf op (getD t i 0) word
+  pub each-more : (op word v : ℕ) → t ≡ filled i (λ n. joinOf op (getD xs n 0) word) xs → i < k → k ≤ length xs
+      → v ≡ joinOf op (getD t i 0) word
       → set t i v ≡ filled (i + 1) (λ n. joinOf op (getD xs n 0) word) xs
   each-more op word v e l room ev =
       filled-more i _ xs t e v (omega arith) (ev ∙ ap (λ (x : ℕ). joinOf op x word) (filled-read i _ xs t e (omega arith)))
@@ -64,7 +66,8 @@ pub front-word : (k : ℕ) (f : ℕ → ℕ) (a : List ℕ) (i : ℕ) → take k
 front-word k f a i e l = sym (getD-take k a i 0 l) ∙ ap (λ (t : List ℕ). getD t i 0) e ∙ getD-listed k f i 0 l
 
 -- the words of values, put in the place of the first block
-pub front-values : (k : ℕ) (h : ℕ → Bool) (f : ℕ → ℕ) (xs new : List ℕ) → new ≡ filled k f xs → ((w : ℕ) → w < k → f w ≡ wordAt h w) → take k new ≡ wordsOf k h
+pub front-values : (k : ℕ) (h : ℕ → Bool) (f : ℕ → ℕ) (xs new : List ℕ) → new ≡ filled k f xs → ((w : ℕ) → w < k → f w ≡ wordAt h w)
+    → take k new ≡ wordsOf k h
 unfolding wordsOf wordAt
 front-values k h f xs new e each = ap (take k) e ∙ front-filled k f xs ∙ listed-cong k f _ each
 
@@ -78,7 +81,8 @@ module _ (op k : ℕ) (g h : ℕ → Bool) (a b : List ℕ) (ea : take k a ≡ w
   second : (i : ℕ) → i < k → getD (take k a ++ b) (k + i) 0 ≡ wordAt h i
   unfolding wordsOf wordAt
   second i l =
-      rw ea (ap (λ (n : ℕ). getD (listed k (wordAt g) ++ b) (n + i) 0) (sym (length-listed k (wordAt g))) ∙ getD-append-add (listed k (wordAt g)) b i 0)
+      rw ea (ap (λ (n : ℕ). getD (listed k (wordAt g) ++ b) (n + i) 0) (sym (length-listed k (wordAt g)))
+      ∙ getD-append-add (listed k (wordAt g)) b i 0)
       ∙ front-word k (wordAt h) b i eb l
 
   pub front-joined : (both : ℕ → Bool) (new : List ℕ) → new ≡ filled k (paired op k (take k a ++ b)) (take k a ++ b)
@@ -90,12 +94,14 @@ pub size-filled : (k : ℕ) (f : ℕ → ℕ) (xs new : List ℕ) → new ≡ fi
 size-filled k f xs new e h = ap length e ∙ length-filled k f xs h
 
 -- ---- words joined bit by bit
-module _ (op : ℕ → ℕ → ℕ) (g : Bool → Bool → Bool) (bits : (a b i : ℕ) → bit (op a b) i ≡ g (bit a i) (bit b i)) (small : (a b : ℕ) → a < 2 ^ 64 → b < 2 ^ 64 → op a b < 2 ^ 64) where
+module _ (op : ℕ → ℕ → ℕ) (g : Bool → Bool → Bool) (bits : (a b i : ℕ) → bit (op a b) i ≡ g (bit a i) (bit b i))
+    (small : (a b : ℕ) → a < 2 ^ 64 → b < 2 ^ 64 → op a b < 2 ^ 64) where
   by-bits : (f h : ℕ → Bool) (w : ℕ) → op (wordAt f w) (wordAt h w) ≡ wordAt (λ p. g (f p) (h p)) w
   unfolding wordAt
   by-bits f h w = word-is _ _ (small _ _ (word-lt _) (word-lt _)) (λ i l. bits _ _ i ∙ ap₂ g (word-bit _ i l) (word-bit _ i l))
 
-pub times-word : (U : ℕ) (e f : Tree) (w : ℕ) → joinOf timesSign (wordAt (atPoint U e) w) (wordAt (atPoint U f) w) ≡ wordAt (atPoint U (times e f)) w
+pub times-word : (U : ℕ) (e f : Tree) (w : ℕ)
+    → joinOf timesSign (wordAt (atPoint U e) w) (wordAt (atPoint U f) w) ≡ wordAt (atPoint U (times e f)) w
 unfolding joinOf atPoint
 times-word U e f w = by-bits bitAnd _&&_ and-bit (and-lt 64) (atPoint U e) (atPoint U f) w
 
@@ -133,20 +139,26 @@ constant-word false w = high-letter 6 0 false (omega arith) refl ∙ word-cong _
     over i l = omega arith
 
 module _ (U k : ℕ) (a new : List ℕ) where
-  pub constant-values : (b : Bool) → new ≡ filled k (λ i. joinOf 0 (getD a i 0) (cond b ones 0)) a → take k new ≡ wordsOf k (atPoint U (constant b))
+  pub constant-values : (b : Bool) → new ≡ filled k (λ i. joinOf 0 (getD a i 0) (cond b ones 0)) a
+      → take k new ≡ wordsOf k (atPoint U (constant b))
   unfolding atPoint
   constant-values b e = front-values k (λ p. b) _ a new e (λ w l. put-is (getD a w 0) _ ∙ constant-word b w)
 
   -- the complement of the first block
-  pub negation-values : (t : Tree) → take k a ≡ wordsOf k (atPoint U t) → new ≡ filled k (λ i. joinOf plusSign (getD a i 0) ones) a → take k new ≡ wordsOf k (atPoint U (negation t))
+  pub negation-values : (t : Tree) → take k a ≡ wordsOf k (atPoint U t) → new ≡ filled k (λ i. joinOf plusSign (getD a i 0) ones) a
+      → take k new ≡ wordsOf k (atPoint U (negation t))
   unfolding atPoint wordsOf wordAt
   negation-values t ea e =
-      front-values k (atPoint U (negation t)) _ a new e (λ w l. ap₂ (joinOf plusSign) (front-word k (wordAt (atPoint U t)) a w ea l) (constant-word true w) ∙ plus-word (atPoint U t) (λ p. true) w)
+      front-values k (atPoint U (negation t)) _ a new e
+      (λ w l. ap₂ (joinOf plusSign) (front-word k (wordAt (atPoint U t)) a w ea l) (constant-word true w)
+      ∙ plus-word (atPoint U t) (λ p. true) w)
 
 -- a letter
-pub low-filled : (k j word : ℕ) (a new : List ℕ) → j < 6 → word ≡ getD lowLetters j 0 → new ≡ filled k (λ i. joinOf 0 (getD a i 0) word) a → new ≡ filled k (wordAt (λ p. bit p j)) a
+pub low-filled : (k j word : ℕ) (a new : List ℕ) → j < 6 → word ≡ getD lowLetters j 0 → new ≡ filled k (λ i. joinOf 0 (getD a i 0) word) a
+    → new ≡ filled k (wordAt (λ p. bit p j)) a
 unfolding filled wordAt
-low-filled k j word a new l ew e = e ∙ ap (λ (z : List ℕ). z ++ drop k a) (listed-cong k _ _ (λ w _. put-is (getD a w 0) word ∙ ew ∙ low-letter j w l))
+low-filled k j word a new l ew e =
+    e ∙ ap (λ (z : List ℕ). z ++ drop k a) (listed-cong k _ _ (λ w _. put-is (getD a w 0) word ∙ ew ∙ low-letter j w l))
 
 pub high-word : (j w : ℕ) (b : Bool) → 6 ≤ j → eqb (w / 2 ^ (j - 6) % 2) 1 ≡ b → cond b ones 0 ≡ wordAt (λ p. bit p j) w
 unfolding wordAt

@@ -140,7 +140,9 @@ module _ (test : ℕ → Bool) (s : List ℕ) where
     unfolding every
     one-noted r h e =
         let more : every test (take (i + 1) s) ≡ (every test (take i s) && test (getD s i 0)) =
-        rw (add-one, take-suc s i 0) (every-append test (take i s) (getD s i 0 ∷ []) ∙ ap (λ (b : Bool). every test (take i s) && b) (and-true (test (getD s i 0)))) in
+        rw (add-one, take-suc s i 0)
+        (every-append test (take i s) (getD s i 0 ∷ [])
+        ∙ ap (λ (b : Bool). every test (take i s) && b) (and-true (test (getD s i 0)))) in
         rw (noted, e, more) (or-noted (every test (take i s)) (test (getD s i 0)))
 
     pub all-noted : length s ≤ i → eqb no 0 ≡ every test s
@@ -161,7 +163,8 @@ pub unspacing : (text out : List ℕ) → Unspacing text out out 0 0
 unfolding unspaced
 unspacing text out = record { read = omega arith; fewer = omega arith; same = refl; written = refl }
 
-pub all-unspaced : (text out₀ out : List ℕ) (n i : ℕ) → Unspacing text out₀ out n i → length text ≤ i → length text ≤ length out₀ → (n ≤ length out) × (take n out ≡ unspaced text)
+pub all-unspaced : (text out₀ out : List ℕ) (n i : ℕ) → Unspacing text out₀ out n i → length text ≤ i → length text ≤ length out₀
+    → (n ≤ length out) × (take n out ≡ unspaced text)
 all-unspaced text out₀ out n i d h k = (omega (arith, d .fewer, d .read, d .same), d .written ∙ ap unspaced (take-all i text h))
 
 cond-append : (b : Bool) (x : ℕ) (l m : List ℕ) → cond b (l ++ m) (x ∷ (l ++ m)) ≡ cond b l (x ∷ l) ++ m

@@ -85,12 +85,28 @@ module _ (L : Loop) (U k : ℕ) (s : List ℕ) (at size : ℕ) where
       pub ended : length s ≤ n → IsUpTo (L .whole) U k s at size stack n
       ended h =
           let e : drop n s ≡ [] = drop-of-length-le s h in
-          record { tree = g .tree; read = g .same ∙ rw e (L .stops (g .tree)); values = g .values; kept = g .kept ∙ first .kept; past = g .past; inside = g .inside }
+          record {
+            tree = g .tree;
+            read = g .same ∙ rw e (L .stops (g .tree));
+            values = g .values;
+            kept = g .kept
+                ∙ first .kept;
+            past = g .past;
+            inside = g .inside;
+          }
 
       module _ (h : n < length s) where
         pub other-sign : L .joins (meant (getD s n 0)) ≡ false → IsUpTo (L .whole) U k s at size stack n
         other-sign t =
-            record { tree = g .tree; read = g .same ∙ rw (next s n h) (L .goes (g .tree) _ _ ∙ rw t); values = g .values; kept = g .kept ∙ first .kept; past = g .past; inside = g .inside }
+            record {
+              tree = g .tree;
+              read = g .same ∙ rw (next s n h) (L .goes (g .tree) _ _ ∙ rw t);
+              values = g .values;
+              kept = g .kept
+                  ∙ first .kept;
+              past = g .past;
+              inside = g .inside;
+            }
 
         module _ (small : k ≤ 16) (room : 8 * (length s - at) + 8 ≤ size) where
           -- what the loop asks before it calls
@@ -115,12 +131,16 @@ module _ (L : Loop) (U k : ℕ) (s : List ℕ) (at size : ℕ) where
             second = take-append-le k rest (postOf k (length stack - k) stack) (omega (arith, both-room, mid, behind, q .kept)) ∙ q .values
 
             pub more : (new : List ℕ) → L .joins (meant (getD s n 0)) ≡ true
-                → new ≡ filled k (paired (L .sign (getD s n 0)) k (putMid k (length stack - k) stack rest)) (putMid k (length stack - k) stack rest) → Going L U k s at (length stack₀) m′ new
+                → new ≡ filled k (paired (L .sign (getD s n 0)) k (putMid k (length stack - k) stack rest))
+                (putMid k (length stack - k) stack rest) → Going L U k s at (length stack₀) m′ new
             more new t e =
                 record {
                   tree = L .join (meant (getD s n 0)) (g .tree) (q .tree);
                   same = g .same ∙ rw (next s n h) (L .goes (g .tree) _ _ ∙ rw t (then-found _ (q .read)));
-                  values = front-joined (L .sign (getD s n 0)) k (atPoint U (g .tree)) (atPoint U (q .tree)) stack (rest ++ postOf k (length stack - k) stack) (g .values) second _ new e (L .words (getD s n 0) t U (g .tree) (q .tree));
+                  values =
+                      front-joined (L .sign (getD s n 0)) k (atPoint U (g .tree)) (atPoint U (q .tree)) stack
+                      (rest ++ postOf k (length stack - k) stack) (g .values) second _ new e
+                      (L .words (getD s n 0) t U (g .tree) (q .tree));
                   kept = size-filled k _ _ new e (omega (arith, both-room)) ∙ mid ∙ g .kept;
                   past = omega (arith, g .past, q .past);
                   inside = q .inside;
@@ -131,7 +151,8 @@ module _ (L : Loop) (U k : ℕ) (s : List ℕ) (at size : ℕ) where
     more-missing t q = record { none = g .same ∙ rw (next s n h) (L .goes (g .tree) _ _ ∙ rw t (then-nothing _ (q .none))) }
 
 -- the stack is as long as it was, whatever was found
-pub stays : (k : ℕ) (stack rest : List ℕ) {size₀ size : ℕ} → length rest ≡ length (take (length stack - k) (drop k stack)) → length stack ≡ size₀ → size₀ ≡ size
+pub stays : (k : ℕ) (stack rest : List ℕ) {size₀ size : ℕ} → length rest ≡ length (take (length stack - k) (drop k stack))
+    → length stack ≡ size₀ → size₀ ≡ size
     → length (putMid k (length stack - k) stack rest) ≡ size
 stays k stack rest e g f = same-len-mid k (length stack - k) stack rest e ∙ g ∙ f
 
@@ -224,12 +245,14 @@ module _ (s : List ℕ) (at : ℕ) (h : at < length s) where
     pub reads-zero : getD s at 0 ≡ zeroSign → {new : List ℕ} → new ≡ filled k (λ i. joinOf 0 (getD stack i 0) 0) stack
         → IsUpTo factor U k s at (length stack) new (at + 1)
     unfolding meant isSingle
-    reads-zero q {new} z = one-symbol (constant false) new (rw q) (constant-values U k stack new false z) (size-filled k _ stack new z (omega arith))
+    reads-zero q {new} z =
+        one-symbol (constant false) new (rw q) (constant-values U k stack new false z) (size-filled k _ stack new z (omega arith))
 
     pub reads-one : getD s at 0 ≡ oneSign → {new : List ℕ} → new ≡ filled k (λ i. joinOf 0 (getD stack i 0) ones) stack
         → IsUpTo factor U k s at (length stack) new (at + 1)
     unfolding meant isSingle
-    reads-one q {new} z = one-symbol (constant true) new (rw q) (constant-values U k stack new true z) (size-filled k _ stack new z (omega arith))
+    reads-one q {new} z =
+        one-symbol (constant true) new (rw q) (constant-values U k stack new true z) (size-filled k _ stack new z (omega arith))
 
     module _ (r : NoSign (getD s at 0)) {new : List ℕ} (z : new ≡ filled k (wordAt (λ p. bit p (letterOf U (getD s at 0)))) stack) where
       reads-unknown : getD s at 0 < 6 → IsUpTo factor U k s at (length stack) new (at + 1)
@@ -237,7 +260,8 @@ module _ (s : List ℕ) (at : ℕ) (h : at < length s) where
       reads-unknown b =
           one-symbol (unknown (getD s at 0)) new
           (rw (unknown-meant _ b))
-          (rw (lt-ltb (getD s at 0) 8 (omega arith)) at (front-values k _ _ stack new z (λ w l. refl))) (size-filled k _ stack new z (omega arith))
+          (rw (lt-ltb (getD s at 0) 8 (omega arith)) at (front-values k _ _ stack new z (λ w l. refl)))
+          (size-filled k _ stack new z (omega arith))
 
       reads-given : 8 ≤ getD s at 0 → getD s at 0 < 16 → IsUpTo factor U k s at (length stack) new (at + 1)
       unfolding atPoint letterOf
@@ -280,4 +304,13 @@ module _ (s : List ℕ) (at : ℕ) (h : at < length s) where
 
         pub reads-brackets : getD s n 0 ≡ closeSign → IsUpTo factor U k s at size stack (n + 1)
         unfolding meant isSingle
-        reads-brackets r = record { tree = g .tree; read = opened ∙ rw (next s n l, r); values = g .values; kept = g .kept; past = omega (arith, g .past); inside = omega arith }
+        reads-brackets r =
+            record {
+              tree = g .tree;
+              read = opened
+                  ∙ rw (next s n l, r);
+              values = g .values;
+              kept = g .kept;
+              past = omega (arith, g .past);
+              inside = omega arith;
+            }

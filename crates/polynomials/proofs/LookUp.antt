@@ -51,7 +51,8 @@ abbrev pub level : ℕ → (ℕ → ℕ → Bool) → (ℕ → ℕ) → ℕ → 
 level v B low j p = wordOf (λ i. bit v (above (λ m. B m i) j * 2 ^ j + (4 * p + low i)))
 
 pick : (v s j p : ℕ) (b : Bool)
-    → (bit v (s * 2 ^ suc j + p) ⊕ (b && (bit v (s * 2 ^ suc j + p) ⊕ bit v (s * 2 ^ suc j + (p + 2 ^ j))))) ≡ bit v ((s * 2 + digit b) * 2 ^ j + p)
+    → (bit v (s * 2 ^ suc j + p) ⊕ (b && (bit v (s * 2 ^ suc j + p) ⊕ bit v (s * 2 ^ suc j + (p + 2 ^ j)))))
+    ≡ bit v ((s * 2 + digit b) * 2 ^ j + p)
 pick v s j p true =
     let e : s * 2 ^ suc j + (p + 2 ^ j) ≡ (s * 2 + 1) * 2 ^ j + p = omega (arith, scale s j, add-mul (s * 2) 1 (2 ^ j), one-mul (2 ^ j)) in
     cancel (bit v (s * 2 ^ suc j + p)) (bit v (s * 2 ^ suc j + (p + 2 ^ j))) ∙ ap (bit v) e
@@ -64,7 +65,11 @@ pick v s j p true =
     scale : (s j : ℕ) → s * 2 ^ suc j ≡ s * 2 * 2 ^ j
     scale s j = ap (λ (x : ℕ). s * x) (pow-suc 2 j ∙ mul-comm (2 ^ j) 2) ∙ sym (mul-assoc s 2 (2 ^ j))
 pick v s j p false =
-    let e : s * 2 ^ suc j + p ≡ (s * 2 + 0) * 2 ^ j + p = ap (λ (x : ℕ). x + p) (ap (λ (x : ℕ). s * x) (pow-suc 2 j ∙ mul-comm (2 ^ j) 2) ∙ sym (mul-assoc s 2 (2 ^ j)) ∙ ap (λ (x : ℕ). x * 2 ^ j) (sym (add-zero (s * 2)))) in
+    let e : s * 2 ^ suc j + p
+    ≡ (s * 2 + 0) * 2 ^ j + p =
+    ap (λ (x : ℕ). x + p)
+    (ap (λ (x : ℕ). s * x) (pow-suc 2 j ∙ mul-comm (2 ^ j) 2) ∙ sym (mul-assoc s 2 (2 ^ j))
+    ∙ ap (λ (x : ℕ). x * 2 ^ j) (sym (add-zero (s * 2)))) in
     xor-false (bit v (s * 2 ^ suc j + p)) ∙ ap (bit v) e
 
 place-lt : (a b i : ℕ) → placeOf a b i < 4
@@ -93,28 +98,33 @@ level-start v j a b B s t ej es et p l =
     flat p = omega arith
 
 -- letter j - 1 chooses
-pub level-next : (v j b half : ℕ) (B : ℕ → ℕ → Bool) (low : ℕ → ℕ) (t t′ : List ℕ) → 2 < j → j ≤ 6 → half ≡ 2 ^ (j - 1 - 2) → Holds b (B (j - 1))
-    → ((p : ℕ) → p < 2 ^ (j - 2) → getD t p 0 ≡ level v B low j p) → t′ ≡ listed half (λ p. chosen b (getD t p 0) (getD t (p + half) 0)) ++ drop half t
+pub level-next : (v j b half : ℕ) (B : ℕ → ℕ → Bool) (low : ℕ → ℕ) (t t′ : List ℕ) → 2 < j → j ≤ 6 → half ≡ 2 ^ (j - 1 - 2)
+    → Holds b (B (j - 1))
+    → ((p : ℕ) → p < 2 ^ (j - 2) → getD t p 0 ≡ level v B low j p)
+    → t′ ≡ listed half (λ p. chosen b (getD t p 0) (getD t (p + half) 0)) ++ drop half t
     → (p : ℕ) → p < 2 ^ (j - 1 - 2) → getD t′ p 0 ≡ level v B low (j - 1) p
 unfolding filled chosen
 level-next v j b half B low t t′ h l eh hb inv e p m =
     let s : j - 2 ≡ suc (j - 1 - 2) = omega arith in
     let d : 2 ^ (j - 2) ≡ 2 ^ (j - 1 - 2) * 2 = ap (λ (x : ℕ). 2 ^ x) s ∙ pow-suc 2 (j - 1 - 2) in
     let hx : Holds (getD t p 0) (λ i. bit v (above (λ m. B m i) j * 2 ^ j + (4 * p + low i))) = word-holds _ _ (inv p (omega arith)) in
-    let hy : Holds (getD t (p + half) 0) (λ i. bit v (above (λ m. B m i) j * 2 ^ j + (4 * (p + half) + low i))) = word-holds _ _ (inv (p + half) (omega arith)) in
+    let hy : Holds (getD t (p + half) 0) (λ i. bit v (above (λ m. B m i) j * 2 ^ j + (4 * (p + half) + low i))) = word-holds _ _
+    (inv (p + half) (omega arith)) in
     ap (λ (t : List ℕ). getD t p 0) e ∙ filled-low half (λ p. chosen b (getD t p 0) (getD t (p + half) 0)) t p (omega arith)
     ∙ holds-word _ _ (also-holds (xor-holds hx (and-holds hb (xor-holds hx hy))) (λ i _. at i))
   where
     at : (i : ℕ)
         → (bit v (above (λ m. B m i) j * 2 ^ j + (4 * p + low i))
-        ⊕ (B (j - 1) i && (bit v (above (λ m. B m i) j * 2 ^ j + (4 * p + low i)) ⊕ bit v (above (λ m. B m i) j * 2 ^ j + (4 * (p + half) + low i)))))
+        ⊕ (B (j - 1) i && (bit v (above (λ m. B m i) j * 2 ^ j + (4 * p + low i)) ⊕ bit v
+        (above (λ m. B m i) j * 2 ^ j + (4 * (p + half) + low i)))))
         ≡ bit v (above (λ m. B m i) (j - 1) * 2 ^ (j - 1) + (4 * p + low i))
     at i =
         let s : j ≡ suc (j - 1) = omega arith in
         let r : j - 1 - 2 + 2 ≡ j - 1 = omega arith in
         let q : 2 ^ (j - 1) ≡ half * 4 = sym (ap (λ (x : ℕ). 2 ^ x) r) ∙ pow-add 2 (j - 1 - 2) 2 ∙ ap (λ (x : ℕ). x * 4) (sym eh) in
         let y : 4 * (p + half) + low i ≡ 4 * p + low i + 2 ^ (j - 1) = omega arith in
-        ap₂ (λ (x y : ℕ). bit v (above (λ m. B m i) x * 2 ^ x + (4 * p + low i)) ⊕ (B (j - 1) i && (bit v (above (λ m. B m i) x * 2 ^ x + (4 * p + low i)) ⊕ bit v (above (λ m. B m i) x * 2 ^ x + y)))) s y
+        ap₂ (λ (x y : ℕ). bit v (above (λ m. B m i) x * 2 ^ x + (4 * p + low i)) ⊕
+        (B (j - 1) i && (bit v (above (λ m. B m i) x * 2 ^ x + (4 * p + low i)) ⊕ bit v (above (λ m. B m i) x * 2 ^ x + y)))) s y
         ∙ pick v (above (λ m. B m i) (suc (j - 1))) (j - 1) (4 * p + low i) (B (j - 1) i)
         ∙ ap (λ (x : ℕ). bit v (x * 2 ^ (j - 1) + (4 * p + low i))) (sym (above-next (λ m. B m i) (j - 1) (omega arith)))
 
@@ -135,8 +145,10 @@ level-end v j a b B t z ea eb inv =
     from m = omega arith
 
 -- the choice among four bits
-pub four-chosen : (x a b c₀ c₁ c₂ c₃ low high r : ℕ) → a < 2 ^ 64 → b < 2 ^ 64 → c₀ ≡ wordOf (λ i. bit x 0) → c₁ ≡ wordOf (λ i. bit x 1) → c₂ ≡ wordOf (λ i. bit x 2)
-    → c₃ ≡ wordOf (λ i. bit x 3) → low ≡ chosen a c₀ c₁ → high ≡ chosen a c₂ c₃ → r ≡ chosen b low high → r ≡ wordOf (λ i. bit x (placeOf a b i))
+pub four-chosen : (x a b c₀ c₁ c₂ c₃ low high r : ℕ) → a < 2 ^ 64 → b < 2 ^ 64 → c₀ ≡ wordOf (λ i. bit x 0) → c₁ ≡ wordOf (λ i. bit x 1)
+    → c₂ ≡ wordOf (λ i. bit x 2)
+    → c₃ ≡ wordOf (λ i. bit x 3) → low ≡ chosen a c₀ c₁ → high ≡ chosen a c₂ c₃ → r ≡ chosen b low high
+    → r ≡ wordOf (λ i. bit x (placeOf a b i))
 unfolding chosen placeOf
 four-chosen x a b c₀ c₁ c₂ c₃ low high r la lb e₀ e₁ e₂ e₃ el eh er =
     let ha : Holds a (bit a) = record { small = la; bits = λ i _. refl } in
@@ -153,9 +165,12 @@ four-chosen x a b c₀ c₁ c₂ c₃ low high r la lb e₀ e₁ e₂ e₃ el eh
     one true false z = refl
     one false y z = xor-false y
 
-    go : (y z : Bool) → ((bit x 0 ⊕ (y && (bit x 0 ⊕ bit x 1))) ⊕ (z && ((bit x 0 ⊕ (y && (bit x 0 ⊕ bit x 1))) ⊕ (bit x 2 ⊕ (y && (bit x 2 ⊕ bit x 3))))))
+    go : (y z : Bool) → ((bit x 0 ⊕ (y && (bit x 0 ⊕ bit x 1))) ⊕
+        (z && ((bit x 0 ⊕ (y && (bit x 0 ⊕ bit x 1))) ⊕ (bit x 2 ⊕ (y && (bit x 2 ⊕ bit x 3))))))
         ≡ bit x (digit z * 2 + digit y)
-    go y z = rw (one y (bit x 0) (bit x 1), one y (bit x 2) (bit x 3), one z (cond y (bit x 1) (bit x 0)) (cond y (bit x 3) (bit x 2))) (pair y z)
+    go y z =
+        rw (one y (bit x 0) (bit x 1), one y (bit x 2) (bit x 3), one z (cond y (bit x 1) (bit x 0)) (cond y (bit x 3) (bit x 2)))
+        (pair y z)
       where
         pair : (y z : Bool) → cond z (cond y (bit x 3) (bit x 2)) (cond y (bit x 1) (bit x 0)) ≡ bit x (digit z * 2 + digit y)
         pair true true = refl
@@ -178,7 +193,8 @@ half-small j half h l e =
 
 -- the two lowest parts
 pub first-parts : (parts : List ℕ) (k w : ℕ)
-    → ((i : ℕ) → bit (getD parts w 0) i ≡ bit (getD parts (0 * k + w) 0) i) × ((i : ℕ) → bit (getD parts (k + w) 0) i ≡ bit (getD parts (1 * k + w) 0) i)
+    → ((i : ℕ) → bit (getD parts w 0) i ≡ bit (getD parts (0 * k + w) 0) i)
+    × ((i : ℕ) → bit (getD parts (k + w) 0) i ≡ bit (getD parts (1 * k + w) 0) i)
 first-parts parts k w = (λ i. ap (λ (x : ℕ). bit (getD parts x 0) i) (zeroth k w), λ i. ap (λ (x : ℕ). bit (getD parts x 0) i) (first k w))
   where
     zeroth : (k w : ℕ) → w ≡ 0 * k + w
@@ -198,7 +214,8 @@ point-word v p = ap (λ (x : ℕ). x * 0xffff_ffff_ffff_ffff) (and-mask (v / 2 ^
     go (suc (suc d)) h = absurd (omega arith)
 
 -- the word of one word number, seen from the points
-pub looked-up : (f parts : List ℕ) (k w v r : ℕ) → v ≡ getD f w 0 → r ≡ wordOf (λ i. bit v (pointWhere 6 (λ j. bit (getD parts (j * k + w) 0) i)))
+pub looked-up : (f parts : List ℕ) (k w v r : ℕ) → v ≡ getD f w 0
+    → r ≡ wordOf (λ i. bit v (pointWhere 6 (λ j. bit (getD parts (j * k + w) 0) i)))
     → r ≡ wordOf (λ i. bitAt f (64 * ((64 * w + i) / 64) + pointWhere 6 (λ j. bitAt parts (j * (64 * k) + (64 * w + i)))))
 looked-up f parts k w v r ev e =
     e ∙ word-cong _ _ (λ i l.
@@ -209,7 +226,8 @@ looked-up f parts k w v r ev e =
 
 -- ---- the whole substitution
 -- the point that is looked up, where every letter from u on keeps its value
-replaced-point : (n u p : ℕ) (h : ℕ → Bool) → u ≤ 6 → u ≤ n → p < 2 ^ n → ((j : ℕ) → u ≤ j → h j ≡ bit p j) → 64 * (p / 64) + pointWhere 6 h ≡ pointWhere n h
+replaced-point : (n u p : ℕ) (h : ℕ → Bool) → u ≤ 6 → u ≤ n → p < 2 ^ n → ((j : ℕ) → u ≤ j → h j ≡ bit p j)
+    → 64 * (p / 64) + pointWhere 6 h ≡ pointWhere n h
 replaced-point n u p h hu hn hp keep =
     same-letters (6 + (n - 6)) _ _ small (lt (pointWhere-lt n h)) (λ j l. go j l (decLt j 6) (decLt j n))
   where
@@ -228,20 +246,23 @@ replaced-point n u p h hu hn hp keep =
     high : (j : ℕ) → 6 ≤ j → bit (64 * (p / 64) + pointWhere 6 h) j ≡ bit p j
     high j l =
         let e : 6 + (j - 6) ≡ j = omega arith in
-        ap (bit (64 * (p / 64) + pointWhere 6 h)) (sym e) ∙ bit-over (j - 6) (p / 64) (pointWhere 6 h) (pointWhere-lt 6 h) ∙ shr-bit p 6 (j - 6) ∙ ap (bit p) e
+        ap (bit (64 * (p / 64) + pointWhere 6 h)) (sym e) ∙ bit-over (j - 6) (p / 64) (pointWhere 6 h) (pointWhere-lt 6 h)
+        ∙ shr-bit p 6 (j - 6) ∙ ap (bit p) e
 
     go : (j : ℕ) → j < 6 + (n - 6) → Dec (j < 6) → Dec (j < n) → bit (64 * (p / 64) + pointWhere 6 h) j ≡ bit (pointWhere n h) j
     go j l (yes a) (yes b) = bit-in j (p / 64) (pointWhere 6 h) a ∙ bit-pointWhere 6 h j a ∙ sym (bit-pointWhere n h j b)
     go j l (yes a) (no b) =
         let k : n ≤ j = omega (arith, b) in
         let m : 2 ^ n ≤ 2 ^ j = pow-mono k in
-        bit-in j (p / 64) (pointWhere 6 h) a ∙ bit-pointWhere 6 h j a ∙ keep j (omega arith) ∙ none j k ∙ sym (bit-none (pointWhere n h) j (omega (arith, pointWhere-lt n h)))
+        bit-in j (p / 64) (pointWhere 6 h) a ∙ bit-pointWhere 6 h j a ∙ keep j (omega arith) ∙ none j k
+        ∙ sym (bit-none (pointWhere n h) j (omega (arith, pointWhere-lt n h)))
     go j l (no a) (yes b) = high j (omega (arith, a)) ∙ sym (keep j (omega (arith, a))) ∙ sym (bit-pointWhere n h j b)
     go j l (no a) (no b) = absurd (omega (arith, a, b))
 
 pub substitute-done : (u n k : ℕ) (condition handed f parts f′ out : List ℕ) → u ≤ 6 → u ≤ n → k ≡ 2 ^ (n - 6)
     → f ≡ wordsOf (2 ^ (n - 6)) (value n (present condition)) → parts ≡ answerWords 6 (2 ^ (n - 6)) (putFor u n handed)
-    → f′ ≡ wordsOf k (λ p. bitAt f (64 * (p / 64) + pointWhere 6 (λ j. bitAt parts (j * (64 * k) + p)))) → out ≡ table n (value n (bitAt f′))
+    → f′ ≡ wordsOf k (λ p. bitAt f (64 * (p / 64) + pointWhere 6 (λ j. bitAt parts (j * (64 * k) + p))))
+    → out ≡ table n (value n (bitAt f′))
     → out ≡ table n (substitute n n (present condition) (forUnknowns u (held n handed)))
 unfolding putFor
 substitute-done u n k condition handed f parts f′ out hu hn ek ef ep e′ eo =
@@ -249,15 +270,19 @@ substitute-done u n k condition handed f parts f′ out hu hn ek ef ep e′ eo =
     let m : p < 64 * 2 ^ (n - 6) = omega (arith, room n) in
     let q : 64 * (p / 64) + pointWhere 6 (λ j. bitAt parts (j * (64 * 2 ^ (n - 6)) + p)) ≡ pointWhere n (λ j. putFor u n handed j p) =
     ap (λ (x : ℕ). 64 * (p / 64) + x) (pointWhere-cong 6 _ _ (λ j i. answer-at 6 (2 ^ (n - 6)) j p (putFor u n handed) parts ep i m))
-    ∙ replaced-point n u p (λ j. putFor u n handed j p) hu hn l (λ j i. ap (λ (b : Bool). cond b (value n (held n handed j) p) (bit p j)) (le-ltb j u i)) in
-    at-known (2 ^ (n - 6)) _ f′ (e′ ∙ ap (λ (x : ℕ). wordsOf x (λ p. bitAt f (64 * (p / 64) + pointWhere 6 (λ j. bitAt parts (j * (64 * x) + p))))) ek) p m
+    ∙ replaced-point n u p (λ j. putFor u n handed j p) hu hn l
+    (λ j i. ap (λ (b : Bool). cond b (value n (held n handed j) p) (bit p j)) (le-ltb j u i)) in
+    at-known (2 ^ (n - 6)) _ f′
+    (e′ ∙ ap (λ (x : ℕ). wordsOf x (λ p. bitAt f (64 * (p / 64) + pointWhere 6 (λ j. bitAt parts (j * (64 * x) + p))))) ek) p m
     ∙ ap (bitAt f) q
     ∙ at-known (2 ^ (n - 6)) _ f ef _ (omega (arith, room n, pointWhere-lt n (λ j. putFor u n handed j p)))
     ∙ sym (value-forUnknowns n u (present condition) (held n handed) p))
 
 -- ---- the loops
-pub choose-more : (b half p : ℕ) (t₀ t : List ℕ) → t ≡ filled p (λ p. chosen b (getD t₀ p 0) (getD t₀ (p + half) 0)) t₀ → p < half → half + half ≤ length t₀
-    → set t p (bitXor (getD t p 0) (bitAnd b (bitXor (getD t p 0) (getD t (p + half) 0)))) ≡ filled (p + 1) (λ p. chosen b (getD t₀ p 0) (getD t₀ (p + half) 0)) t₀
+pub choose-more : (b half p : ℕ) (t₀ t : List ℕ) → t ≡ filled p (λ p. chosen b (getD t₀ p 0) (getD t₀ (p + half) 0)) t₀ → p < half
+    → half + half ≤ length t₀
+    → set t p (bitXor (getD t p 0) (bitAnd b (bitXor (getD t p 0) (getD t (p + half) 0))))
+    ≡ filled (p + 1) (λ p. chosen b (getD t₀ p 0) (getD t₀ (p + half) 0)) t₀
 unfolding chosen
 choose-more b half p t₀ t e h l =
     let F : ℕ → ℕ = λ p. chosen b (getD t₀ p 0) (getD t₀ (p + half) 0) in

@@ -29,7 +29,8 @@ unfolding table
 sum-done n a b o₁ o₂ t e₁ e₂ = e₂ ∙ rw (e₁, t .size)
 
 -- to values, point by point, and back
-pub product-done : (n k : ℕ) (a b x y z out : List ℕ) → k ≡ 2 ^ (n - 6) → x ≡ wordsOf (2 ^ (n - 6)) (value n (present a)) → y ≡ wordsOf (2 ^ (n - 6)) (value n (present b))
+pub product-done : (n k : ℕ) (a b x y z out : List ℕ) → k ≡ 2 ^ (n - 6) → x ≡ wordsOf (2 ^ (n - 6)) (value n (present a))
+    → y ≡ wordsOf (2 ^ (n - 6)) (value n (present b))
     → z ≡ wordsOf k (λ p. bitAt x p && bitAt y p) → out ≡ table n (value n (bitAt z)) → out ≡ table n (product n (present a) (present b))
 product-done n k a b x y z out ek ex ey ez eo =
     eo ∙ table-back n (product n (present a) (present b)) z (λ p l.
@@ -41,9 +42,15 @@ product-done n k a b x y z out ek ex ey ez eo =
 -- the handed table j
 module _ (n j size : ℕ) (t : List ℕ) (e : size ≡ 2 ^ n) where
   pub handed-table : j * size + size ≤ length t → AreBits t → IsTable n (take (j * size + size - j * size) (drop (j * size) t))
-  handed-table fits bits = record { size = part-length j size t fits ∙ e; bits = bits-take (j * size + size - j * size) (drop (j * size) t) (bits-drop (j * size) t bits) }
+  handed-table fits bits =
+      record {
+        size = part-length j size t fits
+            ∙ e;
+        bits = bits-take (j * size + size - j * size) (drop (j * size) t) (bits-drop (j * size) t bits);
+      }
 
-  pub unknown-part : (u k : ℕ) (ws : List ℕ) → j < u → ws ≡ wordsOf k (value n (present (take (j * size + size - j * size) (drop (j * size) t)))) → ws ≡ wordsOf k (putFor u n t j)
+  pub unknown-part : (u k : ℕ) (ws : List ℕ) → j < u
+      → ws ≡ wordsOf k (value n (present (take (j * size + size - j * size) (drop (j * size) t)))) → ws ≡ wordsOf k (putFor u n t j)
   unfolding putFor
   unknown-part u k ws h ew =
       let d : j * size + size - j * size ≡ 2 ^ n = omega arith in
@@ -66,11 +73,13 @@ part-word : (k : ℕ) (h : ℕ → ℕ → Bool) (j w : ℕ) → w < k → partW
 unfolding partWord
 part-word k h j w l = ap₂ (λ (x y : ℕ). wordOf (λ i. h x (64 * y + i))) (digits-div j l) (digits-mod j l)
 
-pub part-put : (j k k′ : ℕ) (h : ℕ → ℕ → Bool) (ys : List ℕ) → ys ≡ wordsOf k′ (h j) → k ≡ k′ → ys ≡ listed k (λ w. partWord k h (j * k + w))
+pub part-put : (j k k′ : ℕ) (h : ℕ → ℕ → Bool) (ys : List ℕ) → ys ≡ wordsOf k′ (h j) → k ≡ k′
+    → ys ≡ listed k (λ w. partWord k h (j * k + w))
 unfolding wordsOf
 part-put j k k′ h ys e ek = e ∙ ap (λ (x : ℕ). wordsOf x (h j)) (sym ek) ∙ listed-cong k _ _ (λ w l. sym (part-word k h j w l))
 
-pub parts-taken : (k size j : ℕ) (h : ℕ → ℕ → Bool) (t₀ t : List ℕ) → k ≡ size → j ≡ 6 → length t₀ ≡ 6 * size → t ≡ filled (j * k) (partWord k h) t₀ → 0 < size → t ≡ answerWords 6 size h
+pub parts-taken : (k size j : ℕ) (h : ℕ → ℕ → Bool) (t₀ t : List ℕ) → k ≡ size → j ≡ 6 → length t₀ ≡ 6 * size
+    → t ≡ filled (j * k) (partWord k h) t₀ → 0 < size → t ≡ answerWords 6 size h
 parts-taken k size j h t₀ t ek ej es e pos =
     parts-end 6 size j k (partWord k h) t₀ t ek ej es e ∙ ap (λ (x : ℕ). listed (6 * size) (partWord x h)) ek
     ∙ words-parts 6 size (partWord size h) h pos (λ x w _ l. part-word size h x w l)

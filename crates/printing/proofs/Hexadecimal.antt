@@ -31,7 +31,9 @@ pub hex-more : (old bytes new : List ℕ) (at i : ℕ) {high low : ℕ} → i < 
     → Put old at (hexadecimal (take (i + 1) bytes)) (at + 2 * (i + 1)) (set (set new (at + 2 * i) high) (at + 2 * i + 1) low)
 hex-more old bytes new at i {high} {low} l h eh el p =
     let place : at + 2 * (i + 1) ≡ at + 2 * i + 2 = omega arith in
-    rw (place, add-one i, take-suc bytes i 0 l, hex-snoc, ← eh, ← el) (put-both p (put-two new (at + 2 * i) high low (omega (arith, put-length p))))
+    rw (place, add-one i, take-suc bytes i 0 l, hex-snoc, ← eh, ← el)
+    (put-both p (put-two new (at + 2 * i) high low (omega (arith, put-length p))))
 
-pub hex-all : (old bytes new : List ℕ) (at i : ℕ) → length bytes ≤ i → Put old at (hexadecimal (take i bytes)) (at + 2 * i) new → Put old at (hexadecimal bytes) (at + 2 * i) new
+pub hex-all : (old bytes new : List ℕ) (at i : ℕ) → length bytes ≤ i → Put old at (hexadecimal (take i bytes)) (at + 2 * i) new
+    → Put old at (hexadecimal bytes) (at + 2 * i) new
 hex-all old bytes new at i l p = rw (take-all i bytes l) at p

@@ -40,7 +40,8 @@ pub lines-most : (rs : List Record) → allWhole rs ≡ true → length (recordL
 unfolding recordLines bytes allWhole
 lines-most [] w = omega arith
 lines-most (r ∷ rs) w =
-    let some : 0 < length r = ltb-true 0 (length r) (and-left (ltb 0 (length r)) (eqb (length r) (size (kind r))) (and-left (isWhole r) (allWhole rs) w)) in
+    let some : 0 < length r = ltb-true 0 (length r)
+    (and-left (ltb 0 (length r)) (eqb (length r) (size (kind r))) (and-left (isWhole r) (allWhole rs) w)) in
     let behind : length (recordLines rs) ≤ 3 * length (bytes rs) = lines-most rs (and-right (isWhole r) (allWhole rs) w) in
     omega (arith, hex-length r, length-append (hexadecimal r) (lineFeed ∷ recordLines rs), length-append r (bytes rs))
 
@@ -57,7 +58,8 @@ each-lines (code ∷ codes) =
     ∙ ap (λ (l : List ℕ). hexadecimal (listedRecord code) ++ (lineFeed ∷ l)) (each-lines codes)
 
 -- one of them by its bytes
-record-line : {r bs old new : List ℕ} {at next : ℕ} → r ≡ bs → Put old at (hexadecimal bs ++ (lineFeed ∷ [])) next new → Put old at (recordLines (r ∷ [])) next new
+record-line : {r bs old new : List ℕ} {at next : ℕ} → r ≡ bs → Put old at (hexadecimal bs ++ (lineFeed ∷ [])) next new
+    → Put old at (recordLines (r ∷ [])) next new
 record-line {r} e p = put-same p (sym (line-of r ∙ ap (λ (l : List ℕ). hexadecimal l ++ (lineFeed ∷ [])) e))
 
 module _ (code : ℕ) where
@@ -68,7 +70,8 @@ module _ (code : ℕ) where
   answer-room at room n h = omega (arith, line-length (listedRecord code), ap length (answer-listed code n))
 
   pub condition-line : {at r : ℕ} {old new : List ℕ} → code / 1024 ≡ 0
-      → Put old at (hexadecimal (2 ∷ code % 1024 % 256 ∷ code % 1024 / 256 ∷ []) ++ (lineFeed ∷ [])) r new → Put old at (recordLines (listedRecord code ∷ [])) r new
+      → Put old at (hexadecimal (2 ∷ code % 1024 % 256 ∷ code % 1024 / 256 ∷ []) ++ (lineFeed ∷ [])) r new
+      → Put old at (recordLines (listedRecord code ∷ [])) r new
   condition-line z p = record-line (condition-listed code z) p
 
   pub answer-line : {at r : ℕ} {old new : List ℕ} → (code / 1024 ≡ 0 → ⊥)
@@ -80,7 +83,8 @@ module _ (code : ℕ) where
 abbrev pub Printing : List ℕ → List ℕ → ℕ → ℕ → ℕ → List ℕ → Type 0
 Printing codes old from p at new = Putting codeLine codes old from p at new
 
-pub printing-start : (codes old : List ℕ) (from : ℕ) → from + length (recordLines (map listedRecord codes)) ≤ length old → Printing codes old from 0 from old
+pub printing-start : (codes old : List ℕ) (from : ℕ) → from + length (recordLines (map listedRecord codes)) ≤ length old
+    → Printing codes old from 0 from old
 printing-start codes old from h = putting-start codeLine codes old from (rw (each-lines codes) h)
 
 module _ {codes old : List ℕ} {from p at : ℕ} {new : List ℕ} (w : Printing codes old from p at new) where
@@ -89,7 +93,8 @@ module _ {codes old : List ℕ} {from p at : ℕ} {new : List ℕ} (w : Printing
     unfolding codeLine
     line-fits = part-fits w l e
 
-    pub printing-more : {at′ : ℕ} {new′ : List ℕ} → Put new at (recordLines (listedRecord code ∷ [])) at′ new′ → Printing codes old from (p + 1) at′ new′
+    pub printing-more : {at′ : ℕ} {new′ : List ℕ} → Put new at (recordLines (listedRecord code ∷ [])) at′ new′
+        → Printing codes old from (p + 1) at′ new′
     unfolding codeLine
     printing-more q = putting-more w l e q
 

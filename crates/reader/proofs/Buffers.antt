@@ -76,7 +76,8 @@ state-told (solved a) = refl
 state-told (none state) = refl
 
 -- ---- question 4, as the code asks it
-pub room-asked : (k room size answerRoom : ℕ) {q r : ℕ} {a b : Bool} → a ≡ hasRoom k room → q ≡ also 0 (asks Room a ∷ []) → b ≡ hasRoom size answerRoom
+pub room-asked : (k room size answerRoom : ℕ) {q r : ℕ} {a b : Bool} → a ≡ hasRoom k room → q ≡ also 0 (asks Room a ∷ [])
+    → b ≡ hasRoom size answerRoom
     → r ≡ also q (asks Room b ∷ []) → r ≡ firstNo (bufferQuestions (writes k room ∷ writes size answerRoom ∷ []))
 unfolding bufferQuestions roomQuestions bitQuestions
 room-asked k room size answerRoom {q} {r} ea eq eb er =
@@ -150,7 +151,8 @@ module _ (bs : List ℕ) (p : firstNo (entryQuestions (records bs)) ≡ 0) {h : 
           go (None state) = omega arith
 
       -- cleared, filled from the records, and back in place
-      module _ {v : Verdict} (ev : v ≡ said (heldVerdict (records bs))) {room : ℕ} (er : room ≡ roomFor v (h .unknowns * k)) {c₁ c₂ a₁ a₂ : List ℕ}
+      module _ {v : Verdict} (ev : v ≡ said (heldVerdict (records bs))) {room : ℕ}
+          (er : room ≡ roomFor v (h .unknowns * k)) {c₁ c₂ a₁ a₂ : List ℕ}
           (ec₁ : c₁ ≡ zeros (length (take k c)))
           (ec₂ : c₂ ≡ filled (putMonomial 0 (2 ^ (h .unknowns + h .givens))) (records bs) (take k (c₁ ++ drop k c)))
           (ea₁ : a₁ ≡ zeros (length (take room a)))
@@ -161,7 +163,8 @@ module _ (bs : List ℕ) (p : firstNo (entryQuestions (records bs)) ≡ 0) {h : 
         condition-is : c₂ ≡ heldCondition (records bs) .table
         unfolding heldCondition
         condition-is =
-            filled-condition (h .unknowns) (h .givens) (records bs) heading-fits k {t₁ = take k (c₁ ++ drop k c)} (front-is k c₁ (drop k c) cleared-c) ec₂ ek
+            filled-condition (h .unknowns) (h .givens) (records bs) heading-fits k {t₁ =
+            take k (c₁ ++ drop k c)} (front-is k c₁ (drop k c) cleared-c) ec₂ ek
             ∙ rw (of-u, of-g)
 
         condition-long : k ≡ length (heldCondition (records bs) .table)
@@ -169,7 +172,8 @@ module _ (bs : List ℕ) (p : firstNo (entryQuestions (records bs)) ≡ 0) {h : 
         condition-long =
             ek ∙ rw (of-u, of-g) (sym (length-table (unknownsOf (records bs) + givensOf (records bs)) (conditionIn (records bs))))
 
-        condition-done : c₂ ++ drop k (c₁ ++ drop k c) ≡ heldCondition (records bs) .table ++ drop (length (heldCondition (records bs) .table)) c
+        condition-done : c₂ ++ drop k (c₁ ++ drop k c)
+            ≡ heldCondition (records bs) .table ++ drop (length (heldCondition (records bs) .table)) c
         condition-done = rw (rest-is k c₁ (drop k c) cleared-c, condition-is, ← condition-long)
 
         values : (h .route ∷ h .unknowns ∷ h .givens ∷ h .used ∷ stateSaid v) ≡ readValues (records bs)
@@ -190,8 +194,10 @@ module _ (bs : List ℕ) (p : firstNo (entryQuestions (records bs)) ≡ 0) {h : 
             room-is : (w : Said (List ℕ)) → unlessNone answerTables (records bs) ≡ w → room ≡ roomFor (said w) (h .unknowns * k)
             room-is w e = er ∙ ap (λ (x : Verdict). roomFor x (h .unknowns * k)) (ev ∙ ap said e)
 
-            go : (unlessNone answerTables (records bs) ≡ solved answerTables) ⊎ ((state : State) × (unlessNone answerTables (records bs) ≡ none state))
-                → (a₂ ≡ answersOf (unlessNone answerTables (records bs))) × (room ≡ length (answersOf (unlessNone answerTables (records bs))))
+            go : (unlessNone answerTables (records bs) ≡ solved answerTables) ⊎
+                ((state : State) × (unlessNone answerTables (records bs) ≡ none state))
+                → (a₂ ≡ answersOf (unlessNone answerTables (records bs)))
+                × (room ≡ length (answersOf (unlessNone answerTables (records bs))))
             go (inl e) =
                 let z : room ≡ h .unknowns * k = room-is (solved answerTables) e in
                 let is : a₂ ≡ answerTable (h .unknowns) (h .unknowns + h .givens) (answersIn (records bs)) =
@@ -212,4 +218,5 @@ module _ (bs : List ℕ) (p : firstNo (entryQuestions (records bs)) ≡ 0) {h : 
             ((c₂ ++ drop k (c₁ ++ drop k c)) ∷ (a₂ ++ drop room (a₁ ++ drop room a)) ∷ []) ≡ readCall bs c a
         read-done =
             ap (λ (x : List ℕ). answered (accepted x) ((c₂ ++ drop k (c₁ ++ drop k c)) ∷ (a₂ ++ drop room (a₁ ++ drop room a)) ∷ [])) values
-            ∙ call-done-two (readQuestions (records bs) (length c) (length a)) (readValues (records bs)) _ c _ _ a _ (sym refusal ∙ z) condition-done answers-done
+            ∙ call-done-two (readQuestions (records bs) (length c) (length a)) (readValues (records bs)) _ c _ _ a _
+            (sym refusal ∙ z) condition-done answers-done

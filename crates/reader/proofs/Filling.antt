@@ -99,7 +99,8 @@ pub put-long : (base k : ℕ) (r : Record) (t : List ℕ) {t′ : List ℕ} → 
 put-long base k r t e = ap length e ∙ length-put base k r t
 
 -- the byte's index is small
-pub put-small : (u g : ℕ) (r condition : List ℕ) {j m k : ℕ} → Lending u g k r condition → getD r 0 0 ≡ 3 → j ≡ getD r 1 0 → m ≡ getD r 2 0 + 256 * getD r 3 0
+pub put-small : (u g : ℕ) (r condition : List ℕ) {j m k : ℕ} → Lending u g k r condition → getD r 0 0 ≡ 3 → j ≡ getD r 1 0
+    → m ≡ getD r 2 0 + 256 * getD r 3 0
     → (j * k ≤ 10240) × (m < 1024)
 unfolding among fields
 put-small u g r condition {j} {m} {k} w ek ej em =
@@ -186,25 +187,32 @@ module _ (put : Record → List ℕ → List ℕ) (bs : List ℕ) (u g : ℕ) (t
 -- ---- what stands at x when all is filled
 hits : ℕ → ℕ → ℕ → List Record → Bool
 hits base k x [] = false
-hits base k x (r ∷ rs) = (isMonomial r && (leb base (tableIn r) && eqb x ((tableIn r - base) * k + valueOf maskField r))) || hits base k x rs
+hits base k x (r ∷ rs) =
+    (isMonomial r && (leb base (tableIn r) && eqb x ((tableIn r - base) * k + valueOf maskField r))) || hits base k x rs
 
 length-filled : (base k : ℕ) (rs : List Record) (t : List ℕ) → length (filled (putMonomial base k) rs t) ≡ length t
 unfolding filled
 length-filled base k [] t = refl
 length-filled base k (r ∷ rs) t = length-filled base k rs (putMonomial base k r t) ∙ length-put base k r t
 
-put-at : (base k x : ℕ) (r : Record) (t : List ℕ) → x < length t → getD (putMonomial base k r t) x 0 ≡ cond (isMonomial r && (leb base (tableIn r) && eqb x ((tableIn r - base) * k + valueOf maskField r))) 1 (getD t x 0)
+put-at : (base k x : ℕ) (r : Record) (t : List ℕ) → x < length t
+    → getD (putMonomial base k r t) x 0
+    ≡ cond (isMonomial r && (leb base (tableIn r) && eqb x ((tableIn r - base) * k + valueOf maskField r))) 1 (getD t x 0)
 unfolding putMonomial
 put-at base k x r t h = go (isMonomial r) (leb base (tableIn r)) (bool-cases (eqb x ((tableIn r - base) * k + valueOf maskField r)))
   where
-    go : (a b : Bool) → (eqb x ((tableIn r - base) * k + valueOf maskField r) ≡ true) ⊎ (eqb x ((tableIn r - base) * k + valueOf maskField r) ≡ false)
-        → getD (cond (a && b) (set t ((tableIn r - base) * k + valueOf maskField r) 1) t) x 0 ≡ cond (a && (b && eqb x ((tableIn r - base) * k + valueOf maskField r))) 1 (getD t x 0)
+    go : (a b : Bool) → (eqb x ((tableIn r - base) * k + valueOf maskField r) ≡ true) ⊎
+        (eqb x ((tableIn r - base) * k + valueOf maskField r) ≡ false)
+        → getD (cond (a && b) (set t ((tableIn r - base) * k + valueOf maskField r) 1) t) x 0
+        ≡ cond (a && (b && eqb x ((tableIn r - base) * k + valueOf maskField r))) 1 (getD t x 0)
     go false b q = refl
     go true false q = refl
-    go true true (inl e) = let p : x ≡ (tableIn r - base) * k + valueOf maskField r = eqb-true _ _ e in rw (e, ← p) (getD-set-same t x 1 0 h)
+    go true true (inl e) =
+        let p : x ≡ (tableIn r - base) * k + valueOf maskField r = eqb-true _ _ e in rw (e, ← p) (getD-set-same t x 1 0 h)
     go true true (inr e) = rw e (getD-set-other t ((tableIn r - base) * k + valueOf maskField r) x 1 0 (eqb-false _ _ e))
 
-filled-at : (base k x : ℕ) (rs : List Record) (t : List ℕ) → x < length t → getD (filled (putMonomial base k) rs t) x 0 ≡ cond (hits base k x rs) 1 (getD t x 0)
+filled-at : (base k x : ℕ) (rs : List Record) (t : List ℕ) → x < length t
+    → getD (filled (putMonomial base k) rs t) x 0 ≡ cond (hits base k x rs) 1 (getD t x 0)
 unfolding filled hits
 filled-at base k x [] t h = refl
 filled-at base k x (r ∷ rs) t h =
@@ -240,13 +248,16 @@ one-hit base k x i m h =
     low : i < base → base + x / k ≡ i → ⊥
     low l e = omega arith
 
-    go : (leb base i ≡ true) ⊎ (leb base i ≡ false) → (leb base i && (eqb (x / k) (i - base) && eqb (x % k) m)) ≡ (eqb (base + x / k) i && eqb (x % k) m)
+    go : (leb base i ≡ true) ⊎ (leb base i ≡ false)
+        → (leb base i && (eqb (x / k) (i - base) && eqb (x % k) m)) ≡ (eqb (base + x / k) i && eqb (x % k) m)
     go (inl e) =
         rw e (ap (λ (b : Bool). b && eqb (x % k) m)
-        (bool-iff (eqb (x / k) (i - base)) (eqb (base + x / k) i) (λ s. eq-eqb _ _ (up (leb-true _ _ e) (eqb-true _ _ s))) (λ s. eq-eqb _ _ (down (eqb-true _ _ s)))))
+        (bool-iff (eqb (x / k) (i - base)) (eqb (base + x / k) i) (λ s. eq-eqb _ _ (up (leb-true _ _ e) (eqb-true _ _ s)))
+        (λ s. eq-eqb _ _ (down (eqb-true _ _ s)))))
     go (inr e) = rw (e, ne-eqb (base + x / k) i (low (leb-false _ _ e)))
 
-hits-has : (base U G q x : ℕ) (rs : List Record) → fitsBehind U G q rs ≡ true → hits base (2 ^ (U + G)) x rs ≡ hasMonomial (base + x / 2 ^ (U + G)) (x % 2 ^ (U + G)) rs
+hits-has : (base U G q x : ℕ) (rs : List Record) → fitsBehind U G q rs ≡ true
+    → hits base (2 ^ (U + G)) x rs ≡ hasMonomial (base + x / 2 ^ (U + G)) (x % 2 ^ (U + G)) rs
 unfolding hits hasMonomial
 hits-has base U G q x [] f = refl
 hits-has base U G q x (r ∷ rs) f = rw (hits-has base U G (placeOf r) x rs (fits-rest U G q r rs f)) (go (bool-cases (isMonomial r)))
@@ -254,7 +265,9 @@ hits-has base U G q x (r ∷ rs) f = rw (hits-has base U G (placeOf r) x rs (fit
     rest : Bool
     rest = hasMonomial (base + x / 2 ^ (U + G)) (x % 2 ^ (U + G)) rs
 
-    go : (isMonomial r ≡ true) ⊎ (isMonomial r ≡ false) → ((isMonomial r && (leb base (tableIn r) && eqb x ((tableIn r - base) * 2 ^ (U + G) + valueOf maskField r))) || rest) ≡ ((isMonomial r && (eqb (base + x / 2 ^ (U + G)) (tableIn r) && eqb (x % 2 ^ (U + G)) (valueOf maskField r))) || rest)
+    go : (isMonomial r ≡ true) ⊎ (isMonomial r ≡ false)
+        → ((isMonomial r && (leb base (tableIn r) && eqb x ((tableIn r - base) * 2 ^ (U + G) + valueOf maskField r))) || rest)
+        ≡ ((isMonomial r && (eqb (base + x / 2 ^ (U + G)) (tableIn r) && eqb (x % 2 ^ (U + G)) (valueOf maskField r))) || rest)
     go (inl e) = rw (e, one-hit base (2 ^ (U + G)) x (tableIn r) (valueOf maskField r) (mask-in-bounds U G r (fits-bounds U G q r rs f) e))
     go (inr e) = rw e
 
@@ -271,10 +284,12 @@ filled-table base U G q l rs f =
     long : length (filled (putMonomial base (2 ^ (U + G))) rs (zeros l)) ≡ l
     long = length-filled base (2 ^ (U + G)) rs (zeros l) ∙ length-tabulate l (λ i. false)
 
-    at : (x : ℕ) → x < l → getD (filled (putMonomial base (2 ^ (U + G))) rs (zeros l)) x 0 ≡ getD (tabulate l (λ x. hasMonomial (base + x / 2 ^ (U + G)) (x % 2 ^ (U + G)) rs)) x 0
+    at : (x : ℕ) → x < l → getD (filled (putMonomial base (2 ^ (U + G))) rs (zeros l)) x 0
+        ≡ getD (tabulate l (λ x. hasMonomial (base + x / 2 ^ (U + G)) (x % 2 ^ (U + G)) rs)) x 0
     at x h =
         filled-at base (2 ^ (U + G)) x rs (zeros l) (rw (length-tabulate l (λ i. false)) h)
-        ∙ rw (getD-tabulate l (λ i. false) x h, hits-has base U G q x rs f) (digit-cond (hasMonomial (base + x / 2 ^ (U + G)) (x % 2 ^ (U + G)) rs))
+        ∙ rw (getD-tabulate l (λ i. false) x h, hits-has base U G q x rs f)
+        (digit-cond (hasMonomial (base + x / 2 ^ (U + G)) (x % 2 ^ (U + G)) rs))
         ∙ sym (getD-tabulate l (λ x. hasMonomial (base + x / 2 ^ (U + G)) (x % 2 ^ (U + G)) rs) x h)
 
 -- the tables that are asked for, filled from cleared bytes

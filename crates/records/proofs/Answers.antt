@@ -46,7 +46,8 @@ module _ (route U G : ℕ) where
       All : List Record → Type 0
       All ss =
           seenAll route U G (seenRecord route U G x r) ss .kinds
-          ≡ (x .kinds && (mayFollow (x .kind) (kind r) && cond (isEnd r) (eqb (valueOf routeField r) route) (kindsFollow (kind r) route ss)))
+          ≡ (x .kinds && (mayFollow (x .kind) (kind r) && cond (isEnd r) (eqb (valueOf routeField r) route)
+          (kindsFollow (kind r) route ss)))
 
       alone : isEnd r ≡ true → (ss : List Record) → isEmpty ss ≡ true → All ss
       alone f [] z = rw f
@@ -55,7 +56,8 @@ module _ (route U G : ℕ) where
       go : (isEnd r ≡ true) ⊎ (isEnd r ≡ false)
           → (endsThere rs ≡ true → hasEnd rs ≡ true
           → seenAll route U G (seenRecord route U G x r) rs .kinds
-          ≡ ((x .kinds && (mayFollow (x .kind) (kind r) && cond (isEnd r) (eqb (valueOf routeField r) route) true)) && kindsFollow (kind r) route rs))
+          ≡ ((x .kinds && (mayFollow (x .kind) (kind r) && cond (isEnd r) (eqb (valueOf routeField r) route) true)) && kindsFollow
+          (kind r) route rs))
           → All rs
       go (inl f) ih = alone f rs (rw f at e)
       go (inr f) ih = ih (rw f at e) (rw f at h) ∙ rw f (turn (x .kinds) (mayFollow (x .kind) (kind r)) (kindsFollow (kind r) route rs))
@@ -153,11 +155,13 @@ module _ (bs : List ℕ) {n : ℕ} (en : n ≡ length (next (drop 0 bs))) where
   start-whole = rw (start, first-next bs) (next-whole bs)
 
   pub start-is : {route unknowns givens : ℕ} → route ≡ valueOf routeField (take n bs) → unknowns ≡ valueOf unknownsField (take n bs)
-      → givens ≡ valueOf givensField (take n bs) → record { route = route; unknowns = unknowns; givens = givens; used = 0 } ≡ startOf (records bs)
+      → givens ≡ valueOf givensField (take n bs)
+      → record { route = route; unknowns = unknowns; givens = givens; used = 0 } ≡ startOf (records bs)
   start-is er eu eg = rw (er, eu, eg, start)
 
 -- ---- the survey
-module _ (bs : List ℕ) {h : Heading} (eh : h ≡ startOf (records bs)) {u g : ℕ} {fits : Bool} (ef : fits ≡ lettersFit (h .unknowns) (h .givens))
+module _ (bs : List ℕ) {h : Heading} (eh : h ≡ startOf (records bs)) {u g : ℕ} {fits : Bool}
+    (ef : fits ≡ lettersFit (h .unknowns) (h .givens))
     (eu : u ≡ cond fits (h .unknowns) 0) (eg : g ≡ cond fits (h .givens) 0) where
   -- the letters are so few that the bounds can be formed
   pub few-letters : u + g ≤ 10

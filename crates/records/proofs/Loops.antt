@@ -67,7 +67,9 @@ unfolding lengthUsed
 gather-start bs route U G =
     record {
       inside = omega arith;
-      used = ap (λ (i : ℕ). cond (hasEnd (records bs)) i 0) (sym (zero-add (length (bytes (records bs))))) ∙ end-from 0 (records bs) (records-end bs);
+      used =
+          ap (λ (i : ℕ). cond (hasEnd (records bs)) i 0) (sym (zero-add (length (bytes (records bs)))))
+          ∙ end-from 0 (records bs) (records-end bs);
       seen = refl;
     }
 
@@ -83,7 +85,8 @@ module _ (bs : List ℕ) (route U G : ℕ) (x : Seen) (at : ℕ) (w : Gathering 
     unfolding gathered seenAll endFrom
     gather-broken z e = e ∙ rw (w .used, w .seen, here-none bs at en z)
 
-    module _ (s : n ≡ 0 → ⊥) {behind : ℕ} (eb : behind ≡ at + n) {x′ : Seen} (ex : x′ ≡ seenRecord route U G x (take (behind - at) (drop at bs))) where
+    module _ (s : n ≡ 0 → ⊥) {behind : ℕ} (eb : behind ≡ at + n) {x′ : Seen}
+        (ex : x′ ≡ seenRecord route U G x (take (behind - at) (drop at bs))) where
       r : Record
       r = take n (drop at bs)
 
@@ -99,7 +102,8 @@ module _ (bs : List ℕ) (route U G : ℕ) (x : Seen) (at : ℕ) (w : Gathering 
       unfolding r
       behind-there = eb ∙ ap (λ (i : ℕ). at + i) (sym (some-there bs at en))
 
-      pub gather-end : x′ .kind ≡ 4 → {y : Gathered} → y ≡ record { used = behind; kinds = x′ .kinds; numbers = x′ .numbers; none = x′ .none }
+      pub gather-end : x′ .kind ≡ 4 → {y : Gathered}
+          → y ≡ record { used = behind; kinds = x′ .kinds; numbers = x′ .numbers; none = x′ .none }
           → y ≡ gathered route U G (records bs)
       unfolding gathered seenAll endFrom r
       gather-end t e =

@@ -48,7 +48,16 @@ no-kind k q h = sym (no-size (0 ∷ 1 ∷ 2 ∷ 3 ∷ 4 ∷ 5 ∷ []) refl k far
   where
     far : has k (0 ∷ 1 ∷ 2 ∷ 3 ∷ 4 ∷ 5 ∷ []) ≡ false
     far =
-        rw (ne-eqb k 0 (λ e. absurd (omega arith)), ne-eqb k 1 (λ e. absurd (omega arith)), ne-eqb k 2 (λ e. absurd (omega arith)), ne-eqb k 3 (λ e. absurd (omega arith)), ne-eqb k 4 (λ e. absurd (omega arith)), ne-eqb k 5 (λ e. absurd (omega arith)))
+        rw (
+          ne-eqb k 0 (λ e. absurd (omega arith)),
+          ne-eqb k 1 (λ e. absurd (omega arith)),
+          ne-eqb k 2
+              (λ e. absurd (omega arith)),
+          ne-eqb k 3 (λ e. absurd (omega arith)),
+          ne-eqb k 4 (λ e. absurd (omega arith)),
+          ne-eqb k 5
+              (λ e. absurd (omega arith)),
+        )
 
 -- how many bytes a record of a kind has
 module _ (r : Record) (w : length r ≡ size (kind r)) where
@@ -168,19 +177,28 @@ said-state zero e = absurd (e refl)
 said-state (suc state) e = let f : suc state - 1 ≡ state = (omega arith) in rw f
 
 -- ---- what has been seen with one more record
-pub seen-is : (x : Seen) {k p none : ℕ} (follows fits : Bool) {kinds numbers : Bool} → kinds ≡ (x .kinds && follows) → numbers ≡ (x .numbers && fits)
+pub seen-is : (x : Seen) {k p none : ℕ} (follows fits : Bool) {kinds numbers : Bool} → kinds ≡ (x .kinds && follows)
+    → numbers ≡ (x .numbers && fits)
     → _≡_ {A = Seen} (record { kind = k; place = p; kinds = kinds; numbers = numbers; none = none })
     (record { kind = k; place = p; kinds = x .kinds && follows; numbers = x .numbers && fits; none = none })
 seen-is x follows fits e f = rw (e, f)
 
 module _ (x : Seen) (k i m : ℕ) (fits : Bool) {follows : Bool} (ef : follows ≡ mayFollow (x .kind) k) {y : Seen} where
-  pub monomial-out : not fits ≡ true → y ≡ record { kind = k; place = 0; kinds = x .kinds && follows; numbers = x .numbers && false; none = x .none }
+  pub monomial-out : not fits ≡ true
+      → y ≡ record { kind = k; place = 0; kinds = x .kinds && follows; numbers = x .numbers && false; none = x .none }
       → y ≡ seenMonomial x k i m fits
   unfolding seenMonomial
   monomial-out h e = e ∙ rw (ef, not-true fits h)
 
   pub monomial-in : {n : ℕ} → not fits ≡ false → n ≡ rank 10 m
-      → y ≡ record { kind = k; place = 16384 * i + n + 1; kinds = x .kinds && follows; numbers = x .numbers && ltb (x .place) (16384 * i + n + 1); none = x .none }
+      → y ≡ record {
+        kind = k;
+        place = 16384 * i + n + 1;
+        kinds = x .kinds && follows;
+        numbers = x .numbers && ltb (x .place)
+            (16384 * i + n + 1);
+        none = x .none;
+      }
       → y ≡ seenMonomial x k i m fits
   unfolding seenMonomial place
   monomial-in {n} h en e = e ∙ rw (ef, not-false fits h, en, add-one)
@@ -197,7 +215,8 @@ behind-none q = refl
 
 module _ (route U G : ℕ) (x : Seen) (r : Record) where
   -- with a monomial
-  seen-monomial : (k i m : ℕ) (fits : Bool) → kind r ≡ k → isEnd r ≡ false → isNone r ≡ false → inBounds U G r ≡ fits → placeOf r ≡ place i m
+  seen-monomial : (k i m : ℕ) (fits : Bool) → kind r ≡ k → isEnd r ≡ false → isNone r ≡ false → inBounds U G r ≡ fits
+      → placeOf r ≡ place i m
       → seenMonomial x k i m fits ≡ seenRecord route U G x r
   unfolding seenRecord seenMonomial
   seen-monomial k i m fits ek ee en ef ep = rw (ee, en, ef, ep, ek, and-true (mayFollow (x .kind) k), behind-place (x .place) i m)
@@ -220,7 +239,8 @@ module _ (route U G : ℕ) (x : Seen) (r : Record) where
       e ∙ seen-monomial 2 0 m _ k (rw k) (rw k) (condition-fits U G r k ∙ rw (v, ← b .of-masks))
       (place-monomial r (rw k) ∙ rw (v, k))
 
-  pub see-answer : {y : Seen} {j m masks states : ℕ} {f : Bool} → Bounds U G masks states → getD r 0 0 ≡ 3 → j ≡ getD r 1 0 → m ≡ getD r 2 0 + 256 * getD r 3 0
+  pub see-answer : {y : Seen} {j m masks states : ℕ} {f : Bool} → Bounds U G masks states → getD r 0 0 ≡ 3 → j ≡ getD r 1 0
+      → m ≡ getD r 2 0 + 256 * getD r 3 0
       → f ≡ (ltb j U && ltb m masks) → y ≡ seenMonomial x 3 (j + 1) m f → y ≡ seenRecord route U G x r
   unfolding among fields
   see-answer {j = j} {m = m} b ek ej em ef e =
@@ -231,7 +251,8 @@ module _ (route U G : ℕ) (x : Seen) (r : Record) where
       (place-monomial r (rw k) ∙ rw (k, u, v, add-one))
 
   pub see-end : {y : Seen} {f g : Bool} → getD r 0 0 ≡ 4 → f ≡ mayFollow (x .kind) 4 → g ≡ (f && eqb (getD r 1 0) route)
-      → y ≡ record { kind = 4; place = 0; kinds = x .kinds && g; numbers = x .numbers && true; none = x .none } → y ≡ seenRecord route U G x r
+      → y ≡ record { kind = 4; place = 0; kinds = x .kinds && g; numbers = x .numbers && true; none = x .none }
+      → y ≡ seenRecord route U G x r
   unfolding everyBelow among fields unbounded
   see-end ek ef eg e =
       let k : kind r ≡ 4 = kind-is r 4 ek in
@@ -239,7 +260,8 @@ module _ (route U G : ℕ) (x : Seen) (r : Record) where
 
   pub see-none : {y : Seen} {masks states v none : ℕ} {f : Bool} → Bounds U G masks states → getD r 0 0 ≡ 5 → f ≡ mayFollow (x .kind) 5
       → none ≡ saidFirst (x .none) (getD r 1 0) → v ≡ getD r 1 0
-      → y ≡ record { kind = 5; place = 0; kinds = x .kinds && f; numbers = x .numbers && ltb v states; none = none } → y ≡ seenRecord route U G x r
+      → y ≡ record { kind = 5; place = 0; kinds = x .kinds && f; numbers = x .numbers && ltb v states; none = none }
+      → y ≡ seenRecord route U G x r
   unfolding among fields
   see-none b ek ef en ev e =
       let k : kind r ≡ 5 = kind-is r 5 ek in
@@ -248,12 +270,14 @@ module _ (route U G : ℕ) (x : Seen) (r : Record) where
 
   pub see-other : {y : Seen} {f : Bool} → (getD r 0 0 ≡ 2 → ⊥) → (getD r 0 0 ≡ 3 → ⊥) → (getD r 0 0 ≡ 4 → ⊥) → (getD r 0 0 ≡ 5 → ⊥)
       → f ≡ mayFollow (x .kind) (getD r 0 0)
-      → y ≡ record { kind = getD r 0 0; place = 0; kinds = x .kinds && f; numbers = x .numbers && true; none = x .none } → y ≡ seenRecord route U G x r
+      → y ≡ record { kind = getD r 0 0; place = 0; kinds = x .kinds && f; numbers = x .numbers && true; none = x .none }
+      → y ≡ seenRecord route U G x r
   unfolding kind everyBelow among fields unbounded has
   see-other n2 n3 n4 n5 ef e =
       e ∙ seen-other _ true refl (lacks maskField (2 ∷ 3 ∷ []) refl (kind r) (rw (ne-eqb (kind r) 2 n2, ne-eqb (kind r) 3 n3)))
       (ef ∙ rw (ne-eqb (kind r) 4 n4) (sym (and-true _)))
-      (sym (in-bounds U G r (free (of-every (λ k. has k (2 ∷ 3 ∷ 5 ∷ []) || unbounded (fields k)) refl (λ k z. right (has k (2 ∷ 3 ∷ 5 ∷ [])) (rw z)) (kind r)))))
+      (sym (in-bounds U G r
+      (free (of-every (λ k. has k (2 ∷ 3 ∷ 5 ∷ []) || unbounded (fields k)) refl (λ k z. right (has k (2 ∷ 3 ∷ 5 ∷ [])) (rw z)) (kind r)))))
       (rw (ne-eqb (kind r) 5 n5))
     where
       right : (a : Bool) {b : Bool} → b ≡ true → (a || b) ≡ true
@@ -270,7 +294,8 @@ mask-below U G {m} {masks} b e =
     let h : m < masks = ltb-true m masks e in
     omega (arith, b .of-masks)
 
-pub answer-below : (U G m : ℕ) (known : Bool) {masks states : ℕ} {fits : Bool} → Bounds U G masks states → fits ≡ (known && ltb m masks) → fits ≡ true
+pub answer-below : (U G m : ℕ) (known : Bool) {masks states : ℕ} {fits : Bool} → Bounds U G masks states → fits ≡ (known && ltb m masks)
+    → fits ≡ true
     → m < 1024
 answer-below U G m known {masks} b ef e = mask-below U G b (and-right known (ltb m masks) (sym ef ∙ e))
 

@@ -10,7 +10,9 @@ use lib.Bits.{bitAnd, bitOr, bitXor, and-shr, or-shr, xor-shr, and-mod, or-mod, 
 use Rattle.ring.specs.Letters.{bit}
 use Rattle.ring.specs.Polynomial.{_⊕_}
 
-module _ (op : ℕ → ℕ → ℕ) (g : Bool → Bool → Bool) (shr : (a b k : ℕ) → op a b / 2 ^ k ≡ op (a / 2 ^ k) (b / 2 ^ k)) (low : (a b k : ℕ) → op a b % 2 ^ k ≡ op (a % 2 ^ k) (b % 2 ^ k)) (digit : (u v : ℕ) → u < 2 → v < 2 → eqb (op u v) 1 ≡ g (eqb u 1) (eqb v 1)) where
+module _ (op : ℕ → ℕ → ℕ) (g : Bool → Bool → Bool) (shr : (a b k : ℕ) → op a b / 2 ^ k ≡ op (a / 2 ^ k) (b / 2 ^ k))
+    (low : (a b k : ℕ) → op a b % 2 ^ k ≡ op (a % 2 ^ k) (b % 2 ^ k))
+    (digit : (u v : ℕ) → u < 2 → v < 2 → eqb (op u v) 1 ≡ g (eqb u 1) (eqb v 1)) where
   bitwise : (a b i : ℕ) → bit (op a b) i ≡ g (bit a i) (bit b i)
   unfolding bit
   bitwise a b i =
@@ -20,7 +22,8 @@ module _ (op : ℕ → ℕ → ℕ) (g : Bool → Bool → Bool) (shr : (a b k :
 
 -- a law of two bits holds if it holds of 0 and 1
 module _ (op : ℕ → ℕ → ℕ) (g : Bool → Bool → Bool) where
-  digits : eqb (op 0 0) 1 ≡ g false false → eqb (op 0 1) 1 ≡ g false true → eqb (op 1 0) 1 ≡ g true false → eqb (op 1 1) 1 ≡ g true true → (u v : ℕ) → u < 2 → v < 2 → eqb (op u v) 1 ≡ g (eqb u 1) (eqb v 1)
+  digits : eqb (op 0 0) 1 ≡ g false false → eqb (op 0 1) 1 ≡ g false true → eqb (op 1 0) 1 ≡ g true false → eqb (op 1 1) 1 ≡ g true true
+      → (u v : ℕ) → u < 2 → v < 2 → eqb (op u v) 1 ≡ g (eqb u 1) (eqb v 1)
   digits a b c d zero zero p q = a
   digits a b c d zero (suc zero) p q = b
   digits a b c d zero (suc (suc v)) p q = absurd (omega arith)

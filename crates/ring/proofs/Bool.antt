@@ -63,7 +63,8 @@ bool-iff false false f g = refl
 
 pub ruleset ac = (xor-assoc, xor-comm, xor-left-comm, and-assoc, and-comm, and-left-comm)
 
-pub ruleset ring = (xor-assoc, xor-comm, xor-left-comm, and-assoc, and-comm, and-left-comm, and-xor, xor-and, xor-false, and-false, and-true, and-self)
+pub ruleset ring =
+    (xor-assoc, xor-comm, xor-left-comm, and-assoc, and-comm, and-left-comm, and-xor, xor-and, xor-false, and-false, and-true, and-self)
 
 -- a program's `^` on bools
 pub xor-code : (a b : Bool) → not (Bool·beq a b) ≡ (a ⊕ b)

@@ -37,7 +37,8 @@ every-not (suc k) test h = go (test k) refl h (every-not k test)
 pub every-first : (k : ℕ) (test : ℕ → Bool) → everyBelow (suc k) test ≡ (test 0 && everyBelow k (λ j. test (suc j)))
 unfolding everyBelow
 every-first zero test = sym (and-true (test 0))
-every-first (suc k) test = ap (λ (x : Bool). x && test (suc k)) (every-first k test) ∙ and-assoc (test 0) (everyBelow k (λ j. test (suc j))) (test (suc k))
+every-first (suc k) test =
+    ap (λ (x : Bool). x && test (suc k)) (every-first k test) ∙ and-assoc (test 0) (everyBelow k (λ j. test (suc j))) (test (suc k))
 
 pub every-cong : (k : ℕ) (g h : ℕ → Bool) → ((i : ℕ) → i < k → g i ≡ h i) → everyBelow k g ≡ everyBelow k h
 unfolding everyBelow

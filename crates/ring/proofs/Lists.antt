@@ -41,7 +41,8 @@ pub listed-cong : (k : ℕ) (f g : ℕ → ℕ) → ((i : ℕ) → i < k → f i
 unfolding listed
 listed-cong zero f g e = refl
 listed-cong (suc k) f g e =
-    ap₂ (λ (x : ℕ) (l : List ℕ). x ∷ l) (e 0 (omega arith)) (listed-cong k (λ i. f (suc i)) (λ i. g (suc i)) (λ i l. e (suc i) (omega arith)))
+    ap₂ (λ (x : ℕ) (l : List ℕ). x ∷ l) (e 0 (omega arith))
+    (listed-cong k (λ i. f (suc i)) (λ i. g (suc i)) (λ i l. e (suc i) (omega arith)))
 
 pub tabulate-listed : (k : ℕ) (h : ℕ → Bool) → tabulate k h ≡ listed k (λ i. digit (h i))
 unfolding listed tabulate
@@ -57,7 +58,8 @@ listed-add zero k f = ap (λ (x : ℕ). listed x f) (zero-add k) ∙ listed-cong
 listed-add (suc a) k f =
     ap (λ (x : ℕ). listed x f) (suc-add a k)
     ∙ ap (λ (l : List ℕ). f 0 ∷ l)
-    (listed-add a k (λ i. f (suc i)) ∙ ap (λ (l : List ℕ). listed a (λ i. f (suc i)) ++ l) (listed-cong k _ _ (λ i l. ap f (sym (suc-add a i)))))
+    (listed-add a k (λ i. f (suc i))
+    ∙ ap (λ (l : List ℕ). listed a (λ i. f (suc i)) ++ l) (listed-cong k _ _ (λ i l. ap f (sym (suc-add a i)))))
 
 -- ---- has
 pub has-first : (m : ℕ) (ms : List ℕ) → has m (m ∷ ms) ≡ true

@@ -111,7 +111,8 @@ pub odd-half : (m : ℕ) → (m * 2 + 1) / 2 ≡ m
 odd-half m = omega arith
 
 gather : (a b x y : Bool)
-    → (((not (a && true) && x) && (not (false && not b) && y)) ⊕ ((not (a && false) && x) && (not (true && not b) && y))) ≡ (not (a ⊕ b) && (x && y))
+    → (((not (a && true) && x) && (not (false && not b) && y)) ⊕ ((not (a && false) && x) && (not (true && not b) && y)))
+    ≡ (not (a ⊕ b) && (x && y))
 gather true true x y = refl
 gather true false x y = and-false x
 gather false true x y = xor-self (x && y)
@@ -121,7 +122,17 @@ two-masks : (i m p : ℕ)
     → ((within i (m * 2) && within (m * 2) p) ⊕ (within i (m * 2 + 1) && within (m * 2 + 1) p))
     ≡ (not (low i ⊕ low p) && (within (i / 2) m && within m (p / 2)))
 two-masks i m p =
-    rw (within-step i (m * 2), within-step i (m * 2 + 1), within-step (m * 2) p, within-step (m * 2 + 1) p, even-low m, odd-low m, even-half m, odd-half m)
+    rw (
+      within-step i (m * 2),
+      within-step i (m * 2 + 1),
+      within-step (m * 2) p,
+      within-step
+          (m * 2 + 1) p,
+      even-low m,
+      odd-low m,
+      even-half m,
+      odd-half m,
+    )
     (gather (low i) (low p) (within (i / 2) m) (within m (p / 2)))
 
 -- of the masks between i and p there are an odd number only where i is p

@@ -24,7 +24,8 @@ pub count-first : (k : ℕ) (test : ℕ → Bool) → count (suc k) test ≡ dig
 unfolding count
 count-first zero test = zero-add (digit (test 0)) ∙ sym (add-zero (digit (test 0)))
 count-first (suc k) test =
-    ap (λ (c : ℕ). c + digit (test (suc k))) (count-first k test) ∙ add-assoc (digit (test 0)) (count k (λ j. test (suc j))) (digit (test (suc k)))
+    ap (λ (c : ℕ). c + digit (test (suc k))) (count-first k test)
+    ∙ add-assoc (digit (test 0)) (count k (λ j. test (suc j))) (digit (test (suc k)))
 
 -- what comes after k does not pass
 pub count-more : (k d : ℕ) (test : ℕ → Bool) → ((j : ℕ) → k ≤ j → test j ≡ false) → count (k + d) test ≡ count k test
@@ -93,7 +94,8 @@ odd-at (suc n) k g l = odd-suc n (λ i. g i && eqb k i) ∙ go (ℕ-discrete k n
   where
     go : Dec (k ≡ n) → (k < n → odd n (λ i. g i && eqb k i) ≡ g k) → (odd n (λ i. g i && eqb k i) ⊕ (g n && eqb k n)) ≡ g k
     go (yes e) ih =
-        rw (odd-none n (λ i. g i && eqb k i) (λ i m. rw (ne-eqb k i (omega arith)) (and-false (g i))), eq-eqb k n e, and-true) (ap g (sym e))
+        rw (odd-none n (λ i. g i && eqb k i) (λ i m. rw (ne-eqb k i (omega arith)) (and-false (g i))), eq-eqb k n e, and-true)
+        (ap g (sym e))
     go (no e) ih = rw (ih (omega arith), ne-eqb k n e, and-false) (xor-false (g k))
 
 -- by pairs

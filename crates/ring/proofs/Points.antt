@@ -81,7 +81,8 @@ bit-assign-other p zero (suc j) b h = bit-zero (assign p (suc j) b) ∙ ap (λ (
 bit-assign-other p (suc i) zero b h =
     bit-suc (assign p zero b) i ∙ ap (λ (x : ℕ). bit x i) (half-digit (p / 2) (digit b) (digit-lt b)) ∙ sym (bit-suc p i)
 bit-assign-other p (suc i) (suc j) b h =
-    bit-suc (assign p (suc j) b) i ∙ ap (λ (x : ℕ). bit x i) (assign-half p j b) ∙ bit-assign-other (p / 2) i j b (λ e. h (ap suc e)) ∙ sym (bit-suc p i)
+    bit-suc (assign p (suc j) b) i ∙ ap (λ (x : ℕ). bit x i) (assign-half p j b) ∙ bit-assign-other (p / 2) i j b (λ e. h (ap suc e))
+    ∙ sym (bit-suc p i)
 
 -- the letters above j, and letter j
 pub assign-above : (p j : ℕ) (b : Bool) → assign p j b / 2 ^ j ≡ p / 2 ^ suc j * 2 + digit b
@@ -95,7 +96,8 @@ pub shift-half : (p j : ℕ) → p / 2 ^ suc j ≡ p / 2 ^ j / 2
 shift-half p j = ap (λ (x : ℕ). p / x) (pow-suc 2 j) ∙ sym (div-div-eq-div-mul p (2 ^ j) 2)
 
 pub assign-higher : (p j : ℕ) (b : Bool) → assign p j b / 2 ^ suc j ≡ p / 2 ^ suc j
-assign-higher p j b = shift-half (assign p j b) j ∙ ap (λ (x : ℕ). x / 2) (assign-above p j b) ∙ half-digit (p / 2 ^ suc j) (digit b) (digit-lt b)
+assign-higher p j b =
+    shift-half (assign p j b) j ∙ ap (λ (x : ℕ). x / 2) (assign-above p j b) ∙ half-digit (p / 2 ^ suc j) (digit b) (digit-lt b)
 
 -- a point of n letters stays one
 pub assign-lt : (n p j : ℕ) (b : Bool) → p < 2 ^ n → j < n → assign p j b < 2 ^ n
@@ -123,19 +125,22 @@ assign-true p (suc j) =
     let h : 2 ^ suc j / 2 ≡ 2 ^ j = omega (arith, pow-suc 2 j) in
     let e : 2 ^ suc j % 2 ≡ 0 = omega (arith, pow-suc 2 j) in
     ap (λ (x : ℕ). x * 2 + p % 2) (assign-true (p / 2) j)
-    ∙ sym (or-step p (2 ^ suc j) ∙ ap₂ (λ (x y : ℕ). bitOr (p / 2) x * 2 + max (p % 2) y) h e ∙ ap (λ (x : ℕ). bitOr (p / 2) (2 ^ j) * 2 + x) (max-zero (p % 2)))
+    ∙ sym (or-step p (2 ^ suc j) ∙ ap₂ (λ (x y : ℕ). bitOr (p / 2) x * 2 + max (p % 2) y) h e
+    ∙ ap (λ (x : ℕ). bitOr (p / 2) (2 ^ j) * 2 + x) (max-zero (p % 2)))
 
 pub pointWhere-cong : (n : ℕ) (b c : ℕ → Bool) → ((j : ℕ) → j < n → b j ≡ c j) → pointWhere n b ≡ pointWhere n c
 unfolding pointWhere
 pointWhere-cong zero b c e = refl
 pointWhere-cong (suc n) b c e =
-    ap₂ (λ (x : ℕ) (y : Bool). x * 2 + digit y) (pointWhere-cong n (λ j. b (suc j)) (λ j. c (suc j)) (λ j l. e (suc j) (omega arith))) (e 0 (omega arith))
+    ap₂ (λ (x : ℕ) (y : Bool). x * 2 + digit y) (pointWhere-cong n (λ j. b (suc j)) (λ j. c (suc j)) (λ j l. e (suc j) (omega arith)))
+    (e 0 (omega arith))
 
 -- the letters of a point
 pub bit-pointWhere : (n : ℕ) (b : ℕ → Bool) (j : ℕ) → j < n → bit (pointWhere n b) j ≡ b j
 unfolding pointWhere
 bit-pointWhere zero b j h = absurd (omega arith)
-bit-pointWhere (suc n) b zero h = bit-zero (pointWhere n (λ j. b (suc j)) * 2 + digit (b 0)) ∙ low-digit (pointWhere n (λ j. b (suc j))) (b 0)
+bit-pointWhere (suc n) b zero h =
+    bit-zero (pointWhere n (λ j. b (suc j)) * 2 + digit (b 0)) ∙ low-digit (pointWhere n (λ j. b (suc j))) (b 0)
 bit-pointWhere (suc n) b (suc j) h =
     bit-suc (pointWhere n (λ j. b (suc j)) * 2 + digit (b 0)) j
     ∙ ap (λ (x : ℕ). bit x j) (half-digit (pointWhere n (λ j. b (suc j))) (digit (b 0)) (digit-lt (b 0)))
@@ -199,7 +204,8 @@ pub bit-choice : (U : ℕ) (state : State) (choice : Choice) (j : ℕ) → j < U
 unfolding point
 bit-choice U state choice j h = bit-low (state .0) (choice .0) U j h
 
-pub bit-state : (U : ℕ) (state : State) (choice : Choice) (i : ℕ) → choice .0 < 2 ^ U → bit (point U state choice) (U + i) ≡ bit (state .0) i
+pub bit-state : (U : ℕ) (state : State) (choice : Choice) (i : ℕ) → choice .0 < 2 ^ U
+    → bit (point U state choice) (U + i) ≡ bit (state .0) i
 unfolding point
 bit-state U state choice i h = bit-high (state .0) (choice .0) U i h
 

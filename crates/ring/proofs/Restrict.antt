@@ -42,10 +42,13 @@ value-restrict (suc n) f zero b p h =
     let q : ℕ = p / 2 in
     value-step n (restrict f zero b) p
     ∙ ap₂ (λ (x y : Bool). x ⊕ (low p && y))
-    (value-cong n _ (λ i. f (i * 2) ⊕ (b && f (i * 2 + 1))) q (λ i l. ap (λ (x : Bool). cond x false (f (i * 2) ⊕ (b && f (i * 2 + 1)))) (bit-zero (i * 2) ∙ even-low i))
+    (value-cong n _ (λ i. f (i * 2) ⊕ (b && f (i * 2 + 1))) q
+    (λ i l. ap (λ (x : Bool). cond x false (f (i * 2) ⊕ (b && f (i * 2 + 1)))) (bit-zero (i * 2) ∙ even-low i))
     ∙ value-add n (λ i. f (i * 2)) (λ i. b && f (i * 2 + 1)) q
     ∙ ap (λ (x : Bool). value n (λ i. f (i * 2)) q ⊕ x) (value-scale n b (λ i. f (i * 2 + 1)) q))
-    (value-cong n _ (λ i. false) q (λ i l. ap (λ (x : Bool). cond x false (f (i * 2 + 1) ⊕ (b && f (i * 2 + 1 + 1)))) (bit-zero (i * 2 + 1) ∙ odd-low i)) ∙ value-none n q)
+    (value-cong n _ (λ i. false) q
+    (λ i l. ap (λ (x : Bool). cond x false (f (i * 2 + 1) ⊕ (b && f (i * 2 + 1 + 1)))) (bit-zero (i * 2 + 1) ∙ odd-low i))
+    ∙ value-none n q)
     ∙ ap (λ (x : Bool). (value n (λ i. f (i * 2)) q ⊕ (b && value n (λ i. f (i * 2 + 1)) q)) ⊕ x) (and-false (low p))
     ∙ xor-false (value n (λ i. f (i * 2)) q ⊕ (b && value n (λ i. f (i * 2 + 1)) q))
     ∙ sym (value-step n f (q * 2 + digit b) ∙ ap₂ (halves n f) (half-digit q (digit b) (digit-lt b)) (low-digit q b))
@@ -55,7 +58,8 @@ value-restrict (suc n) f (suc j) b p h =
     (value-cong n _ (restrict (λ i. f (i * 2)) j b) (p / 2) (λ i l. ap₂ (λ (x : Bool) (m : ℕ). cond x false (f (i * 2) ⊕ (b && f m)))
     (bit-suc (i * 2) j ∙ ap (λ (m : ℕ). bit m j) (even-half i)) (even-plus i j))
     ∙ value-restrict n (λ i. f (i * 2)) j b (p / 2) (omega arith))
-    (value-cong n _ (restrict (λ i. f (i * 2 + 1)) j b) (p / 2) (λ i l. ap₂ (λ (x : Bool) (m : ℕ). cond x false (f (i * 2 + 1) ⊕ (b && f m)))
+    (value-cong n _ (restrict (λ i. f (i * 2 + 1)) j b) (p / 2)
+    (λ i l. ap₂ (λ (x : Bool) (m : ℕ). cond x false (f (i * 2 + 1) ⊕ (b && f m)))
     (bit-suc (i * 2 + 1) j ∙ ap (λ (m : ℕ). bit m j) (odd-half i)) (odd-plus i j))
     ∙ value-restrict n (λ i. f (i * 2 + 1)) j b (p / 2) (omega arith))
     ∙ sym (value-step n f (assign (p / 2) j b * 2 + p % 2)

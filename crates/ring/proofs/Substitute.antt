@@ -51,12 +51,15 @@ unfolding everyBelow pointWhere within
 within-point zero i b h = rw (lt-one h)
 within-point (suc n) i b h =
     within-step i (pointWhere n (λ j. b (suc j)) * 2 + digit (b 0))
-    ∙ ap₂ (λ (x : Bool) (y : ℕ). not (low i && not x) && within (i / 2) y) (low-digit (pointWhere n (λ j. b (suc j))) (b 0)) (half-digit (pointWhere n (λ j. b (suc j))) (digit (b 0)) (digit-lt (b 0)))
+    ∙ ap₂ (λ (x : Bool) (y : ℕ). not (low i && not x) && within (i / 2) y) (low-digit (pointWhere n (λ j. b (suc j))) (b 0))
+    (half-digit (pointWhere n (λ j. b (suc j))) (digit (b 0)) (digit-lt (b 0)))
     ∙ ap (λ (x : Bool). not (low i && not (b 0)) && x) (within-point n (i / 2) (λ j. b (suc j)) (omega (arith, pow-suc 2 n)))
-    ∙ ap₂ (λ (x y : Bool). not (x && not (b 0)) && y) (sym (bit-zero i)) (every-cong n _ _ (λ j _. ap (λ (x : Bool). not (x && not (b (suc j)))) (sym (bit-suc i j))))
+    ∙ ap₂ (λ (x y : Bool). not (x && not (b 0)) && y) (sym (bit-zero i))
+    (every-cong n _ _ (λ j _. ap (λ (x : Bool). not (x && not (b (suc j)))) (sym (bit-suc i j))))
     ∙ sym (every-first n (λ j. not (bit i j && not (b j))))
 
-value-monomial : (k : ℕ) (τ : ℕ → ℕ → Bool) (i n q : ℕ) → value k (monomial k τ i n) q ≡ everyBelow n (λ j. not (bit i j && not (value k (τ j) q)))
+value-monomial : (k : ℕ) (τ : ℕ → ℕ → Bool) (i n q : ℕ)
+    → value k (monomial k τ i n) q ≡ everyBelow n (λ j. not (bit i j && not (value k (τ j) q)))
 unfolding monomial everyBelow
 value-monomial k τ i zero q = value-constant k true q
 value-monomial k τ i (suc n) q =
@@ -66,7 +69,8 @@ value-monomial k τ i (suc n) q =
     go true = sym (Bool·not-not (value k (τ n) q))
     go false = value-constant k true q
 
-pub value-substitute : (n k : ℕ) (f : ℕ → Bool) (τ : ℕ → ℕ → Bool) (q : ℕ) → value k (substitute n k f τ) q ≡ value n f (pointWhere n (λ j. value k (τ j) q))
+pub value-substitute : (n k : ℕ) (f : ℕ → Bool) (τ : ℕ → ℕ → Bool) (q : ℕ)
+    → value k (substitute n k f τ) q ≡ value n f (pointWhere n (λ j. value k (τ j) q))
 unfolding value substitute
 value-substitute n k f τ q =
     odd-cong (2 ^ k) _ _ (λ m _. sym (odd-and-r (2 ^ n) (within m q) (λ i. f i && monomial k τ i n m)))

@@ -40,11 +40,13 @@ pub tabulate-cong : (k : ℕ) (g h : ℕ → Bool) → ((i : ℕ) → i < k → 
 unfolding tabulate
 tabulate-cong zero g h e = refl
 tabulate-cong (suc k) g h e =
-    ap₂ (λ (b : Bool) (l : List ℕ). digit b ∷ l) (e 0 (omega arith)) (tabulate-cong k (λ i. g (suc i)) (λ i. h (suc i)) (λ i l. e (suc i) (omega arith)))
+    ap₂ (λ (b : Bool) (l : List ℕ). digit b ∷ l) (e 0 (omega arith))
+    (tabulate-cong k (λ i. g (suc i)) (λ i. h (suc i)) (λ i l. e (suc i) (omega arith)))
 
 tabulate-add : (j k : ℕ) (h : ℕ → Bool) → tabulate (j + k) h ≡ tabulate j h ++ tabulate k (λ i. h (j + i))
 tabulate-add j k h =
-    tabulate-listed (j + k) h ∙ listed-add j k (λ i. digit (h i)) ∙ sym (ap₂ _++_ (tabulate-listed j h) (tabulate-listed k (λ i. h (j + i))))
+    tabulate-listed (j + k) h ∙ listed-add j k (λ i. digit (h i))
+    ∙ sym (ap₂ _++_ (tabulate-listed j h) (tabulate-listed k (λ i. h (j + i))))
 
 pub present-tabulate : (k : ℕ) (h : ℕ → Bool) (i : ℕ) → i < k → present (tabulate k h) i ≡ h i
 unfolding present
@@ -66,7 +68,8 @@ same-present n s t a b e =
     ext-getD 0 s t (a .size ∙ sym (b .size)) (λ i l. same-bit (getD s i 0) (getD t i 0) (a .bits i) (b .bits i) (e i (rw (a .size) at l)))
 
 -- two tables with the same values are one
-pub same-table : (n : ℕ) (s t : List ℕ) → IsTable n s → IsTable n t → ((p : ℕ) → p < 2 ^ n → value n (present s) p ≡ value n (present t) p) → s ≡ t
+pub same-table : (n : ℕ) (s t : List ℕ) → IsTable n s → IsTable n t → ((p : ℕ) → p < 2 ^ n → value n (present s) p ≡ value n (present t) p)
+    → s ≡ t
 same-table n s t a b e = same-present n s t a b (same-values n (present s) (present t) e)
 
 pub values-twice : (n : ℕ) (t : List ℕ) → IsTable n t → values n (values n t) ≡ t
@@ -78,7 +81,8 @@ values-twice n t a =
     ∙ involution n (present t) m l)
 
 -- the table with the values h is what the passage back from them gives
-pub table-by-values : (n : ℕ) (f : Polynomial) (h : ℕ → Bool) → ((p : ℕ) → p < 2 ^ n → h p ≡ value n f p) → values n (tabulate (2 ^ n) h) ≡ table n f
+pub table-by-values : (n : ℕ) (f : Polynomial) (h : ℕ → Bool) → ((p : ℕ) → p < 2 ^ n → h p ≡ value n f p)
+    → values n (tabulate (2 ^ n) h) ≡ table n f
 unfolding values table
 table-by-values n f h e =
     tabulate-cong (2 ^ n) _ f (λ m l. value-cong n _ _ m (λ p k. present-tabulate (2 ^ n) h p k ∙ e p k) ∙ involution n f m l)
@@ -128,9 +132,11 @@ unfolding answerTable table
 answerTable-last U n a =
     ap (λ (k : ℕ). tabulate k (λ i. a (i / 2 ^ n) (i % 2 ^ n))) (suc-mul U (2 ^ n))
     ∙ tabulate-add (U * 2 ^ n) (2 ^ n) (λ i. a (i / 2 ^ n) (i % 2 ^ n))
-    ∙ ap (λ (l : List ℕ). tabulate (U * 2 ^ n) (λ i. a (i / 2 ^ n) (i % 2 ^ n)) ++ l) (tabulate-cong (2 ^ n) _ _ (λ m l. ap₂ a (high U n l) (low U n l)))
+    ∙ ap (λ (l : List ℕ). tabulate (U * 2 ^ n) (λ i. a (i / 2 ^ n) (i % 2 ^ n)) ++ l)
+    (tabulate-cong (2 ^ n) _ _ (λ m l. ap₂ a (high U n l) (low U n l)))
 
-pub answerTable-cong : (U n : ℕ) (a b : ℕ → Polynomial) → ((j m : ℕ) → j < U → m < 2 ^ n → a j m ≡ b j m) → answerTable U n a ≡ answerTable U n b
+pub answerTable-cong : (U n : ℕ) (a b : ℕ → Polynomial) → ((j m : ℕ) → j < U → m < 2 ^ n → a j m ≡ b j m)
+    → answerTable U n a ≡ answerTable U n b
 answerTable-cong zero n a b e = answerTable-none n a ∙ sym (answerTable-none n b)
 answerTable-cong (suc U) n a b e =
     answerTable-last U n a

@@ -34,7 +34,8 @@ value-step n f p =
     ∙ odd-cong (2 ^ n) _ _ (λ m l. ap₂ (λ (x y : Bool). (f (m * 2) && x) ⊕ (f (m * 2 + 1) && y)) (within-even m p) (within-odd m p)
     ∙ ap (λ (x : Bool). (f (m * 2) && within m (p / 2)) ⊕ x) (and-left-comm (f (m * 2 + 1)) (low p) (within m (p / 2))))
     ∙ odd-xor (2 ^ n) (λ m. f (m * 2) && within m (p / 2)) (λ m. low p && (f (m * 2 + 1) && within m (p / 2)))
-    ∙ ap (λ (x : Bool). odd (2 ^ n) (λ m. f (m * 2) && within m (p / 2)) ⊕ x) (odd-and (2 ^ n) (low p) (λ m. f (m * 2 + 1) && within m (p / 2)))
+    ∙ ap (λ (x : Bool). odd (2 ^ n) (λ m. f (m * 2) && within m (p / 2)) ⊕ x)
+    (odd-and (2 ^ n) (low p) (λ m. f (m * 2 + 1) && within m (p / 2)))
 
 -- the table once the letters from j on are done: the masks that differ from p in those letters alone, at row p / 2 ^ j of column p % 2 ^ j
 pub stageAt : ℕ → (ℕ → Bool) → ℕ → ℕ → ℕ → Bool
@@ -79,7 +80,8 @@ without : (p j : ℕ) → bit p j ≡ true → p - 2 ^ j ≡ p / 2 ^ j / 2 * 2 *
 unfolding bit
 without p j e =
     let o : p / 2 ^ j ≡ p / 2 ^ j / 2 * 2 + 1 = omega (arith, eqb-true (p / 2 ^ j % 2) 1 e) in
-    let m : p / 2 ^ j * 2 ^ j ≡ p / 2 ^ j / 2 * 2 * 2 ^ j + 2 ^ j = ap (λ (x : ℕ). x * 2 ^ j) o ∙ add-mul (p / 2 ^ j / 2 * 2) 1 (2 ^ j) ∙ rw one-mul in
+    let m : p / 2 ^ j * 2 ^ j ≡ p / 2 ^ j / 2 * 2 * 2 ^ j + 2 ^ j = ap (λ (x : ℕ). x * 2 ^ j) o ∙ add-mul (p / 2 ^ j / 2 * 2) 1 (2 ^ j)
+    ∙ rw one-mul in
     omega (arith, split p j)
 
 without-row : (p j : ℕ) → bit p j ≡ true → (p - 2 ^ j) / 2 ^ suc j ≡ p / 2 ^ j / 2
@@ -123,7 +125,8 @@ stage-keep n f j p h e =
     stageAt-step n f j (p / 2 ^ j) (p % 2 ^ j) h
     ∙ rw (e, xor-false) (ap₂ (stageAt n f (suc j)) (sym (shift-half p j)) (sym (column-false p j e)))
 
-pub stage-flip : (n : ℕ) (f : ℕ → Bool) (j p : ℕ) → j < n → bit p j ≡ true → stage n f j p ≡ (stage n f (suc j) p ⊕ stage n f (suc j) (p - 2 ^ j))
+pub stage-flip : (n : ℕ) (f : ℕ → Bool) (j p : ℕ) → j < n → bit p j ≡ true
+    → stage n f j p ≡ (stage n f (suc j) p ⊕ stage n f (suc j) (p - 2 ^ j))
 unfolding stage bit low
 stage-flip n f j p h e =
     stageAt-step n f j (p / 2 ^ j) (p % 2 ^ j) h

@@ -20,7 +20,8 @@ value-none n p = odd-none (2 ^ n) (λ m. false) (λ m l. refl)
 
 pub value-sum : (n : ℕ) (f g : ℕ → Bool) (p : ℕ) → value n (sum f g) p ≡ (value n f p ⊕ value n g p)
 unfolding value sum
-value-sum n f g p = odd-cong (2 ^ n) _ _ (λ m l. xor-and (f m) (g m) (within m p)) ∙ odd-xor (2 ^ n) (λ m. f m && within m p) (λ m. g m && within m p)
+value-sum n f g p =
+    odd-cong (2 ^ n) _ _ (λ m l. xor-and (f m) (g m) (within m p)) ∙ odd-xor (2 ^ n) (λ m. f m && within m p) (λ m. g m && within m p)
 
 regroup : (a b c d : Bool) → (((a && b) && c) && d) ≡ (((a && b) && d) && c)
 regroup a b c d = simp ac

@@ -24,7 +24,8 @@ unfolding carryAll printsAll
 advances-none read written c = record { all-read = omega arith; all-written = omega arith; carries = refl }
 
 -- one piece behind another
-pub advances-both : {r₀ w₀ r₁ w₁ r₂ w₂ : ℕ} {c₀ c₁ c₂ : Carried} {xs ys : List ℕ} → Advances r₀ w₀ c₀ xs r₁ w₁ c₁ → Advances r₁ w₁ c₁ ys r₂ w₂ c₂ → Advances r₀ w₀ c₀ (xs ++ ys) r₂ w₂ c₂
+pub advances-both : {r₀ w₀ r₁ w₁ r₂ w₂ : ℕ} {c₀ c₁ c₂ : Carried} {xs ys : List ℕ} → Advances r₀ w₀ c₀ xs r₁ w₁ c₁
+    → Advances r₁ w₁ c₁ ys r₂ w₂ c₂ → Advances r₀ w₀ c₀ (xs ++ ys) r₂ w₂ c₂
 advances-both {r₀ = r₀} {w₀ = w₀} {c₀ = c₀} {c₁ = c₁} {c₂ = c₂} {xs = xs} {ys = ys} a b =
     let prints : printsAll c₀ (xs ++ ys) ≡ printsAll c₀ xs ++ printsAll c₁ ys =
     prints-append c₀ xs ys ∙ ap (λ (c : Carried). printsAll c₀ xs ++ printsAll c ys) (sym (a .carries)) in
@@ -41,8 +42,10 @@ module _ (read written : ℕ) (c : Carried) (piece : List ℕ) where
   piece-starts = record { all-read = omega arith; all-written = omega arith; carries = refl }
 
   -- one more part, as far as there was room
-  pub piece-more : (at written₁ last count written₂ : ℕ) (kept out kept′ out′ : List ℕ) (r : Fed) → Advances read written c (take at piece) (read + at) written₁ (carried last count kept)
-      → Feeds kept count last (take (length piece - at) (drop at piece)) out 0 r kept′ out′ → written₂ ≡ written₁ + r .next → at + r .used ≤ length piece
+  pub piece-more : (at written₁ last count written₂ : ℕ) (kept out kept′ out′ : List ℕ) (r : Fed)
+      → Advances read written c (take at piece) (read + at) written₁ (carried last count kept)
+      → Feeds kept count last (take (length piece - at) (drop at piece)) out 0 r kept′ out′ → written₂ ≡ written₁ + r .next
+      → at + r .used ≤ length piece
       → Advances read written c (take (at + r .used) piece) (read + (at + r .used)) written₂ (carried (r .last) (r .count) kept′)
   piece-more at written₁ last count written₂ kept out kept′ out′ r a f w h =
       let c₁ : Carried = carried last count kept in
@@ -55,9 +58,11 @@ module _ (read written : ℕ) (c : Carried) (piece : List ℕ) where
         all-written = omega (arith, w, f .took .prints .place, ap (λ (l : List ℕ). length (printsAll c₁ l)) same);
         carries = f .took .carries ∙ ap (carryAll c₁) same;
       } in
-      subst (λ (l : List ℕ). Advances read written c l (read + (at + r .used)) written₂ (carried (r .last) (r .count) kept′)) (sym (take-add at (r .used) piece)) (advances-both a next)
+      subst (λ (l : List ℕ). Advances read written c l (read + (at + r .used)) written₂ (carried (r .last) (r .count) kept′))
+      (sym (take-add at (r .used) piece)) (advances-both a next)
 
-  pub piece-ends : (at written₁ : ℕ) (c₁ : Carried) → Advances read written c (take at piece) (read + at) written₁ c₁ → at ≤ length piece → length piece ≤ at
+  pub piece-ends : (at written₁ : ℕ) (c₁ : Carried) → Advances read written c (take at piece) (read + at) written₁ c₁ → at ≤ length piece
+      → length piece ≤ at
       → Advances read written c piece (read + length piece) written₁ c₁
   piece-ends at written₁ c₁ a h l =
       let all : at ≡ length piece = omega arith in
@@ -65,7 +70,8 @@ module _ (read written : ℕ) (c : Carried) (piece : List ℕ) where
       (subst (λ (l : List ℕ). Advances read written c l (read + at) written₁ c₁) (take-all at piece l) a)
 
 -- the first n bytes of a room: as many as were read, and if they are some, the run goes forward
-module _ (read written : ℕ) (c : Carried) (n : ℕ) (room : List ℕ) (read′ written′ : ℕ) (c′ : Carried) (h : n ≤ length room) (a : Advances read written c (take n room) read′ written′ c′) where
+module _ (read written : ℕ) (c : Carried) (n : ℕ) (room : List ℕ) (read′ written′ : ℕ) (c′ : Carried) (h : n ≤ length room)
+    (a : Advances read written c (take n room) read′ written′ c′) where
   pub piece-read : Advances read written c (take (read′ - read) room) read′ written′ c′
   piece-read =
       let all : n ≡ read′ - read = omega (arith, a .all-read, length-take-le n room h) in
@@ -76,7 +82,8 @@ module _ (read written : ℕ) (c : Carried) (n : ℕ) (room : List ℕ) (read′
 
 -- what a read gave is taken, by what it is
 module _ (room : List ℕ) (read written : ℕ) (c : Carried) where
-  pub takes-bytes : {got : Got} {n : ℕ} {going : Bool} {read′ written′ : ℕ} {c′ : Carried} → got ≡ Bytes n → going ≡ true → Advances read written c (take n room) read′ written′ c′ → Takes got room read written c going read′ written′ c′
+  pub takes-bytes : {got : Got} {n : ℕ} {going : Bool} {read′ written′ : ℕ} {c′ : Carried} → got ≡ Bytes n → going ≡ true
+      → Advances read written c (take n room) read′ written′ c′ → Takes got room read written c going read′ written′ c′
   unfolding gotBytes gotSome gotFailed
   takes-bytes e g a = record { no-failure = rw e; goes-on = rw e g; advances = rw e a }
 
@@ -84,14 +91,16 @@ module _ (room : List ℕ) (read written : ℕ) (c : Carried) where
   unfolding gotBytes gotSome gotFailed
   takes-end e = record { no-failure = rw e; goes-on = rw e; advances = rw e (advances-none read written c) }
 
-  pub takes-read : (got : Got) (going : Bool) (read′ written′ : ℕ) (c′ : Carried) → gotWithin got (length room) → Takes got room read written c going read′ written′ c′
+  pub takes-read : (got : Got) (going : Bool) (read′ written′ : ℕ) (c′ : Carried) → gotWithin got (length room)
+      → Takes got room read written c going read′ written′ c′
       → Advances read written c (take (read′ - read) room) read′ written′ c′
   unfolding gotBytes
   takes-read (Bytes n) going read′ written′ c′ h t = piece-read read written c n room read′ written′ c′ (h .1) (t .advances)
   takes-read End going read′ written′ c′ h t = piece-read read written c 0 room read′ written′ c′ (omega arith) (t .advances)
   takes-read Failed going read′ written′ c′ h t = piece-read read written c 0 room read′ written′ c′ (omega arith) (t .advances)
 
-  pub takes-forward : (got : Got) (going : Bool) (read′ written′ : ℕ) (c′ : Carried) → gotWithin got (length room) → Takes got room read written c going read′ written′ c′ → going ≡ true → read < read′
+  pub takes-forward : (got : Got) (going : Bool) (read′ written′ : ℕ) (c′ : Carried) → gotWithin got (length room)
+      → Takes got room read written c going read′ written′ c′ → going ≡ true → read < read′
   unfolding gotBytes gotSome
   takes-forward (Bytes n) going read′ written′ c′ h t g = piece-forward read written c n room read′ written′ c′ (h .1) (t .advances) (h .0)
   takes-forward End going read′ written′ c′ h t g = absurd (false≢true (sym (t .goes-on) ∙ g))
@@ -105,7 +114,8 @@ pub record Reached (read written : ℕ) (c : Carried) : Type 0 where
 pub reached-start : (kept : List ℕ) → Reached 0 0 (carried 0 0 kept)
 reached-start kept = record { input = []; by = advances-none 0 0 nothingCarried }
 
-pub reached-more : {r₁ w₁ r₂ w₂ : ℕ} {c₁ c₂ : Carried} {piece : List ℕ} → Reached r₁ w₁ c₁ → Advances r₁ w₁ c₁ piece r₂ w₂ c₂ → Reached r₂ w₂ c₂
+pub reached-more : {r₁ w₁ r₂ w₂ : ℕ} {c₁ c₂ : Carried} {piece : List ℕ} → Reached r₁ w₁ c₁ → Advances r₁ w₁ c₁ piece r₂ w₂ c₂
+    → Reached r₂ w₂ c₂
 reached-more {piece = piece} p a = record { input = p .input ++ piece; by = advances-both (p .by) a }
 
 -- a whole input is one piece

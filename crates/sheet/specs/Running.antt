@@ -19,7 +19,8 @@ pub record Advances (read written : ℕ) (c : Carried) (piece : List ℕ) (read�
   pub carries : c′ ≡ carryAll c piece
 
 -- what is done with what a read gave, unless the run stops: all its bytes are printed, and the run goes on unless the input has ended
-pub record Takes (got : Got) (room : List ℕ) (read written : ℕ) (c : Carried) (going : Bool) (read′ written′ : ℕ) (c′ : Carried) : Type 0 where
+pub record Takes (got : Got) (room : List ℕ) (read written : ℕ) (c : Carried) (going : Bool) (read′ written′ : ℕ)
+    (c′ : Carried) : Type 0 where
   pub no-failure : gotFailed got ≡ false
   pub goes-on : going ≡ gotSome got
   pub advances : Advances read written c (gotBytes got room) read′ written′ c′

@@ -40,7 +40,8 @@ not-zero n g h = go (everyBelow (2 ^ n) (λ p. not (value n g p))) refl
     go true e =
         let m = every-not (2 ^ n) (λ m. not (g m)) h in
         absurd (true≢false (sym (not-false (g (m .0)) (m .2))
-        ∙ same-values n g (λ m. false) (λ p l. not-true (value n g p) (every-all (2 ^ n) (λ p. not (value n g p)) e p l) ∙ sym (value-none n p)) (m .0) (m .1)))
+        ∙ same-values n g (λ m. false)
+        (λ p l. not-true (value n g p) (every-all (2 ^ n) (λ p. not (value n g p)) e p l) ∙ sym (value-none n p)) (m .0) (m .1)))
     go false e = let p = every-not (2 ^ n) (λ p. not (value n g p)) e in (p .0, p .1, not-false (value n g (p .0)) (p .2))
 
 pub no-true : (b : Bool) → (b ≡ true → ⊥) → b ≡ false
@@ -59,10 +60,12 @@ module _ (U G : ℕ) (f : Polynomial) where
   blocked-value : (state : State) → Blocked U G f state → (q : ℕ) → q / 2 ^ U ≡ state .0 → value (U + G) f q ≡ true
   unfolding point
   blocked-value state b q e =
-      ap (value (U + G) f) (sym (ap (λ (x : ℕ). x * 2 ^ U + q % 2 ^ U) (sym e) ∙ split q U)) ∙ b (record { 0 = q % 2 ^ U }) (mod-lt q (pow-pos U))
+      ap (value (U + G) f) (sym (ap (λ (x : ℕ). x * 2 ^ U + q % 2 ^ U) (sym e) ∙ split q U))
+      ∙ b (record { 0 = q % 2 ^ U }) (mod-lt q (pow-pos U))
 
   -- in a blocked state no substitution makes f zero
-  pub blocked-none : (state : State) → state .0 < 2 ^ G → Blocked U G f state → (L : List Letter) → HoldsGivens G L → (σ : Substitution) → ¬ MakesZero U G f L σ
+  pub blocked-none : (state : State) → state .0 < 2 ^ G → Blocked U G f state → (L : List Letter) → HoldsGivens G L → (σ : Substitution)
+      → ¬ MakesZero U G f L σ
   unfolding replacedValue
   blocked-none state h b L g σ z = true≢false (sym (blocked-value state b q above) ∙ sym (value-putIn U G L g f σ v) ∙ z v)
     where
@@ -109,7 +112,8 @@ module _ (U G : ℕ) (f : Polynomial) where
     pub nothing-opens : (p : ℕ) → p < 2 ^ (U + G) → value (U + G) (remains (U + G) f order) p ≡ false → ¬ Blocked U G f (stateOf U p)
     unfolding stateOf
     nothing-opens p h r b =
-        true≢false (sym (blocked-value (stateOf U p) b q above) ∙ solves (value (U + G) f) order p (sym (remains-values U G f order is p) ∙ r))
+        true≢false (sym (blocked-value (stateOf U p) b q above)
+        ∙ solves (value (U + G) f) order p (sym (remains-values U G f order is p) ∙ r))
       where
         q : ℕ
         q = answeredThrough (value (U + G) f) order p

@@ -51,17 +51,20 @@ module _ (U G : ℕ) (f : Polynomial) where
       go j false e = sym (zeroChoice-high U p j (ltb-false j U e))
 
   -- the value of the particular solution, in any order: that of Boole's answer with every unknown at 0
-  pub value-particular : (order : List ℕ) (j p : ℕ) → p < 2 ^ n → value n (particular U G order f j) p ≡ value n (booleAnswers n f order j) (zeroChoice U p)
+  pub value-particular : (order : List ℕ) (j p : ℕ) → p < 2 ^ n
+      → value n (particular U G order f j) p ≡ value n (booleAnswers n f order j) (zeroChoice U p)
   unfolding particular
   value-particular order j p h =
       value-putIn-own U G (booleAnswers n f order j) (λ i. constant false) p h ∙ ap (value n (booleAnswers n f order j)) (led-zero p h)
 
   -- the value of the own Löwenheim answer, in any order
   pub value-own-lowenheim : (order : List ℕ) (j p : ℕ) → j < n → p < 2 ^ n
-      → value n (ownLowenheim U G order f j) p ≡ (bit p j ⊕ (value n f p && (bit p j ⊕ value n (booleAnswers n f order j) (zeroChoice U p))))
+      → value n (ownLowenheim U G order f j) p
+      ≡ (bit p j ⊕ (value n f p && (bit p j ⊕ value n (booleAnswers n f order j) (zeroChoice U p))))
   unfolding ownLowenheim
   value-own-lowenheim order j p l h =
-      value-lowenheim n f (particular U G order f) j p l ∙ ap (λ (b : Bool). bit p j ⊕ (value n f p && (bit p j ⊕ b))) (value-particular order j p h)
+      value-lowenheim n f (particular U G order f) j p l
+      ∙ ap (λ (b : Bool). bit p j ⊕ (value n f p && (bit p j ⊕ b))) (value-particular order j p h)
 
   -- handed polynomials put into f, over the engine's own list: the call's substitution
   pub putIn-own : (b : Substitution) (m : ℕ) → m < 2 ^ n → putIn U G (ownLetters U G) f b m ≡ substitute n n f (forUnknowns U b) m

@@ -44,7 +44,8 @@ solution-kept e false h = h
 pub solves : (f : ℕ → Bool) (order : List ℕ) (p : ℕ) → remainsThrough f order p ≡ false → f (answeredThrough f order p) ≡ false
 unfolding remainsThrough answeredThrough chosenPoint bothCases
 solves f [] p h = h
-solves f (x ∷ order) p h = chosen-solves (λ b. f (assign (answeredThrough (bothCases f x) order p) x b)) (bit p x) (solves (bothCases f x) order p h)
+solves f (x ∷ order) p h =
+    chosen-solves (λ b. f (assign (answeredThrough (bothCases f x) order p) x b)) (bit p x) (solves (bothCases f x) order p h)
 
 -- where f is 0 nothing remains
 cases-none : (f : ℕ → Bool) (x p : ℕ) → f p ≡ false → bothCases f x p ≡ false
@@ -80,18 +81,21 @@ out-tail x order y h = go (has y order) refl
     go true e = sym (has-rest y x order e) ∙ h
     go false e = refl
 
-pub answered-lt : (n : ℕ) (f : ℕ → Bool) (order : List ℕ) (p : ℕ) → ((x : ℕ) → has x order ≡ true → x < n) → p < 2 ^ n → answeredThrough f order p < 2 ^ n
+pub answered-lt : (n : ℕ) (f : ℕ → Bool) (order : List ℕ) (p : ℕ) → ((x : ℕ) → has x order ≡ true → x < n) → p < 2 ^ n
+    → answeredThrough f order p < 2 ^ n
 unfolding answeredThrough chosenPoint
 answered-lt n f [] p b h = h
 answered-lt n f (x ∷ order) p b h =
-    assign-lt n (answeredThrough (bothCases f x) order p) x _ (answered-lt n (bothCases f x) order p (λ y e. b y (has-rest y x order e)) h) (b x (has-first x order))
+    assign-lt n (answeredThrough (bothCases f x) order p) x _ (answered-lt n (bothCases f x) order p (λ y e. b y (has-rest y x order e)) h)
+    (b x (has-first x order))
 
 -- a letter that is not in the order is kept
 pub answered-kept : (f : ℕ → Bool) (order : List ℕ) (p j : ℕ) → has j order ≡ false → bit (answeredThrough f order p) j ≡ bit p j
 unfolding answeredThrough chosenPoint
 answered-kept f [] p j h = refl
 answered-kept f (x ∷ order) p j h =
-    bit-assign-other (answeredThrough (bothCases f x) order p) j x _ (out-head x order j h) ∙ answered-kept (bothCases f x) order p j (out-tail x order j h)
+    bit-assign-other (answeredThrough (bothCases f x) order p) j x _ (out-head x order j h)
+    ∙ answered-kept (bothCases f x) order p j (out-tail x order j h)
 
 -- f does not turn on the letters of D
 abbrev Ignores : ℕ → (ℕ → Bool) → (ℕ → Bool) → Type 0
@@ -108,14 +112,16 @@ cases-ignore n f D x hx ignores p q hp hq e = ap₂ _&&_ (side true) (side false
         bit-assign-other p j x b other ∙ e j l (rw (k, d)) ∙ sym (bit-assign-other q j x b other)
 
     side : (b : Bool) → f (assign p x b) ≡ f (assign q x b)
-    side b = ignores (assign p x b) (assign q x b) (assign-lt n p x b hp hx) (assign-lt n q x b hq hx) (λ j l d. agree b j l d (eqb j x) refl)
+    side b =
+        ignores (assign p x b) (assign q x b) (assign-lt n p x b hp hx) (assign-lt n q x b hq hx) (λ j l d. agree b j l d (eqb j x) refl)
 
 remains-ignore : (n : ℕ) (f D : ℕ → Bool) (order : List ℕ) → ((x : ℕ) → has x order ≡ true → x < n) → Ignores n f D
     → Ignores n (remainsThrough f order) (λ j. has j order || D j)
 unfolding remainsThrough has
 remains-ignore n f D [] b ignores p q hp hq e = ignores p q hp hq e
 remains-ignore n f D (x ∷ order) b ignores p q hp hq e =
-    remains-ignore n (bothCases f x) (λ j. eqb j x || D j) order (λ y k. b y (has-rest y x order k)) (cases-ignore n f D x (b x (has-first x order)) ignores) p q hp hq
+    remains-ignore n (bothCases f x) (λ j. eqb j x || D j) order (λ y k. b y (has-rest y x order k))
+    (cases-ignore n f D x (b x (has-first x order)) ignores) p q hp hq
     (λ j l d. e j l (shuffle (eqb j x) (has j order) (D j) ∙ d))
   where
     shuffle : (a b c : Bool) → ((a || b) || c) ≡ (b || (a || c))
@@ -125,7 +131,8 @@ remains-ignore n f D (x ∷ order) b ignores p q hp hq e =
 
 -- what remains is the same at two points that agree outside the order
 pub remains-outside : (n : ℕ) (f : ℕ → Bool) (order : List ℕ) → ((x : ℕ) → has x order ≡ true → x < n)
-    → (p q : ℕ) → p < 2 ^ n → q < 2 ^ n → ((j : ℕ) → j < n → has j order ≡ false → bit p j ≡ bit q j) → remainsThrough f order p ≡ remainsThrough f order q
+    → (p q : ℕ) → p < 2 ^ n → q < 2 ^ n → ((j : ℕ) → j < n → has j order ≡ false → bit p j ≡ bit q j)
+    → remainsThrough f order p ≡ remainsThrough f order q
 remains-outside n f order b p q hp hq e =
     remains-ignore n f (λ j. false) order b (λ x y hx hy k. ap f (same-letters n x y hx hy (λ j l. k j l refl))) p q hp hq
     (λ j l d. e j l (sym (or-false (has j order)) ∙ d))

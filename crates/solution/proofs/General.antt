@@ -35,7 +35,8 @@ pub record Leads (U G : ℕ) (f : Polynomial) (a : Substitution) : Type 0 where
   pub stays : (p : ℕ) → p < 2 ^ (U + G) → value (U + G) f p ≡ false → (j : ℕ) → j < U → value (U + G) (a j) p ≡ bit p j
 
 -- the same of answers with the same monomials
-pub leads-same : (U G : ℕ) (f : Polynomial) (a b : Substitution) → ((j m : ℕ) → j < U → m < 2 ^ (U + G) → b j m ≡ a j m) → Leads U G f a → Leads U G f b
+pub leads-same : (U G : ℕ) (f : Polynomial) (a b : Substitution) → ((j m : ℕ) → j < U → m < 2 ^ (U + G) → b j m ≡ a j m) → Leads U G f a
+    → Leads U G f b
 unfolding led
 leads-same U G f a b same h =
     record {
@@ -59,12 +60,14 @@ module _ (U G : ℕ) (f : Polynomial) (a : Substitution) where
   unfolding replacedValue led ownPoint
   own-led v =
       value-putIn U G (ownLetters U G) (own-holds U G) f a v
-      ∙ ap (value n f) (pointWhere-cong n _ _ (λ j l. ap₂ (λ (x y : Bool). cond (ltb j U) x y) (value-own U G (a j) v) (sym (bit-pointWhere n (λ i. v (letterAt U i)) j l))))
+      ∙ ap (value n f) (pointWhere-cong n _ _
+      (λ j l. ap₂ (λ (x y : Bool). cond (ltb j U) x y) (value-own U G (a j) v) (sym (bit-pointWhere n (λ i. v (letterAt U i)) j l))))
 
   -- the same at a point
   pub value-putIn-own : (p : ℕ) → p < 2 ^ n → value n (putIn U G (ownLetters U G) f a) p ≡ value n f (led U G a p)
   value-putIn-own p h =
-      ap (value n (putIn U G (ownLetters U G) f a)) (sym (ownPoint-valuation U G p h)) ∙ sym (value-own U G (putIn U G (ownLetters U G) f a) (valuation U p))
+      ap (value n (putIn U G (ownLetters U G) f a)) (sym (ownPoint-valuation U G p h))
+      ∙ sym (value-own U G (putIn U G (ownLetters U G) f a) (valuation U p))
       ∙ own-led (valuation U p) ∙ ap (λ (q : ℕ). value n f (led U G a q)) (ownPoint-valuation U G p h)
 
   -- a substitution that makes f zero, put into a, gives itself
@@ -96,7 +99,8 @@ module _ (U G : ℕ) (f : Polynomial) (a : Substitution) where
 
   -- a solution over the engine's own list, at points
   pub zero-at : MakesZero U G f (ownLetters U G) a → (p : ℕ) → p < 2 ^ n → value n f (led U G a p) ≡ false
-  zero-at z p h = ap (λ (q : ℕ). value n f (led U G a q)) (sym (ownPoint-valuation U G p h)) ∙ sym (own-led (valuation U p)) ∙ z (valuation U p)
+  zero-at z p h =
+      ap (λ (q : ℕ). value n f (led U G a q)) (sym (ownPoint-valuation U G p h)) ∙ sym (own-led (valuation U p)) ∙ z (valuation U p)
 
 -- two general solutions are instances of each other
 pub each-other : (U G : ℕ) (f : Polynomial) (a b : Substitution) → General U G f a → General U G f b → InstancesOfEachOther U G a b
@@ -107,10 +111,12 @@ each-other U G f a b ga gb =
       instances = λ L g σ. (over a b ga gb L g σ, over b a gb ga L g σ);
     }
   where
-    over : (a b : Substitution) → General U G f a → General U G f b → (L : List Letter) → HoldsGivens G L → (σ : Substitution) → InstanceOf U G a L σ → InstanceOf U G b L σ
+    over : (a b : Substitution) → General U G f a → General U G f b → (L : List Letter) → HoldsGivens G L → (σ : Substitution)
+        → InstanceOf U G a L σ → InstanceOf U G b L σ
     over a b ga gb L g σ i =
         let τ : Substitution = i .0 in
-        let k : InstanceOf U G b L (λ j. putIn U G L (a j) τ) = gb .every-instance L g (λ j. putIn U G L (a j) τ) (ga .each-makes-zero L g τ) in
+        let k : InstanceOf U G b L (λ j. putIn U G L (a j) τ) = gb .every-instance L g (λ j. putIn U G L (a j) τ)
+        (ga .each-makes-zero L g τ) in
         (k .0, λ j l v. k .1 j l v ∙ i .1 j l v)
 
 -- Boole's answers, for every order of the unknowns
@@ -124,17 +130,22 @@ module _ (U G : ℕ) (f : Polynomial) (order : List ℕ) (is-order : IsOrder U o
   led-answered : (p : ℕ) → p < 2 ^ (U + G) → led U G (booleAnswers (U + G) f order) p ≡ answeredThrough (value (U + G) f) order p
   unfolding led
   led-answered p h =
-      pointWhere-cong (U + G) _ _ (λ j l. go j l (ltb j U) refl) ∙ pointWhere-bits (U + G) _ (answered-lt (U + G) (value (U + G) f) order p in-order h)
+      pointWhere-cong (U + G) _ _ (λ j l. go j l (ltb j U) refl)
+      ∙ pointWhere-bits (U + G) _ (answered-lt (U + G) (value (U + G) f) order p in-order h)
     where
-      go : (j : ℕ) → j < U + G → (b : Bool) → ltb j U ≡ b → cond b (value (U + G) (booleAnswers (U + G) f order j) p) (bit p j) ≡ bit (answeredThrough (value (U + G) f) order p) j
+      go : (j : ℕ) → j < U + G → (b : Bool) → ltb j U ≡ b
+          → cond b (value (U + G) (booleAnswers (U + G) f order j) p) (bit p j) ≡ bit (answeredThrough (value (U + G) f) order p) j
       go j l true e = value-answers (U + G) f order in-order j p l h
       go j l false e = sym (answered-kept (value (U + G) f) order p j (is-order j ∙ e))
 
-  pub boole-leads : ((p : ℕ) → p < 2 ^ (U + G) → value (U + G) (remains (U + G) f order) p ≡ false) → Leads U G f (booleAnswers (U + G) f order)
+  pub boole-leads : ((p : ℕ) → p < 2 ^ (U + G) → value (U + G) (remains (U + G) f order) p ≡ false)
+      → Leads U G f (booleAnswers (U + G) f order)
   boole-leads z =
       record {
         to-zero = λ p h. ap (value (U + G) f) (led-answered p h) ∙ solves (value (U + G) f) order p (sym (remains-values p) ∙ z p h);
-        stays = λ p h k j l. value-answers (U + G) f order in-order j p (omega arith) h ∙ ap (λ (q : ℕ). bit q j) (reproduces (value (U + G) f) order p k);
+        stays =
+            λ p h k j l. value-answers (U + G) f order in-order j p (omega arith) h
+            ∙ ap (λ (q : ℕ). bit q j) (reproduces (value (U + G) f) order p k);
       }
 
 -- Löwenheim's answers, from whatever solution is handed over
@@ -154,13 +165,15 @@ module _ (U G : ℕ) (f : Polynomial) (b : Substitution) (z : MakesZero U G f (o
 
       same-as : (p : ℕ) → p < 2 ^ (U + G) → (t : Bool) → value (U + G) f p ≡ t → (j : ℕ) → (c : Bool) → ltb j U ≡ c
           → cond c (value (U + G) (lowenheim (U + G) f b j) p) (bit p j) ≡ cond t (cond c (value (U + G) (b j) p) (bit p j)) (bit p j)
-      same-as p h true e j true k = value-lowenheim (U + G) f b j p (omega (arith, ltb-true j U k)) ∙ rw e (cancel (bit p j) (value (U + G) (b j) p))
+      same-as p h true e j true k =
+          value-lowenheim (U + G) f b j p (omega (arith, ltb-true j U k)) ∙ rw e (cancel (bit p j) (value (U + G) (b j) p))
       same-as p h false e j true k = value-lowenheim (U + G) f b j p (omega (arith, ltb-true j U k)) ∙ rw (e, xor-false)
       same-as p h true e j false k = refl
       same-as p h false e j false k = refl
 
       go : (p : ℕ) → p < 2 ^ (U + G) → (t : Bool) → value (U + G) f p ≡ t → value (U + G) f (led U G (lowenheim (U + G) f b) p) ≡ false
-      go p h true e = ap (value (U + G) f) (pointWhere-cong (U + G) _ _ (λ j l. same-as p h true e j (ltb j U) refl)) ∙ zero-at U G f b z p h
+      go p h true e =
+          ap (value (U + G) f) (pointWhere-cong (U + G) _ _ (λ j l. same-as p h true e j (ltb j U) refl)) ∙ zero-at U G f b z p h
       go p h false e =
           ap (value (U + G) f) (pointWhere-cong (U + G) _ _ (λ j l. same-as p h false e j (ltb j U) refl) ∙ pointWhere-bits (U + G) p h) ∙ e
 
@@ -168,6 +181,7 @@ module _ (U G : ℕ) (f : Polynomial) (b : Substitution) (z : MakesZero U G f (o
   lowenheim-general = general U G f (lowenheim (U + G) f b) lowenheim-leads
 
 -- the particular solution is an instance of Boole's answer, and so makes the condition zero
-pub particular-zero : (U G : ℕ) (order : List ℕ) (f : Polynomial) → General U G f (booleAnswers (U + G) f order) → MakesZero U G f (ownLetters U G) (particular U G order f)
+pub particular-zero : (U G : ℕ) (order : List ℕ) (f : Polynomial) → General U G f (booleAnswers (U + G) f order)
+    → MakesZero U G f (ownLetters U G) (particular U G order f)
 unfolding particular
 particular-zero U G order f g = g .each-makes-zero (ownLetters U G) (own-holds U G) (λ i. constant false)

@@ -61,7 +61,8 @@ bit-place (x ∷ L) l v h = go (sameLetter x l) refl h (bit-place L l v)
 unfoldable pub replacedValue : ℕ → List Letter → Substitution → Valuation → ℕ → Bool
 replacedValue U L σ v j = cond (ltb j U) (valueOver L (σ j) v) (v (letterAt U j))
 
-pub replacedValue-unknown : (U : ℕ) (L : List Letter) (σ : Substitution) (v : Valuation) (j : ℕ) → j < U → replacedValue U L σ v j ≡ valueOver L (σ j) v
+pub replacedValue-unknown : (U : ℕ) (L : List Letter) (σ : Substitution) (v : Valuation) (j : ℕ) → j < U
+    → replacedValue U L σ v j ≡ valueOver L (σ j) v
 unfolding replacedValue
 replacedValue-unknown U L σ v j h = rw (lt-ltb j U h)
 
@@ -71,14 +72,16 @@ module _ (U G : ℕ) (L : List Letter) (givens : HoldsGivens G L) where
   holds-at j l e = rw e (givens (j - U) (omega (arith, ltb-false j U e)))
 
   -- the value of f with σ put in is the value of f at the values of σ: all at once, the givens kept
-  pub value-putIn : (f : Polynomial) (σ : Substitution) (v : Valuation) → valueOver L (putIn U G L f σ) v ≡ value (U + G) f (pointWhere (U + G) (replacedValue U L σ v))
+  pub value-putIn : (f : Polynomial) (σ : Substitution) (v : Valuation)
+      → valueOver L (putIn U G L f σ) v ≡ value (U + G) f (pointWhere (U + G) (replacedValue U L σ v))
   unfolding valueOver putIn replacedValue
   value-putIn f σ v =
       value-substitute (U + G) (length L) f (λ j. cond (ltb j U) (σ j) (letter (place L (letterAt U j)))) (pointOf L v)
       ∙ ap (value (U + G) f) (pointWhere-cong (U + G) _ _ (λ j l. go j l (ltb j U) refl))
     where
       go : (j : ℕ) → j < U + G → (b : Bool) → ltb j U ≡ b
-          → value (length L) (cond b (σ j) (letter (place L (letterAt U j)))) (pointOf L v) ≡ cond b (value (length L) (σ j) (pointOf L v)) (v (letterAt U j))
+          → value (length L) (cond b (σ j) (letter (place L (letterAt U j)))) (pointOf L v)
+          ≡ cond b (value (length L) (σ j) (pointOf L v)) (v (letterAt U j))
       go j l true e = refl
       go j l false e =
           value-letter (length L) (place L (letterAt U j)) (pointOf L v) (place-lt L (letterAt U j) (holds-at j l e))
@@ -142,9 +145,11 @@ pub pointOf-local : (L : List Letter) (v w : Valuation) → ((l : Letter) → ho
 unfolding pointOf holds
 pointOf-local [] v w e = refl
 pointOf-local (x ∷ L) v w e =
-    ap₂ (λ (p : ℕ) (b : Bool). p * 2 + digit b) (pointOf-local L v w (λ l h. e l (rw h (or-true (sameLetter x l))))) (e x (rw (sameLetter-refl x)))
+    ap₂ (λ (p : ℕ) (b : Bool). p * 2 + digit b) (pointOf-local L v w (λ l h. e l (rw h (or-true (sameLetter x l)))))
+    (e x (rw (sameLetter-refl x)))
 
 -- the value of a polynomial over L turns on the letters of L alone
-pub value-local : (L : List Letter) (f : Polynomial) (v w : Valuation) → ((l : Letter) → holds L l ≡ true → v l ≡ w l) → valueOver L f v ≡ valueOver L f w
+pub value-local : (L : List Letter) (f : Polynomial) (v w : Valuation) → ((l : Letter) → holds L l ≡ true → v l ≡ w l)
+    → valueOver L f v ≡ valueOver L f w
 unfolding valueOver
 value-local L f v w e = ap (value (length L) f) (pointOf-local L v w e)

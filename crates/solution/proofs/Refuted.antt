@@ -41,7 +41,8 @@ one-zero-solves v = refl
 -- the particular solution archived as the general one: u = 0, v = 0 leaves u = 1, v = 0 out
 pub particular-refuted : Right 2 0 uv (solved (held 2 (0 ∷ 0 ∷ 0 ∷ 0 ∷ 0 ∷ 0 ∷ 0 ∷ 0 ∷ []))) → ⊥
 unfolding valueOver putIn substitute product odd count value within constant pointOf present held one-zero
-particular-refuted h = true≢false (sym (h .general _ refl .every-instance [] (no-givens []) one-zero one-zero-solves .1 0 (omega arith) (λ l. true)))
+particular-refuted h =
+    true≢false (sym (h .general _ refl .every-instance [] (no-givens []) one-zero one-zero-solves .1 0 (omega arith) (λ l. true)))
 
 -- 'none' for all: u*v has a solution, whatever state is named
 pub none-refuted : (state : State) → Right 2 0 uv (none state) → ⊥

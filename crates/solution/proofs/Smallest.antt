@@ -35,12 +35,14 @@ pub smallest-cong : (k : ℕ) (g h : ℕ → Bool) → ((i : ℕ) → i < k → 
 unfolding smallestBelow
 smallest-cong zero g h e = refl
 smallest-cong (suc k) g h e =
-    ap₂ (λ (b : Bool) (i : ℕ). cond b 0 (suc i)) (e 0 (omega arith)) (smallest-cong k (λ i. g (suc i)) (λ i. h (suc i)) (λ i l. e (suc i) (omega arith)))
+    ap₂ (λ (b : Bool) (i : ℕ). cond b 0 (suc i)) (e 0 (omega arith))
+    (smallest-cong k (λ i. g (suc i)) (λ i. h (suc i)) (λ i l. e (suc i) (omega arith)))
 
 pub smallest-none : (k : ℕ) (test : ℕ → Bool) → ((i : ℕ) → i < k → test i ≡ false) → smallestBelow k test ≡ k
 unfolding smallestBelow
 smallest-none zero test e = refl
-smallest-none (suc k) test e = ap₂ (λ (b : Bool) (i : ℕ). cond b 0 (suc i)) (e 0 (omega arith)) (smallest-none k (λ i. test (suc i)) (λ i l. e (suc i) (omega arith)))
+smallest-none (suc k) test e =
+    ap₂ (λ (b : Bool) (i : ℕ). cond b 0 (suc i)) (e 0 (omega arith)) (smallest-none k (λ i. test (suc i)) (λ i l. e (suc i) (omega arith)))
 
 -- where all before it fail, the first number that passes
 pub first-found : (k : ℕ) (test : ℕ → Bool) (i : ℕ) → i < k → ((m : ℕ) → m < i → test m ≡ false) → test i ≡ true → i ≡ smallestBelow k test

@@ -29,15 +29,21 @@ module _ (U G : ℕ) (f : Polynomial) (order : List ℕ) (is-order : IsOrder U o
   boole-general z = booles-general U G order is-order f z _ (λ j m l h. refl)
 
   -- ''none' if and only if there is no substitution over that list': what remains is 0 exactly when some substitution over L makes f zero
-  pub solvable-exactly : (L : List Letter) → HoldsGivens G L → (solvable (U + G) f order ≡ true) ↔ ((σ : Substitution) × MakesZero U G f L σ)
+  pub solvable-exactly : (L : List Letter) → HoldsGivens G L
+      → (solvable (U + G) f order ≡ true) ↔ ((σ : Substitution) × MakesZero U G f L σ)
   solvable-exactly L holds = (
-    λ z. ((λ j. putIn U G L (booleAnswers (U + G) f order j) (λ i. constant false)), boole-general z .each-makes-zero L holds (λ i. constant false)),
+    λ z. (
+      (λ j. putIn U G L (booleAnswers (U + G) f order j) (λ i. constant false)),
+      boole-general z .each-makes-zero L holds
+          (λ i. constant false),
+    ),
     λ s. go (solvable (U + G) f order) refl s,
   )
     where
       go : (b : Bool) → solvable (U + G) f order ≡ b → (σ : Substitution) × MakesZero U G f L σ → b ≡ true
       go true z s = refl
-      go false z s = let r = remains-blocked U G f order is-order z in absurd (blocked-none U G f (r .0) (r .1) (r .2) L holds (s .0) (s .1))
+      go false z s =
+          let r = remains-blocked U G f order is-order z in absurd (blocked-none U G f (r .0) (r .1) (r .2) L holds (s .0) (s .1))
 
   -- 'If it is not 0, the answer is 'none' with the smallest state in which every choice gives the original condition the value 1':
   -- there is one, and it is the one named
@@ -47,25 +53,30 @@ module _ (U G : ℕ) (f : Polynomial) (order : List ℕ) (is-order : IsOrder U o
   -- Boole's answers are reproductive: a substitution that makes the condition zero, put into them, gives itself
   pub boole-reproductive : (L : List Letter) → HoldsGivens G L → (σ : Substitution) → MakesZero U G f L σ
       → (j : ℕ) → j < U → (v : Valuation) → valueOver L (putIn U G L (booleAnswers (U + G) f order j) σ) v ≡ valueOver L (σ j) v
-  boole-reproductive L holds σ z = leads-reproductive U G f _ (boole-leads-all U G order is-order f (solvable-exactly L holds .1 (σ, z))) L holds σ z
+  boole-reproductive L holds σ z =
+      leads-reproductive U G f _ (boole-leads-all U G order is-order f (solvable-exactly L holds .1 (σ, z))) L holds σ z
 
   -- the particular solution makes the condition zero
   pub particular-solves : solvable (U + G) f order ≡ true → MakesZero U G f (ownLetters U G) (particular U G order f)
   particular-solves z = particular-zero U G order f (boole-general z)
 
   -- 'Boole's answers and the own Löwenheim answers for t are instances of each other'
-  pub boole-and-lowenheim : solvable (U + G) f order ≡ true → InstancesOfEachOther U G (booleAnswers (U + G) f order) (ownLowenheim U G order f)
+  pub boole-and-lowenheim : solvable (U + G) f order ≡ true
+      → InstancesOfEachOther U G (booleAnswers (U + G) f order) (ownLowenheim U G order f)
   boole-and-lowenheim z = each-other U G f _ _ (boole-general z) (own-general U G order is-order f z)
 
 -- 'A designer may hand over other polynomials': those that make the condition zero give a general solution by Löwenheim's formula ..
-pub handed-general : (U G : ℕ) (f : Polynomial) (b : Substitution) → MakesZero U G f (ownLetters U G) b → General U G f (lowenheim (U + G) f b)
+pub handed-general : (U G : ℕ) (f : Polynomial) (b : Substitution) → MakesZero U G f (ownLetters U G) b
+    → General U G f (lowenheim (U + G) f b)
 handed-general = lowenheim-general
 
 -- .. and so the same instances as Boole's
-pub handed-and-boole : (U G : ℕ) (f : Polynomial) (order : List ℕ) → IsOrder U order → (b : Substitution) → MakesZero U G f (ownLetters U G) b
+pub handed-and-boole : (U G : ℕ) (f : Polynomial) (order : List ℕ) → IsOrder U order → (b : Substitution)
+    → MakesZero U G f (ownLetters U G) b
     → InstancesOfEachOther U G (booleAnswers (U + G) f order) (lowenheim (U + G) f b)
 handed-and-boole U G f order is-order b z =
-    each-other U G f _ _ (boole-general U G f order is-order (solvable-exactly U G f order is-order (ownLetters U G) (own-holds U G) .1 (b, z))) (handed-general U G f b z)
+    each-other U G f _ _ (boole-general U G f order is-order
+    (solvable-exactly U G f order is-order (ownLetters U G) (own-holds U G) .1 (b, z))) (handed-general U G f b z)
 
 -- two orders agree on whether there is a solution ..
 pub orders-agree : (U G : ℕ) (f : Polynomial) (a b : List ℕ) → IsOrder U a → IsOrder U b → solvable (U + G) f a ≡ solvable (U + G) f b
@@ -92,7 +103,8 @@ pub tables-each-other : (c : Condition) → IsOrder (c .U) (c .order) → solvab
 unfolding AreBooles booleTable lowenheimTable
 tables-each-other c is z =
     each-other (c .U) (c .G) (polynomial c) _ _
-    (booles-general (c .U) (c .G) (c .order) is (polynomial c) z _ (held-answerTable (c .U) (width c) (booleAnswers (width c) (polynomial c) (c .order))))
+    (booles-general (c .U) (c .G) (c .order) is (polynomial c) z _
+    (held-answerTable (c .U) (width c) (booleAnswers (width c) (polynomial c) (c .order))))
     (own-table-general (c .U) (c .G) (c .order) is (polynomial c) z)
 
 -- 'Where U is 0 there is one substitution, the empty one': any two do the same

@@ -22,16 +22,19 @@ use Rattle.solution.proofs.Elimination.{answered-lt}
 pub value-next : (n : ℕ) (f : Polynomial) (x : ℕ) → x < n → value n (nextCondition n f x) ≡ bothCases (value n f) x
 unfolding nextCondition bothCases
 value-next n f x h =
-    fun-ext (λ p. value-product n (restrict f x true) (restrict f x false) p ∙ ap₂ _&&_ (value-restrict n f x true p h) (value-restrict n f x false p h))
+    fun-ext (λ p. value-product n (restrict f x true) (restrict f x false) p
+    ∙ ap₂ _&&_ (value-restrict n f x true p h) (value-restrict n f x false p h))
 
 pub value-remains : (n : ℕ) (f : Polynomial) (order : List ℕ) → ((x : ℕ) → has x order ≡ true → x < n)
     → value n (remains n f order) ≡ remainsThrough (value n f) order
 unfolding remains remainsThrough
 value-remains n f [] b = refl
 value-remains n f (x ∷ order) b =
-    value-remains n (nextCondition n f x) order (λ y e. b y (has-rest y x order e)) ∙ ap (λ (g : ℕ → Bool). remainsThrough g order) (value-next n f x (b x (has-first x order)))
+    value-remains n (nextCondition n f x) order (λ y e. b y (has-rest y x order e))
+    ∙ ap (λ (g : ℕ → Bool). remainsThrough g order) (value-next n f x (b x (has-first x order)))
 
-value-answer : (n x : ℕ) (r s : Polynomial) (p : ℕ) → x < n → value n (answerFrom n x r s) p ≡ chosenValue (value n r p) (value n s p) (bit p x)
+value-answer : (n x : ℕ) (r s : Polynomial) (p : ℕ) → x < n
+    → value n (answerFrom n x r s) p ≡ chosenValue (value n r p) (value n s p) (bit p x)
 unfolding answerFrom chosenValue
 value-answer n x r s p h =
     value-sum n (product n (letter x) (sum (sum r s) (constant true))) s p
@@ -48,16 +51,19 @@ module _ (n : ℕ) (f : Polynomial) (x : ℕ) (hx : x < n) (p : ℕ)
   side c = value-substitute n n (restrict f x c) later p ∙ ap (value n (restrict f x c)) there ∙ value-restrict n f x c q hx
 
   step : (j : ℕ) → j < n
-      → value n (cond (eqb j x) (answerFrom n x (substitute n n (restrict f x true) later) (substitute n n (restrict f x false) later)) (later j)) p
+      → value n (cond (eqb j x) (answerFrom n x (substitute n n (restrict f x true) later) (substitute n n (restrict f x false) later))
+      (later j)) p
       ≡ bit (chosenPoint (value n f) x (bit p x) q) j
   unfolding chosenPoint
   step j hj = go (eqb j x) refl
     where
       go : (t : Bool) → eqb j x ≡ t
-          → value n (cond t (answerFrom n x (substitute n n (restrict f x true) later) (substitute n n (restrict f x false) later)) (later j)) p
+          → value n (cond t (answerFrom n x (substitute n n (restrict f x true) later) (substitute n n (restrict f x false) later))
+          (later j)) p
           ≡ bit (chosenPoint (value n f) x (bit p x) q) j
       go true e =
-          rw (eqb-true j x e) (value-answer n x _ _ p hx ∙ ap₂ (λ (r s : Bool). chosenValue r s (bit p x)) (side true) (side false) ∙ sym (bit-assign q x _))
+          rw (eqb-true j x e) (value-answer n x _ _ p hx ∙ ap₂ (λ (r s : Bool). chosenValue r s (bit p x)) (side true) (side false)
+          ∙ sym (bit-assign q x _))
       go false e = ih j hj ∙ sym (bit-assign-other q j x _ (eqb-false j x e))
 
 pub value-answers : (n : ℕ) (f : Polynomial) (order : List ℕ) → ((x : ℕ) → has x order ≡ true → x < n)

@@ -41,7 +41,8 @@ module _ (U G : ℕ) (order : List ℕ) (is : IsOrder U order) (f : Polynomial) 
 
   -- the engine's own Löwenheim answers as a table of bytes
   pub own-table-general : General U G f (held (U + G) (answerTable U (U + G) (ownLowenheim U G order f)))
-  own-table-general = general U G f _ (leads-same U G f (ownLowenheim U G order f) _ (held-answerTable U (U + G) (ownLowenheim U G order f)) own-leads)
+  own-table-general =
+      general U G f _ (leads-same U G f (ownLowenheim U G order f) _ (held-answerTable U (U + G) (ownLowenheim U G order f)) own-leads)
 
 -- the same of a condition
 module _ (c : Condition) (is : IsOrder (c .U) (c .order)) where

@@ -26,7 +26,8 @@ sumOf [] v = false
 sumOf (m ∷ t) v = allOnes m v ⊕ sumOf t v
 
 module _ (L : List Letter) where
-  monomialOver : (m : List Letter) → ((l : Letter) → holds m l ≡ true → holds L l ≡ true) → (f : Polynomial) × ((v : Valuation) → valueOver L f v ≡ allOnes m v)
+  monomialOver : (m : List Letter) → ((l : Letter) → holds m l ≡ true → holds L l ≡ true) → (f : Polynomial)
+      × ((v : Valuation) → valueOver L f v ≡ allOnes m v)
   unfolding allOnes holds valueOver
   monomialOver [] h = (constant true, λ v. value-constant (length L) true (pointOf L v))
   monomialOver (l ∷ m) h =
@@ -60,10 +61,12 @@ pointOf-lt [] v = omega arith
 pointOf-lt (x ∷ L) v = omega (arith, pow-suc 2 (length L), pointOf-lt L v, digit-lt (v x))
 
 -- every function that turns on the values of the list's letters alone is the value of a polynomial over the list
-pub every-function : (L : List Letter) (h : Valuation → Bool) → ((v w : Valuation) → ((l : Letter) → holds L l ≡ true → v l ≡ w l) → h v ≡ h w)
+pub every-function : (L : List Letter) (h : Valuation → Bool)
+    → ((v w : Valuation) → ((l : Letter) → holds L l ≡ true → v l ≡ w l) → h v ≡ h w)
     → (f : Polynomial) × ((v : Valuation) → valueOver L f v ≡ h v)
 unfolding valueOver fromPoint
 every-function L h local = (
   value (length L) (λ p. h (fromPoint L p)),
-  λ v. involution (length L) (λ p. h (fromPoint L p)) (pointOf L v) (pointOf-lt L v) ∙ local (fromPoint L (pointOf L v)) v (λ l e. bit-place L l v e),
+  λ v. involution (length L) (λ p. h (fromPoint L p)) (pointOf L v) (pointOf-lt L v)
+      ∙ local (fromPoint L (pointOf L v)) v (λ l e. bit-place L l v e),
 )

@@ -29,11 +29,26 @@ starredRows =
     -- (1,0) `!u`: u = 1
     ∷ record { condition = conditionOf 1 0 (1 ∷ 1 ∷ []); verdict = solved (1 ∷ 0 ∷ []); lowenheim = nothing }
     -- (2,0) `u+v`: u = v, v = v; Löwenheim gives u*v for both
-    ∷ record { condition = conditionOf 2 0 (0 ∷ 1 ∷ 1 ∷ 0 ∷ []); verdict = solved (0 ∷ 0 ∷ 1 ∷ 0 ∷ 0 ∷ 0 ∷ 1 ∷ 0 ∷ []); lowenheim = theTable (0 ∷ 0 ∷ 0 ∷ 1 ∷ 0 ∷ 0 ∷ 0 ∷ 1 ∷ []) }
+    ∷ record {
+      condition = conditionOf 2 0 (0 ∷ 1 ∷ 1 ∷ 0 ∷ []);
+      verdict = solved (0 ∷ 0 ∷ 1 ∷ 0 ∷ 0 ∷ 0 ∷ 1 ∷ 0 ∷ []);
+      lowenheim = theTable
+          (0 ∷ 0 ∷ 0 ∷ 1 ∷ 0 ∷ 0 ∷ 0 ∷ 1 ∷ []);
+    }
     -- (2,0) `u*v`: u = u + u*v, v = v
-    ∷ record { condition = conditionOf 2 0 (0 ∷ 0 ∷ 0 ∷ 1 ∷ []); verdict = solved (0 ∷ 1 ∷ 0 ∷ 1 ∷ 0 ∷ 0 ∷ 1 ∷ 0 ∷ []); lowenheim = nothing }
+    ∷ record {
+      condition = conditionOf 2 0 (0 ∷ 0 ∷ 0 ∷ 1 ∷ []);
+      verdict = solved
+          (0 ∷ 1 ∷ 0 ∷ 1 ∷ 0 ∷ 0 ∷ 1 ∷ 0 ∷ []);
+      lowenheim = nothing;
+    }
     -- (2,0) `u+v+1`: u = 1 + v, v = v; Löwenheim u = 1 + v + u*v, v = v + u*v
-    ∷ record { condition = conditionOf 2 0 (1 ∷ 1 ∷ 1 ∷ 0 ∷ []); verdict = solved (1 ∷ 0 ∷ 1 ∷ 0 ∷ 0 ∷ 0 ∷ 1 ∷ 0 ∷ []); lowenheim = theTable (1 ∷ 0 ∷ 1 ∷ 1 ∷ 0 ∷ 0 ∷ 1 ∷ 1 ∷ []) }
+    ∷ record {
+      condition = conditionOf 2 0 (1 ∷ 1 ∷ 1 ∷ 0 ∷ []);
+      verdict = solved (1 ∷ 0 ∷ 1 ∷ 0 ∷ 0 ∷ 0 ∷ 1 ∷ 0 ∷ []);
+      lowenheim = theTable
+          (1 ∷ 0 ∷ 1 ∷ 1 ∷ 0 ∷ 0 ∷ 1 ∷ 1 ∷ []);
+    }
     -- (1,1) `u+a`: u = a
     ∷ record { condition = conditionOf 1 1 (0 ∷ 1 ∷ 1 ∷ 0 ∷ []); verdict = solved (0 ∷ 0 ∷ 1 ∷ 0 ∷ []); lowenheim = nothing }
     -- (1,1) `a`: none, state 1
@@ -41,14 +56,24 @@ starredRows =
     -- (1,2) `a*u+b*u+b`: none, state 3
     ∷ record { condition = conditionOf 1 2 (0 ∷ 0 ∷ 0 ∷ 1 ∷ 1 ∷ 1 ∷ 0 ∷ 0 ∷ []); verdict = none (record { 0 = 3 }); lowenheim = nothing }
     -- (2,0) `(v+1)*(u+v)+(v+1)*u`: empty table, u = u, v = v
-    ∷ record { condition = conditionOf 2 0 (0 ∷ 0 ∷ 0 ∷ 0 ∷ []); verdict = solved (0 ∷ 1 ∷ 0 ∷ 0 ∷ 0 ∷ 0 ∷ 1 ∷ 0 ∷ []); lowenheim = nothing }
+    ∷ record {
+      condition = conditionOf 2 0 (0 ∷ 0 ∷ 0 ∷ 0 ∷ []);
+      verdict = solved
+          (0 ∷ 1 ∷ 0 ∷ 0 ∷ 0 ∷ 0 ∷ 1 ∷ 0 ∷ []);
+      lowenheim = nothing;
+    }
     ∷ []
 
 -- two rows more, for slips that the starred ones let pass: a later answer that is not its own parameter, and more than one blocked state
 unfoldable pub furtherRows : List Row
 furtherRows =
     -- (2,0) `u|v`: u = 0, v = 0; Löwenheim gives 0 for both
-    record { condition = conditionOf 2 0 (0 ∷ 1 ∷ 1 ∷ 1 ∷ []); verdict = solved (0 ∷ 0 ∷ 0 ∷ 0 ∷ 0 ∷ 0 ∷ 0 ∷ 0 ∷ []); lowenheim = theTable (0 ∷ 0 ∷ 0 ∷ 0 ∷ 0 ∷ 0 ∷ 0 ∷ 0 ∷ []) }
+    record {
+      condition = conditionOf 2 0 (0 ∷ 1 ∷ 1 ∷ 1 ∷ []);
+      verdict = solved (0 ∷ 0 ∷ 0 ∷ 0 ∷ 0 ∷ 0 ∷ 0 ∷ 0 ∷ []);
+      lowenheim = theTable
+          (0 ∷ 0 ∷ 0 ∷ 0 ∷ 0 ∷ 0 ∷ 0 ∷ 0 ∷ []);
+    }
     -- (0,2) `a`: none, state 1 (and 3 is blocked too)
     ∷ record { condition = conditionOf 0 2 (0 ∷ 1 ∷ 0 ∷ 0 ∷ []); verdict = none (record { 0 = 1 }); lowenheim = nothing }
     ∷ []

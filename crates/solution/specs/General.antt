@@ -45,7 +45,8 @@ Solves c L σ = MakesZero (c .U) (c .G) (polynomial c) L σ
 -- demand 3, of a condition and what is said of it
 pub record RightVerdict (c : Condition) (verdict : Verdict Substitution) : Type 0 where
   -- 'none' exactly when no substitution over the list makes the condition zero, whatever the list
-  pub exactly : (L : List Letter) → HoldsGivens (c .G) L → ((state : State) × (verdict ≡ none state)) ↔ ((σ : Substitution) → ¬ Solves c L σ)
+  pub exactly : (L : List Letter) → HoldsGivens (c .G) L
+      → ((state : State) × (verdict ≡ none state)) ↔ ((σ : Substitution) → ¬ Solves c L σ)
   pub state : (state : State) → verdict ≡ none state → SmallestBlocked (c .U) (c .G) (polynomial c) state
   -- the answers are Boole's, monomial by monomial, and a general solution; the own Löwenheim answers and they are instances of each other
   pub booles : (a : Substitution) → verdict ≡ solved a → (j m : ℕ) → j < c .U → m < 2 ^ width c

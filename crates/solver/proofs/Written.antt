@@ -49,13 +49,16 @@ zero-le u p = omega (arith, split p u)
 -- .. one unknown after another
 pub zeros-start : (x : ℕ) (ws : List ℕ) → IsWords (length ws) ws → x ≡ 0 → ws ≡ wordsOf (length ws) (λ p. bitAt ws (zeroChoice x p))
 unfolding zeroChoice
-zeros-start x ws is e = is ∙ words-cong (length ws) _ _ (λ p l. ap (bitAt ws) (let z : p ≡ p / 2 ^ 0 * 2 ^ 0 = omega arith in z ∙ ap (λ (y : ℕ). p / 2 ^ y * 2 ^ y) (sym e)))
+zeros-start x ws is e =
+    is ∙ words-cong (length ws) _ _
+    (λ p l. ap (bitAt ws) (let z : p ≡ p / 2 ^ 0 * 2 ^ 0 = omega arith in z ∙ ap (λ (y : ℕ). p / 2 ^ y * 2 ^ y) (sym e)))
 
 zero-more : (x p : ℕ) → zeroChoice x (assign p x false) ≡ zeroChoice (x + 1) p
 unfolding zeroChoice
 zero-more x p =
     ap (λ (y : ℕ). y * 2 ^ x) (assign-above p x false)
-    ∙ (let e : (p / 2 ^ suc x * 2 + 0) * 2 ^ x ≡ p / 2 ^ suc x * 2 ^ suc x = ap (λ (y : ℕ). y * 2 ^ x) (add-zero (p / 2 ^ suc x * 2)) ∙ mul-assoc (p / 2 ^ suc x) 2 (2 ^ x) ∙ ap (λ (y : ℕ). p / 2 ^ suc x * y) (mul-comm 2 (2 ^ x) ∙ sym (pow-suc 2 x)) in
+    ∙ (let e : (p / 2 ^ suc x * 2 + 0) * 2 ^ x ≡ p / 2 ^ suc x * 2 ^ suc x = ap (λ (y : ℕ). y * 2 ^ x) (add-zero (p / 2 ^ suc x * 2))
+    ∙ mul-assoc (p / 2 ^ suc x) 2 (2 ^ x) ∙ ap (λ (y : ℕ). p / 2 ^ suc x * y) (mul-comm 2 (2 ^ x) ∙ sym (pow-suc 2 x)) in
     e ∙ ap (λ (y : ℕ). p / 2 ^ y * 2 ^ y) (sym (add-one x)))
 
 assign-le : (p x : ℕ) → assign p x false ≤ p
@@ -65,13 +68,16 @@ assign-le p x = go (bit p x) refl
     go true e = omega (arith, assign-clear p x e)
     go false e = let same : assign p x false ≡ p = ap (assign p x) (sym e) ∙ assign-bit p x in omega arith
 
-pub zeros-more : (x : ℕ) (ws₀ ws ws′ : List ℕ) → ws ≡ wordsOf (length ws₀) (λ p. bitAt ws₀ (zeroChoice x p)) → ws′ ≡ wordsOf (length ws) (λ p. bitAt ws (assign p x false))
+pub zeros-more : (x : ℕ) (ws₀ ws ws′ : List ℕ) → ws ≡ wordsOf (length ws₀) (λ p. bitAt ws₀ (zeroChoice x p))
+    → ws′ ≡ wordsOf (length ws) (λ p. bitAt ws (assign p x false))
     → ws′ ≡ wordsOf (length ws₀) (λ p. bitAt ws₀ (zeroChoice (x + 1) p))
 zeros-more x ws₀ ws ws′ e e′ =
     e′ ∙ ap (λ (y : ℕ). wordsOf y (λ p. bitAt ws (assign p x false))) (size-words (length ws₀) _ ws e)
-    ∙ words-cong (length ws₀) _ _ (λ p l. at-known (length ws₀) _ ws e (assign p x false) (omega (arith, assign-le p x)) ∙ ap (bitAt ws₀) (zero-more x p))
+    ∙ words-cong (length ws₀) _ _
+    (λ p l. at-known (length ws₀) _ ws e (assign p x false) (omega (arith, assign-le p x)) ∙ ap (bitAt ws₀) (zero-more x p))
 
-pub zeros-end : (x u : ℕ) (ws₀ ws : List ℕ) → x ≡ u → ws ≡ wordsOf (length ws₀) (λ p. bitAt ws₀ (zeroChoice x p)) → ws ≡ wordsOf (length ws₀) (λ p. bitAt ws₀ (zeroChoice u p))
+pub zeros-end : (x u : ℕ) (ws₀ ws : List ℕ) → x ≡ u → ws ≡ wordsOf (length ws₀) (λ p. bitAt ws₀ (zeroChoice x p))
+    → ws ≡ wordsOf (length ws₀) (λ p. bitAt ws₀ (zeroChoice u p))
 zeros-end x u ws₀ ws ex e = e ∙ ap (λ (y : ℕ). wordsOf (length ws₀) (λ p. bitAt ws₀ (zeroChoice y p))) ex
 
 module _ (c : Condition) (values found : List ℕ) (few : c .U ≤ 6) (ev : values ≡ valueWords c) (ef : found ≡ booleWords c) where

@@ -27,7 +27,8 @@ reply-accepted (asksGiving question true given ∷ rest) values z = reply-accept
 reply-accepted (asksGiving question false given ∷ rest) values z = absurd (number-some question z)
 
 -- the questions in front are answered yes
-pub reply-behind : (questions further : List Asked) (values : List ℕ) → firstNo questions ≡ 0 → reply further values ≡ reply (questions ++ further) values
+pub reply-behind : (questions further : List Asked) (values : List ℕ) → firstNo questions ≡ 0
+    → reply further values ≡ reply (questions ++ further) values
 unfolding reply firstNo
 reply-behind [] further values z = refl
 reply-behind (asksGiving question true given ∷ rest) further values z = reply-behind rest further values z
@@ -78,11 +79,13 @@ lent-refused : (found : ℕ) (buffers : List Buffer) → (found ≡ 0 → ⊥)
 lent-refused found [] n = refl
 lent-refused found (b ∷ buffers) n =
     ap (λ (bs : List (List ℕ)). b .before ∷ bs) (lent-refused found buffers n)
-    ∙ ap (λ (lent : List ℕ). lent ∷ map (λ (b : Buffer). after found (b .answer) (b .before)) buffers) (after-refused found (b .answer) (b .before) n)
+    ∙ ap (λ (lent : List ℕ). lent ∷ map (λ (b : Buffer). after found (b .answer) (b .before)) buffers)
+    (after-refused found (b .answer) (b .before) n)
 
 -- a no to one of the questions in front, which give their numbers alone: nothing has changed
 pub call-stops : (questions further : List Asked) (values : List ℕ) (buffers : List Buffer) (found : ℕ) → givesNothing questions ≡ true
-    → found ≡ firstNo questions → (found ≡ 0 → ⊥) → answered (refused found []) (asLent buffers) ≡ call (questions ++ further) values buffers
+    → found ≡ firstNo questions → (found ≡ 0 → ⊥)
+    → answered (refused found []) (asLent buffers) ≡ call (questions ++ further) values buffers
 unfolding call
 call-stops questions further values buffers found p e n =
     let some : firstNo questions ≡ 0 → ⊥ = λ z. n (e ∙ z) in
@@ -96,20 +99,28 @@ call-refused questions values buffers found p e n = rw (append-nil questions) at
 -- the last question is answered no, with what its no gives
 pub call-last-no : (questions : List Asked) (question : Question) (answer : Bool) (given values : List ℕ) (buffers : List Buffer)
     → firstNo questions ≡ 0 → answer ≡ false
-    → answered (refused (number question) given) (asLent buffers) ≡ call (questions ++ (asksGiving question answer given ∷ [])) values buffers
+    → answered (refused (number question) given) (asLent buffers)
+    ≡ call (questions ++ (asksGiving question answer given ∷ [])) values buffers
 unfolding call
 call-last-no questions question answer given values buffers z no-answer =
     let last : List Asked = asksGiving question answer given ∷ [] in
     let found : firstNo (questions ++ last) ≡ number question = then-further questions last z ∙ no-to question answer given [] no-answer in
     let some : firstNo (questions ++ last) ≡ 0 → ⊥ = λ e. number-some question (sym found ∙ e) in
-    rw (← reply-behind questions last values z, ← lent-refused (firstNo (questions ++ last)) buffers some, reply-no question answer given [] values no-answer)
+    rw (
+      ← reply-behind questions last values z,
+      ← lent-refused
+          (firstNo (questions ++ last)) buffers some,
+      reply-no question answer given [] values no-answer,
+    )
 
 -- every question is answered yes: the values, and each buffer as the code leaves it
-pub call-done-none : (questions : List Asked) (values : List ℕ) → firstNo questions ≡ 0 → answered (accepted values) [] ≡ call questions values []
+pub call-done-none : (questions : List Asked) (values : List ℕ) → firstNo questions ≡ 0
+    → answered (accepted values) [] ≡ call questions values []
 unfolding call
 call-done-none questions values z = rw (reply-accepted questions values z)
 
-pub call-done : (questions : List Asked) (values answer lent front : List ℕ) (k : ℕ) → firstNo questions ≡ 0 → front ≡ answer → k ≡ length answer
+pub call-done : (questions : List Asked) (values answer lent front : List ℕ) (k : ℕ) → firstNo questions ≡ 0 → front ≡ answer
+    → k ≡ length answer
     → answered (accepted values) ((front ++ drop k lent) ∷ []) ≡ call questions values (answer into lent ∷ [])
 unfolding call after
 call-done questions values answer lent front k z ef ek = rw (reply-accepted questions values z, z, ef, ek)
@@ -135,7 +146,8 @@ module _ (questions : List Asked) (values : List ℕ) where
   call-first answer lent buffers e = ap firstBuffer e
 
   pub call-second : (answer lent : List ℕ) (first : Buffer) {gives : Reply} {now1 now : List ℕ}
-      → answered gives (now1 ∷ now ∷ []) ≡ call questions values (first ∷ answer into lent ∷ []) → now ≡ after (firstNo questions) answer lent
+      → answered gives (now1 ∷ now ∷ []) ≡ call questions values (first ∷ answer into lent ∷ [])
+      → now ≡ after (firstNo questions) answer lent
   unfolding call
   call-second answer lent first e = ap secondBuffer e
 
@@ -165,7 +177,8 @@ module _ (questions : List Asked) (values answer lent : List ℕ) where
       let filled = call-first questions values answer lent [] e in
       (yes-all .0, yes-all .1, filled ∙ rw (yes-all .0))
 
-  pub call-unchanged : {found : ℕ} {given now : List ℕ} → answered (refused found given) (now ∷ []) ≡ call questions values (answer into lent ∷ [])
+  pub call-unchanged : {found : ℕ} {given now : List ℕ}
+      → answered (refused found given) (now ∷ []) ≡ call questions values (answer into lent ∷ [])
       → (firstNo questions ≡ found) × (now ≡ lent)
   call-unchanged e =
       let stopped = refused-is questions values (call-gives questions values (answer into lent ∷ []) e) in

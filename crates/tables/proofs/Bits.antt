@@ -52,7 +52,8 @@ unfolding areBits
 bits-snoc [] x = and-true (leb x 1)
 bits-snoc (y ∷ xs) x = ap (λ (p : Bool). leb y 1 && p) (bits-snoc xs x) ∙ sym (and-assoc (leb y 1) (areBits xs) (leb x 1))
 
-pub bits-more : (s : List ℕ) (union i : ℕ) → i < length s → leb union 1 ≡ areBits (take i s) → leb (bitOr union (getD s i 0)) 1 ≡ areBits (take (i + 1) s)
+pub bits-more : (s : List ℕ) (union i : ℕ) → i < length s → leb union 1 ≡ areBits (take i s)
+    → leb (bitOr union (getD s i 0)) 1 ≡ areBits (take (i + 1) s)
 bits-more s union i l e = or-one union (getD s i 0) ∙ rw (e, add-one, take-suc s i 0 l) (sym (bits-snoc (take i s) (getD s i 0)))
 
 pub bits-end : (s : List ℕ) (union i : ℕ) → i ≤ length s → length s ≤ i → leb union 1 ≡ areBits (take i s) → leb union 1 ≡ areBits s

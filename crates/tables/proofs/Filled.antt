@@ -68,7 +68,8 @@ module _ (i : ℕ) (f : ℕ → ℕ) (xs t : List ℕ) (et : t ≡ filled i f xs
   filled-end h l = let e : i ≡ length xs = omega arith in et ∙ rw e (filled-all f xs)
 
 -- a loop that stores bools as bytes, once it has ended
-pub filled-whole : (h : ℕ → Bool) (xs t : List ℕ) (i : ℕ) → t ≡ filled i (λ m. digit (h m)) xs → i ≤ length xs → length xs ≤ i → t ≡ tabulate (length xs) h
+pub filled-whole : (h : ℕ → Bool) (xs t : List ℕ) (i : ℕ) → t ≡ filled i (λ m. digit (h m)) xs → i ≤ length xs → length xs ≤ i
+    → t ≡ tabulate (length xs) h
 filled-whole h xs t i e l k = filled-end i (λ m. digit (h m)) xs t e l k ∙ listed-tabulate (length xs) (λ m. digit (h m)) h (λ m _. refl)
 
 -- a loop that puts op of a list's element and another's in the element's place
@@ -78,10 +79,13 @@ combined op xs s m = op (getD xs m 0) (getD s m 0)
 pub combined-more : (op : ℕ → ℕ → ℕ) (xs s t : List ℕ) (i : ℕ) → t ≡ filled i (combined op xs s) xs → i < length xs
     → set t i (op (getD t i 0) (getD s i 0)) ≡ filled (i + 1) (combined op xs s) xs
 unfolding combined
-combined-more op xs s t i e l = filled-more i (combined op xs s) xs t e _ l (ap (λ (x : ℕ). op x (getD s i 0)) (filled-read i (combined op xs s) xs t e l))
+combined-more op xs s t i e l =
+    filled-more i (combined op xs s) xs t e _ l (ap (λ (x : ℕ). op x (getD s i 0)) (filled-read i (combined op xs s) xs t e l))
 
 -- the same loop over bytes that are 0 or 1, once it has ended
-pub combined-end : (op : ℕ → ℕ → ℕ) (xs s t : List ℕ) (i : ℕ) (h : ℕ → Bool) → t ≡ filled i (combined op xs s) xs → i ≤ length xs → length xs ≤ i
+pub combined-end : (op : ℕ → ℕ → ℕ) (xs s t : List ℕ) (i : ℕ) (h : ℕ → Bool) → t ≡ filled i (combined op xs s) xs → i ≤ length xs
+    → length xs ≤ i
     → ((m : ℕ) → op (getD xs m 0) (getD s m 0) ≡ digit (h m)) → t ≡ tabulate (length xs) h
 unfolding combined
-combined-end op xs s t i h e l k r = filled-end i (combined op xs s) xs t e l k ∙ listed-tabulate (length xs) (combined op xs s) h (λ m _. r m)
+combined-end op xs s t i h e l k r =
+    filled-end i (combined op xs s) xs t e l k ∙ listed-tabulate (length xs) (combined op xs s) h (λ m _. r m)

@@ -46,7 +46,8 @@ unfolding firstNo
 yes-counts question answer given rest e = rw e
 
 -- where there is no no, it is answered yes, and there is none among those behind it
-pub yes-to : (question : Question) (answer : Bool) (given : List ℕ) (rest : List Asked) → firstNo (asksGiving question answer given ∷ rest) ≡ 0
+pub yes-to : (question : Question) (answer : Bool) (given : List ℕ) (rest : List Asked)
+    → firstNo (asksGiving question answer given ∷ rest) ≡ 0
     → (answer ≡ true) × (firstNo rest ≡ 0)
 unfolding firstNo
 yes-to question true given rest e = (refl, e)
@@ -128,5 +129,7 @@ numbersBelow k (asksGiving question answer given ∷ rest) = ltb (number questio
 pub first-below : (k : ℕ) (questions : List Asked) → 0 < k → numbersBelow k questions ≡ true → firstNo questions < k
 unfolding numbersBelow firstNo
 first-below k [] p e = p
-first-below k (asksGiving question true given ∷ rest) p e = first-below k rest p (and-right (ltb (number question) k) (numbersBelow k rest) e)
-first-below k (asksGiving question false given ∷ rest) p e = ltb-true (number question) k (and-left (ltb (number question) k) (numbersBelow k rest) e)
+first-below k (asksGiving question true given ∷ rest) p e =
+    first-below k rest p (and-right (ltb (number question) k) (numbersBelow k rest) e)
+first-below k (asksGiving question false given ∷ rest) p e =
+    ltb-true (number question) k (and-left (ltb (number question) k) (numbersBelow k rest) e)

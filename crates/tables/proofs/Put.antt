@@ -20,7 +20,8 @@ sets-append (v ∷ vs) ws old at =
 pub put-length : {old new vs : List ℕ} {at next : ℕ} → Put old at vs next new → length new ≡ length old
 put-length {old} {new} {vs} {at} p = rw (p .bytes) (length-sets old at vs)
 
-pub put-both : {old mid new vs ws : List ℕ} {at next last : ℕ} → Put old at vs next mid → Put mid next ws last new → Put old at (vs ++ ws) last new
+pub put-both : {old mid new vs ws : List ℕ} {at next last : ℕ} → Put old at vs next mid → Put mid next ws last new
+    → Put old at (vs ++ ws) last new
 put-both {old} {mid} {new} {vs} {ws} {at} {next} {last} p q =
     record {
       place = q .place ∙ rw (p .place, length-append vs ws) (add-assoc at (length vs) (length ws));
@@ -41,7 +42,8 @@ put-front {old} {vs} {new} {next} p =
 pub put-none : (old : List ℕ) (at : ℕ) → at ≤ length old → Put old at [] at old
 put-none old at h = record { place = sym (add-zero at); inside = h; bytes = refl }
 
-pub put-one : {old new vs : List ℕ} {at next : ℕ} → Put old at vs next new → next < length old → (v : ℕ) → Put old at (vs ++ (v ∷ [])) (next + 1) (set new next v)
+pub put-one : {old new vs : List ℕ} {at next : ℕ} → Put old at vs next new → next < length old → (v : ℕ)
+    → Put old at (vs ++ (v ∷ [])) (next + 1) (set new next v)
 put-one {old} {new} {vs} {at} {next} p h v = put-both p (record { place = refl; inside = omega (arith, put-length p); bytes = refl })
 
 pub put-before : {old new vs : List ℕ} {at next : ℕ} (v : ℕ) → Put (set old at v) (at + 1) vs next new → Put old at (v ∷ vs) next new
@@ -56,7 +58,8 @@ put-before {old} {new} {vs} {at} {next} v p =
 pub put-two : (old : List ℕ) (at a b : ℕ) → at + 2 ≤ length old → Put old at (a ∷ b ∷ []) (at + 2) (set (set old at a) (at + 1) b)
 put-two old at a b h = record { place = refl; inside = h; bytes = rw add-one }
 
-pub put-three : (old : List ℕ) (at a b c : ℕ) → at + 3 ≤ length old → Put old at (a ∷ b ∷ c ∷ []) (at + 3) (set (set (set old at a) (at + 1) b) (at + 2) c)
+pub put-three : (old : List ℕ) (at a b c : ℕ) → at + 3 ≤ length old
+    → Put old at (a ∷ b ∷ c ∷ []) (at + 3) (set (set (set old at a) (at + 1) b) (at + 2) c)
 put-three old at a b c h = let e : at + 2 ≡ suc (suc at) = omega arith in record { place = refl; inside = h; bytes = rw (add-one, e) }
 
 pub put-four : (old : List ℕ) (at a b c d : ℕ) → at + 4 ≤ length old
@@ -73,7 +76,8 @@ put-start old at h = record { place = refl; inside = omega arith; bytes = refl }
 pub put-more : (old vs new : List ℕ) (at i : ℕ) → i < length vs → at + length vs ≤ length old → Put old at (take i vs) (at + i) new
     → Put old at (take (i + 1) vs) (at + (i + 1)) (set new (at + i) (getD vs i 0))
 put-more old vs new at i l h p =
-    let q : Put old at (take i vs ++ (getD vs i 0 ∷ [])) (at + i + 1) (set new (at + i) (getD vs i 0)) = put-one p (omega arith) (getD vs i 0) in
+    let q : Put old at (take i vs ++ (getD vs i 0 ∷ [])) (at + i + 1) (set new (at + i) (getD vs i 0)) = put-one p (omega arith)
+    (getD vs i 0) in
     rw (add-one i, take-suc vs i 0 l, ← add-one i, ← add-assoc at i 1) q
 
 pub put-all : (old vs new : List ℕ) (at i : ℕ) → length vs ≤ i → Put old at (take i vs) (at + i) new → Put old at vs (at + i) new

@@ -58,9 +58,12 @@ module _ (before : ℕ) (bs : List ℕ) (r : Read) (e : answered (reading r) [] 
     audited : (firstNo (auditQuestions (records bs)) ≡ 0) × Heads bs h
     audited = none-no (auditQuestions (records bs)) bs r e t
 
-    pub refused-rising : {found : ℕ} → found ≡ 15 → routeRises before (h .route) ≡ false → answered (reading (Refused found)) [] ≡ walkedAt before bs
+    pub refused-rising : {found : ℕ} → found ≡ 15 → routeRises before (h .route) ≡ false
+        → answered (reading (Refused found)) [] ≡ walkedAt before bs
     unfolding walkQuestions
-    refused-rising q f = rw q (call-last-no (auditQuestions (records bs)) Rising _ [] (readValues (records bs)) [] (audited .0) (rw (← audited .1 .of-route) f))
+    refused-rising q f =
+        rw q (call-last-no (auditQuestions (records bs)) Rising _ [] (readValues (records bs)) [] (audited .0)
+        (rw (← audited .1 .of-route) f))
 
     pub passed-all : routeRises before (h .route) ≡ true → answered (reading (Entry h v)) [] ≡ walkedAt before bs
     passed-all f =

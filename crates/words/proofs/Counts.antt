@@ -30,7 +30,8 @@ unfolding count ones
 ones-count zero n h = ap ones (lt-one h)
 ones-count (suc k) n h =
     ones-step n
-    ∙ ap₂ _+_ (sym (digit-low n) ∙ ap digit (sym (bit-zero n))) (ones-count k (n / 2) (omega (arith, pow-suc 2 k)) ∙ count-below k _ _ (λ i l. sym (bit-suc n i)))
+    ∙ ap₂ _+_ (sym (digit-low n) ∙ ap digit (sym (bit-zero n)))
+    (ones-count k (n / 2) (omega (arith, pow-suc 2 k)) ∙ count-below k _ _ (λ i l. sym (bit-suc n i)))
     ∙ sym (count-first k (bit n))
 
 count-add : (a b : ℕ) (test : ℕ → Bool) → count (a + b) test ≡ count a test + count b (λ i. test (a + i))
@@ -47,7 +48,8 @@ pub count-start : (test : ℕ → Bool) (k : ℕ) → k ≡ 0 → 0 ≡ count (6
 unfolding count
 count-start test k e = rw e
 
-pub count-word : (ws : List ℕ) (i s : ℕ) → getD ws i 0 < 2 ^ 64 → s ≡ count (64 * i) (bitAt ws) → s + ones (getD ws i 0) ≡ count (64 * (i + 1)) (bitAt ws)
+pub count-word : (ws : List ℕ) (i s : ℕ) → getD ws i 0 < 2 ^ 64 → s ≡ count (64 * i) (bitAt ws)
+    → s + ones (getD ws i 0) ≡ count (64 * (i + 1)) (bitAt ws)
 count-word ws i s l e =
     let n : 64 * (i + 1) ≡ 64 * i + 64 = omega arith in
     ap₂ _+_ e (ones-count 64 (getD ws i 0) l ∙ count-below 64 _ _ (λ j m. sym (bit-at ws i j m)))
@@ -62,10 +64,18 @@ trailing-first (suc k) n l p = go (n % 2) refl (trailing-first k (n / 2) (omega 
     go : (d : ℕ) → n % 2 ≡ d → (0 < n / 2 → (trailingZeros k (n / 2) < k) × First k (bit (n / 2)) (trailingZeros k (n / 2)))
         → (under d (trailingZeros k (n / 2)) < suc k) × First (suc k) (bit n) (under d (trailingZeros k (n / 2)))
     go zero e ih =
-        let r = ih (omega arith) in
-        (omega (arith, r .0), record { inside = omega (arith, r .0); zeros = before (r .1 .zeros); one = λ _. bit-suc n (trailingZeros k (n / 2)) ∙ r .1 .one (r .0) })
+        let r = ih (omega arith) in (
+          omega (arith, r .0),
+          record {
+            inside = omega (arith, r .0);
+            zeros = before (r .1 .zeros);
+            one = λ _. bit-suc n
+                (trailingZeros k (n / 2)) ∙ r .1 .one (r .0);
+          },
+        )
       where
-        before : ((j : ℕ) → j < trailingZeros k (n / 2) → bit (n / 2) j ≡ false) → (j : ℕ) → j < suc (trailingZeros k (n / 2)) → bit n j ≡ false
+        before : ((j : ℕ) → j < trailingZeros k (n / 2) → bit (n / 2) j ≡ false) → (j : ℕ) → j < suc (trailingZeros k (n / 2))
+            → bit n j ≡ false
         before f zero m = bit-zero n ∙ ne-eqb (n % 2) 1 (omega arith)
         before f (suc j) m = bit-suc n j ∙ f j (omega arith)
     go (suc zero) e ih = (omega arith, record { inside = omega arith; zeros = λ j m. absurd (omega arith); one = λ _. lowest })
@@ -79,7 +89,8 @@ unfolding bit
 zero-bit j = rw (zero-div (2 ^ j))
 
 -- a word without ones
-pub none-more : (ws : List ℕ) (i : ℕ) → ((p : ℕ) → p < 64 * i → bitAt ws p ≡ false) → getD ws i 0 ≡ 0 → (p : ℕ) → p < 64 * (i + 1) → bitAt ws p ≡ false
+pub none-more : (ws : List ℕ) (i : ℕ) → ((p : ℕ) → p < 64 * i → bitAt ws p ≡ false) → getD ws i 0 ≡ 0 → (p : ℕ) → p < 64 * (i + 1)
+    → bitAt ws p ≡ false
 none-more ws i before z p l = go (decLt p (64 * i))
   where
     go : Dec (p < 64 * i) → bitAt ws p ≡ false
@@ -89,9 +100,11 @@ none-more ws i before z p l = go (decLt p (64 * i))
         ap (bitAt ws) (sym e) ∙ bit-at ws i (p - 64 * i) (omega (arith, h)) ∙ ap (λ (x : ℕ). bit x (p - 64 * i)) z ∙ zero-bit (p - 64 * i)
 
 -- the first word that has one
-pub first-found : (ws : List ℕ) (i t : ℕ) → i < length ws → ((p : ℕ) → p < 64 * i → bitAt ws p ≡ false) → t < 64 → First 64 (bit (getD ws i 0)) t
+pub first-found : (ws : List ℕ) (i t : ℕ) → i < length ws → ((p : ℕ) → p < 64 * i → bitAt ws p ≡ false) → t < 64
+    → First 64 (bit (getD ws i 0)) t
     → First (64 * length ws) (bitAt ws) (64 * i + t)
-first-found ws i t l before h f = record { inside = omega arith; zeros = λ p m. go p m (decLt p (64 * i)); one = λ _. bit-at ws i t h ∙ f .one h }
+first-found ws i t l before h f =
+    record { inside = omega arith; zeros = λ p m. go p m (decLt p (64 * i)); one = λ _. bit-at ws i t h ∙ f .one h }
   where
     go : (p : ℕ) → p < 64 * i + t → Dec (p < 64 * i) → bitAt ws p ≡ false
     go p m (yes k) = before p k
@@ -99,5 +112,6 @@ first-found ws i t l before h f = record { inside = omega arith; zeros = λ p m.
         let e : 64 * i + (p - 64 * i) ≡ p = omega (arith, k) in
         ap (bitAt ws) (sym e) ∙ bit-at ws i (p - 64 * i) (omega (arith, k)) ∙ f .zeros (p - 64 * i) (omega (arith, k))
 
-pub first-none : (ws : List ℕ) (i : ℕ) → length ws ≤ i → ((p : ℕ) → p < 64 * i → bitAt ws p ≡ false) → First (64 * length ws) (bitAt ws) (64 * length ws)
+pub first-none : (ws : List ℕ) (i : ℕ) → length ws ≤ i → ((p : ℕ) → p < 64 * i → bitAt ws p ≡ false)
+    → First (64 * length ws) (bitAt ws) (64 * length ws)
 first-none ws i l before = record { inside = omega arith; zeros = λ p m. before p (omega arith); one = λ m. absurd (omega arith) }

@@ -70,7 +70,8 @@ unfolding wordOf pointWhere crossed eightOf
 all-rows x = omega arith
 
 -- the bytes as they are read, the last first
-pub eight-read : (t : List ℕ) (p a b c d e f g h : ℕ) → AreBits t → a ≡ getD t (p + 7) 0 → b ≡ getD t (p + 6) 0 → c ≡ getD t (p + 5) 0 → d ≡ getD t (p + 4) 0
+pub eight-read : (t : List ℕ) (p a b c d e f g h : ℕ) → AreBits t → a ≡ getD t (p + 7) 0 → b ≡ getD t (p + 6) 0 → c ≡ getD t (p + 5) 0
+    → d ≡ getD t (p + 4) 0
     → e ≡ getD t (p + 3) 0 → f ≡ getD t (p + 2) 0 → g ≡ getD t (p + 1) 0 → h ≡ getD t p 0
     → ((((((((a * 256 + b) * 256 + c) * 256 + d) * 256 + e) * 256 + f) * 256 + g) * 256 + h) ≡ eightOf (present t) p)
     × (((((((a * 256 + b) * 256 + c) * 256 + d) * 256 + e) * 256 + f) * 256 + g) * 256 + h ≤ 0x0101_0101_0101_0101)
@@ -153,7 +154,8 @@ module _ (v s m i : ℕ) (l : i < 64) (ls : s < 64) where
       ∙ go (bit m i) (leb s i) (bit m (i - s)) h
     where
       go : (M L K : Bool) → not (M && (L && K)) ≡ true
-          → ((bit v i ⊕ (M && (bit v i ⊕ bit v (s + i)))) ⊕ (L && (K && (bit v (i - s) ⊕ bit v i)))) ≡ bit v (cond M (s + i) (cond (L && K) (i - s) i))
+          → ((bit v i ⊕ (M && (bit v i ⊕ bit v (s + i)))) ⊕ (L && (K && (bit v (i - s) ⊕ bit v i))))
+          ≡ bit v (cond M (s + i) (cond (L && K) (i - s) i))
       go true true true h = absurd (true≢false (sym h))
       go true true false h = up (bit v i) (bit v (s + i))
       go true false K h = up (bit v i) (bit v (s + i))
@@ -169,7 +171,8 @@ exchange-lt s m v lm lv =
     and-lt-r x = omega (arith, and-le-r x m)
 
 pub cross-word : (v : ℕ) → v < 2 ^ 64
-    → exchange 28 0x0000_0000_f0f0_f0f0 (exchange 14 0x0000_cccc_0000_cccc (exchange 7 0x00aa_00aa_00aa_00aa v)) ≡ wordOf (λ i. bit v (crossed i))
+    → exchange 28 0x0000_0000_f0f0_f0f0 (exchange 14 0x0000_cccc_0000_cccc (exchange 7 0x00aa_00aa_00aa_00aa v))
+    ≡ wordOf (λ i. bit v (crossed i))
 unfolding apart exchanged everyBelow bit crossed
 cross-word v l =
     word-is _ _ (exchange-lt 28 _ _ (omega arith) (exchange-lt 14 _ _ (omega arith) (exchange-lt 7 _ v (omega arith) l))) (λ i k.
@@ -180,25 +183,31 @@ cross-word v l =
     exchange-bit _ 28 0x0000_0000_f0f0_f0f0 i k (omega arith) (every-all 64 (apart 28 0x0000_0000_f0f0_f0f0) refl i k)
     ∙ exchange-bit _ 14 0x0000_cccc_0000_cccc j lj (omega arith) (every-all 64 (apart 14 0x0000_cccc_0000_cccc) refl j lj)
     ∙ exchange-bit v 7 0x00aa_00aa_00aa_00aa h lh (omega arith) (every-all 64 (apart 7 0x00aa_00aa_00aa_00aa) refl h lh)
-    ∙ ap (bit v) (eqb-true _ _ (every-all 64 (λ i. eqb (exchanged 7 0x00aa_00aa_00aa_00aa (exchanged 14 0x0000_cccc_0000_cccc (exchanged 28 0x0000_0000_f0f0_f0f0 i))) (crossed i)) refl i k)))
+    ∙ ap (bit v) (eqb-true _ _
+    (every-all 64 (λ i. eqb (exchanged 7 0x00aa_00aa_00aa_00aa (exchanged 14 0x0000_cccc_0000_cccc (exchanged 28 0x0000_0000_f0f0_f0f0 i)))
+    (crossed i)) refl i k)))
 
 -- ---- words
-pub cross-more : (xs t : List ℕ) (i v : ℕ) → t ≡ wordsTo i (λ p. bitAt xs (crossed p)) xs → i < length xs → v ≡ wordOf (λ b. bit (getD t i 0) (crossed b))
+pub cross-more : (xs t : List ℕ) (i v : ℕ) → t ≡ wordsTo i (λ p. bitAt xs (crossed p)) xs → i < length xs
+    → v ≡ wordOf (λ b. bit (getD t i 0) (crossed b))
     → set t i v ≡ wordsTo (i + 1) (λ p. bitAt xs (crossed p)) xs
 cross-more xs t i v e l ev =
     words-more (λ p. bitAt xs (crossed p)) xs t i v e l
     (also-holds (word-holds v _ ev) (λ b k.
-    ap (λ (x : ℕ). bit x (crossed b)) (filled-read i _ xs t e l) ∙ sym (bit-at xs i (crossed b) (crossed-lt 1 b k)) ∙ ap (bitAt xs) (sym (crossed-in i b k))))
+    ap (λ (x : ℕ). bit x (crossed b)) (filled-read i _ xs t e l) ∙ sym (bit-at xs i (crossed b) (crossed-lt 1 b k))
+    ∙ ap (bitAt xs) (sym (crossed-in i b k))))
 
 -- words gathered crossed, and crossed again
-pub crossed-back : (k m : ℕ) (h : ℕ → Bool) (ws ws′ : List ℕ) → m ≡ k → ws ≡ wordsOf m (λ p. h (crossed p)) → ws′ ≡ wordsOf (length ws) (λ p. bitAt ws (crossed p))
+pub crossed-back : (k m : ℕ) (h : ℕ → Bool) (ws ws′ : List ℕ) → m ≡ k → ws ≡ wordsOf m (λ p. h (crossed p))
+    → ws′ ≡ wordsOf (length ws) (λ p. bitAt ws (crossed p))
     → ws′ ≡ wordsOf k h
 crossed-back k m h ws ws′ em e e′ =
     e′ ∙ ap (λ (x : ℕ). wordsOf x (λ p. bitAt ws (crossed p))) (size-words m (λ p. h (crossed p)) ws e ∙ em)
     ∙ words-cong k _ _ (λ p l. at-known m (λ p. h (crossed p)) ws e (crossed p) (rw em (crossed-lt k p l)) ∙ ap h (crossed-twice p))
 
 -- ---- a crossed word into bytes
-pub eight-put : (v : ℕ) (xs : List ℕ) (a b c d e f g h : ℕ) → length xs ≡ 8 → a ≡ v % 256 → b ≡ v / 2 ^ 8 % 256 → c ≡ v / 2 ^ 16 % 256 → d ≡ v / 2 ^ 24 % 256
+pub eight-put : (v : ℕ) (xs : List ℕ) (a b c d e f g h : ℕ) → length xs ≡ 8 → a ≡ v % 256 → b ≡ v / 2 ^ 8 % 256 → c ≡ v / 2 ^ 16 % 256
+    → d ≡ v / 2 ^ 24 % 256
     → e ≡ v / 2 ^ 32 % 256 → f ≡ v / 2 ^ 40 % 256 → g ≡ v / 2 ^ 48 % 256 → h ≡ v / 2 ^ 56 % 256
     → set (set (set (set (set (set (set (set xs 0 a) 1 b) 2 c) 3 d) 4 e) 5 f) 6 g) 7 h ≡ listed 8 (λ i. v / 2 ^ (8 * i) % 256)
 unfolding listed
@@ -237,7 +246,8 @@ lows i k = Bool·beq (eqb (0x0101_0101_0101_0101 / 2 ^ (8 * i + k) % 2) 1) (lowe
 -- byte i of the word that the code makes
 row-byte : (v j i : ℕ) → j < 8 → i < 8 → bitAnd (v / 2 ^ j) 0x0101_0101_0101_0101 / 2 ^ (8 * i) % 256 ≡ digit (bit v (crossed (j * 8 + i)))
 unfolding lows lowest everyBelow bit
-row-byte v j i lj li = rw (crossed-small j i lj li) (same-letters 8 _ _ (mod-lt (x / 2 ^ (8 * i)) (pow-pos 8)) (small (bit v (j + 8 * i))) bits)
+row-byte v j i lj li =
+    rw (crossed-small j i lj li) (same-letters 8 _ _ (mod-lt (x / 2 ^ (8 * i)) (pow-pos 8)) (small (bit v (j + 8 * i))) bits)
   where
     x : ℕ
     x = bitAnd (v / 2 ^ j) 0x0101_0101_0101_0101
@@ -282,20 +292,25 @@ word-listed words w v k ys ev ek e =
     ∙ ap (bitAt words) (sym (crossed-in w i l) ∙ ap (λ (x : ℕ). crossed (x + i)) (mul-comm 64 w))))
 
 -- words crossed, and then their bytes
-pub large-bytes : (n : ℕ) (ws ws′ out out′ : List ℕ) → length ws ≡ 2 ^ (n - 6) → length out ≡ 2 ^ n → ws′ ≡ wordsOf (length ws) (λ p. bitAt ws (crossed p))
+pub large-bytes : (n : ℕ) (ws ws′ out out′ : List ℕ) → length ws ≡ 2 ^ (n - 6) → length out ≡ 2 ^ n
+    → ws′ ≡ wordsOf (length ws) (λ p. bitAt ws (crossed p))
     → out′ ≡ tabulate (length out) (λ p. bitAt ws′ (crossed p)) → out′ ≡ table n (bitAt ws)
 unfolding table
 large-bytes n ws ws′ out out′ size all e eo =
-    eo ∙ tabulate-cong (length out) _ _ (λ p l. at-known (length ws) (λ p. bitAt ws (crossed p)) ws′ e (crossed p) (crossed-lt (length ws) p (omega (arith, room n))) ∙ ap (bitAt ws) (crossed-twice p))
+    eo ∙ tabulate-cong (length out) _ _
+    (λ p l. at-known (length ws) (λ p. bitAt ws (crossed p)) ws′ e (crossed p) (crossed-lt (length ws) p (omega (arith, room n)))
+    ∙ ap (bitAt ws) (crossed-twice p))
     ∙ ap (λ (x : ℕ). tabulate x (bitAt ws)) all
 
-pub small-bytes : (n v : ℕ) (ws ws′ out out′ : List ℕ) → n < 6 → length ws ≡ 2 ^ (n - 6) → length out ≡ 2 ^ n → ws′ ≡ wordsOf (length ws) (λ p. bitAt ws (crossed p))
+pub small-bytes : (n v : ℕ) (ws ws′ out out′ : List ℕ) → n < 6 → length ws ≡ 2 ^ (n - 6) → length out ≡ 2 ^ n
+    → ws′ ≡ wordsOf (length ws) (λ p. bitAt ws (crossed p))
     → v ≡ getD ws′ 0 0 → out′ ≡ tabulate (length out) (λ p. bit v (crossed p)) → out′ ≡ table n (bitAt ws)
 small-bytes n v ws ws′ out out′ h size all e ev eo =
     let few : length out ≤ 64 = small-size n out h all in
     large-bytes n ws ws′ out out′ size all e
     (eo ∙ tabulate-cong (length out) _ _ (λ p l.
-    ap (λ (x : ℕ). bit x (crossed p)) ev ∙ sym (bit-at ws′ 0 (crossed p) (crossed-lt 1 p (omega arith))) ∙ ap (bitAt ws′) (flat (crossed p))))
+    ap (λ (x : ℕ). bit x (crossed p)) ev ∙ sym (bit-at ws′ 0 (crossed p) (crossed-lt 1 p (omega arith)))
+    ∙ ap (bitAt ws′) (flat (crossed p))))
   where
     flat : (i : ℕ) → 64 * 0 + i ≡ i
     flat i = omega arith

@@ -32,16 +32,28 @@ read-holds ws w v l e = record { small = rw e l; bits = λ i m. ap (λ (x : ℕ)
 
 -- the operators
 pub and-holds : {v w : ℕ} {g h : ℕ → Bool} → Holds v g → Holds w h → Holds (bitAnd v w) (λ i. g i && h i)
-and-holds {v} {w} a b = record { small = and-lt 64 v w (a .small) (b .small); bits = λ i l. and-bit v w i ∙ ap₂ _&&_ (a .bits i l) (b .bits i l) }
+and-holds {v} {w} a b =
+    record { small = and-lt 64 v w (a .small) (b .small); bits = λ i l. and-bit v w i ∙ ap₂ _&&_ (a .bits i l) (b .bits i l) }
 
 pub xor-holds : {v w : ℕ} {g h : ℕ → Bool} → Holds v g → Holds w h → Holds (bitXor v w) (λ i. g i ⊕ h i)
-xor-holds {v} {w} a b = record { small = xor-lt 64 v w (a .small) (b .small); bits = λ i l. xor-bit v w i ∙ ap₂ _⊕_ (a .bits i l) (b .bits i l) }
+xor-holds {v} {w} a b =
+    record { small = xor-lt 64 v w (a .small) (b .small); bits = λ i l. xor-bit v w i ∙ ap₂ _⊕_ (a .bits i l) (b .bits i l) }
 
 -- one value at all points
 pub constant-holds : (b : Bool) (v : ℕ) → v ≡ cond b 0xffff_ffff_ffff_ffff 0 → Holds v (λ i. b)
 unfolding bit everyBelow
-constant-holds true v e = record { small = rw e (omega arith); bits = λ i l. ap (λ (x : ℕ). eqb (x / 2 ^ i % 2) 1) e ∙ every-all 64 (λ i. eqb (0xffff_ffff_ffff_ffff / 2 ^ i % 2) 1) refl i l }
-constant-holds false v e = record { small = rw e (omega arith); bits = λ i l. ap (λ (x : ℕ). eqb (x / 2 ^ i % 2) 1) e ∙ same-bool _ _ (every-all 64 (λ i. Bool·beq (eqb (0 / 2 ^ i % 2) 1) false) refl i l) }
+constant-holds true v e =
+    record {
+      small = rw e (omega arith);
+      bits = λ i l. ap (λ (x : ℕ). eqb (x / 2 ^ i % 2) 1) e
+          ∙ every-all 64 (λ i. eqb (0xffff_ffff_ffff_ffff / 2 ^ i % 2) 1) refl i l;
+    }
+constant-holds false v e =
+    record {
+      small = rw e (omega arith);
+      bits = λ i l. ap (λ (x : ℕ). eqb (x / 2 ^ i % 2) 1) e
+          ∙ same-bool _ _ (every-all 64 (λ i. Bool·beq (eqb (0 / 2 ^ i % 2) 1) false) refl i l);
+    }
 
 -- the same word, seen otherwise
 pub also-holds : {v : ℕ} {g h : ℕ → Bool} → Holds v g → ((i : ℕ) → i < 64 → g i ≡ h i) → Holds v h
@@ -55,7 +67,8 @@ holds-word v h a = word-is v h (a .small) (a .bits)
 abbrev pub wordsTo : ℕ → (ℕ → Bool) → List ℕ → List ℕ
 wordsTo i h xs = filled i (λ w. wordOf (λ b. h (64 * w + b))) xs
 
-pub words-more : (h : ℕ → Bool) (xs t : List ℕ) (i v : ℕ) → t ≡ wordsTo i h xs → i < length xs → Holds v (λ b. h (64 * i + b)) → set t i v ≡ wordsTo (i + 1) h xs
+pub words-more : (h : ℕ → Bool) (xs t : List ℕ) (i v : ℕ) → t ≡ wordsTo i h xs → i < length xs → Holds v (λ b. h (64 * i + b))
+    → set t i v ≡ wordsTo (i + 1) h xs
 words-more h xs t i v e l a = filled-more i (λ w. wordOf (λ b. h (64 * w + b))) xs t e v l (holds-word v (λ b. h (64 * i + b)) a)
 
 -- words of a number that is known otherwise

@@ -23,14 +23,17 @@ pub parts-more : (j k : ℕ) (F : ℕ → ℕ) (t₀ t ys : List ℕ) → t ≡ 
 unfolding filled
 parts-more j k F t₀ t ys e ey =
     let count : j * k + k - j * k ≡ k = omega arith in
-    let before : take (j * k) t ≡ listed (j * k) F = ap (take (j * k)) e ∙ take-at (listed (j * k) F) (drop (j * k) t₀) (j * k) (length-listed (j * k) F) in
-    let from : drop (j * k) t ≡ drop (j * k) t₀ = ap (drop (j * k)) e ∙ drop-at (listed (j * k) F) (drop (j * k) t₀) (j * k) (length-listed (j * k) F) in
+    let before : take (j * k) t ≡ listed (j * k) F = ap (take (j * k)) e
+    ∙ take-at (listed (j * k) F) (drop (j * k) t₀) (j * k) (length-listed (j * k) F) in
+    let from : drop (j * k) t ≡ drop (j * k) t₀ = ap (drop (j * k)) e
+    ∙ drop-at (listed (j * k) F) (drop (j * k) t₀) (j * k) (length-listed (j * k) F) in
     let next : (j + 1) * k ≡ j * k + k = add-mul j 1 k ∙ ap (λ (x : ℕ). j * k + x) (one-mul k) in
     rw (count, before, from, ey, drop-drop k (j * k) t₀, next, listed-add (j * k) k F)
     (sym (append-assoc (listed (j * k) F) (listed k (λ i. F (j * k + i))) (drop (j * k + k) t₀)))
 
 -- all parts put
-pub parts-end : (count size j k : ℕ) (F : ℕ → ℕ) (t₀ t : List ℕ) → k ≡ size → j ≡ count → length t₀ ≡ count * size → t ≡ filled (j * k) F t₀ → t ≡ listed (count * size) F
+pub parts-end : (count size j k : ℕ) (F : ℕ → ℕ) (t₀ t : List ℕ) → k ≡ size → j ≡ count → length t₀ ≡ count * size → t ≡ filled (j * k) F t₀
+    → t ≡ listed (count * size) F
 parts-end count size j k F t₀ t ek ej es e =
     let whole : j * k ≡ length t₀ = ap₂ (λ (x y : ℕ). x * y) ej ek ∙ sym es in
     e ∙ ap (λ (x : ℕ). filled x F t₀) whole ∙ filled-all F t₀ ∙ ap (λ (x : ℕ). listed x F) es
@@ -63,7 +66,8 @@ pub part-point : (k x w i : ℕ) → 64 * (x * k + w) + i ≡ x * (64 * k) + (64
 part-point k x w i = omega (arith, points-in x k)
 
 -- the words of answers, each by its part
-pub words-parts : (u k : ℕ) (F : ℕ → ℕ) (h : ℕ → ℕ → Bool) → 0 < k → ((x w : ℕ) → x < u → w < k → F (x * k + w) ≡ wordOf (λ i. h x (64 * w + i))) → listed (u * k) F ≡ answerWords u k h
+pub words-parts : (u k : ℕ) (F : ℕ → ℕ) (h : ℕ → ℕ → Bool) → 0 < k
+    → ((x w : ℕ) → x < u → w < k → F (x * k + w) ≡ wordOf (λ i. h x (64 * w + i))) → listed (u * k) F ≡ answerWords u k h
 unfolding answerWords
 words-parts u k F h pos e =
     words-listed (u * k) _ _ (λ w l.
@@ -71,11 +75,13 @@ words-parts u k F h pos e =
     ap F (sym (div-add-mod' w k)) ∙ e (w / k) (w % k) (part-below u k w l) r
     ∙ word-cong _ _ (λ i m.
     let inner : 64 * (w % k) + i < 64 * k = omega arith in
-    let s : 64 * w + i ≡ w / k * (64 * k) + (64 * (w % k) + i) = ap (λ (y : ℕ). 64 * y + i) (sym (div-add-mod' w k)) ∙ part-point k (w / k) (w % k) i in
+    let s : 64 * w + i ≡ w / k * (64 * k) + (64 * (w % k) + i) = ap (λ (y : ℕ). 64 * y + i) (sym (div-add-mod' w k))
+    ∙ part-point k (w / k) (w % k) i in
     sym (ap₂ h (ap (λ (z : ℕ). z / (64 * k)) s ∙ digits-div (w / k) inner) (ap (λ (z : ℕ). z % (64 * k)) s ∙ digits-mod (w / k) inner))))
 
 -- the value of answer x at a point
-pub answer-at : (u k x p : ℕ) (h : ℕ → ℕ → Bool) (ws : List ℕ) → ws ≡ answerWords u k h → x < u → p < 64 * k → bitAt ws (x * (64 * k) + p) ≡ h x p
+pub answer-at : (u k x p : ℕ) (h : ℕ → ℕ → Bool) (ws : List ℕ) → ws ≡ answerWords u k h → x < u → p < 64 * k
+    → bitAt ws (x * (64 * k) + p) ≡ h x p
 unfolding answerWords
 answer-at u k x p h ws e hx hp =
     let l : x * (64 * k) + p < 64 * (u * k) = rw (← points-in u k) (digits-lt hx hp) in

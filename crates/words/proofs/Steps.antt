@@ -50,7 +50,8 @@ module _ (j b : ℕ) (xs : List ℕ) where
         ∙ rw add-suc
 
     run : (i : ℕ) → i ≤ 2 ^ j
-        → xorRun (filled (2 * b * 2 ^ j) (stepWord j xs) xs) (2 * b * 2 ^ j) (2 ^ j) i ≡ filled (2 * b * 2 ^ j + 2 ^ j + i) (stepWord j xs) xs
+        → xorRun (filled (2 * b * 2 ^ j) (stepWord j xs) xs) (2 * b * 2 ^ j) (2 ^ j) i
+        ≡ filled (2 * b * 2 ^ j + 2 ^ j + i) (stepWord j xs) xs
     unfolding xorRun
     run zero h = skip (2 ^ j) (omega arith) ∙ rw add-zero
     run (suc i) h =
@@ -64,7 +65,8 @@ module _ (j b : ℕ) (xs : List ℕ) where
           add-suc,
         )
 
-    block-done : xorRun (filled (2 * b * 2 ^ j) (stepWord j xs) xs) (2 * b * 2 ^ j) (2 ^ j) (2 ^ j) ≡ filled (2 * (b + 1) * 2 ^ j) (stepWord j xs) xs
+    block-done : xorRun (filled (2 * b * 2 ^ j) (stepWord j xs) xs) (2 * b * 2 ^ j) (2 ^ j) (2 ^ j)
+        ≡ filled (2 * (b + 1) * 2 ^ j) (stepWord j xs) xs
     block-done =
         let s : 2 * (b + 1) * 2 ^ j ≡ 2 * b * 2 ^ j + 2 ^ j + 2 ^ j = rw (mul-add 2 b 1) (omega (arith, add-mul (2 * b) 2 (2 ^ j))) in
         rw s (run (2 ^ j) (omega arith))

@@ -29,12 +29,14 @@ holds-afresh-requires c κs = surveyed _ _ (c .before .before .before .survey-en
 
 returns-2 : tie.Need-returns-2
 returns-2 c =
-    refused-afresh _ _ _ (surveyed _ _ (c .before .before .before .before .before .before .survey-entry .ensures) (c .before .before .before .before .if1 .left))
+    refused-afresh _ _ _ (surveyed _ _ (c .before .before .before .before .before .before .survey-entry .ensures)
+    (c .before .before .before .before .if1 .left))
     (c .number .ensures) (failed (c .before .before .holds-afresh .ensures) (c .before .if2 .taken))
 
 returns-3 : tie.Need-returns-3
 returns-3 c =
-    passed-all _ _ _ (surveyed _ _ (c .before .before .before .before .before .survey-entry .ensures) (c .before .before .before .if1 .left))
+    passed-all _ _ _ (surveyed _ _ (c .before .before .before .before .before .survey-entry .ensures)
+    (c .before .before .before .if1 .left))
     (passed (c .before .holds-afresh .ensures) (c .if2 .left))
 
 pub audit-spec : {M : Type 1} → statement M

@@ -22,7 +22,9 @@ fits : (c : tie.After-word-count) → c .before .pow2 .result ≤ 1024
 fits c = pow-small _ _ (c .before .pow2 .ensures) (small (c .before .before))
 
 all-fit : (c : tie.After-word-count) → c .before .before .before .before .args .heading .unknowns * c .before .pow2 .result ≤ 6144
-all-fit c = size-small _ (c .before .before .before .before .pre .passed) (c .before .before .before .before .pre .headed) (c .before .pow2 .ensures)
+all-fit c =
+    size-small _ (c .before .before .before .before .pre .passed) (c .before .before .before .before .pre .headed)
+    (c .before .pow2 .ensures)
 
 words-fit : (c : tie.After-word-count) → c .word-count .result ≤ 16
 words-fit c = count-small _ _ (c .word-count .ensures) (small (c .before .before))
@@ -39,7 +41,12 @@ answers-hold-requires c κs =
       (start .pre, first-unknowns _ (few known)),
       (
         (length-take-le _ _ (fits known) ∙ e, length-take-le _ _ (all-fit known) ∙ ap (λ k. start .args .heading .unknowns * k) e),
-        (length-take-le _ _ (words-fit known) ∙ f, length-take-le _ _ (every-fit known) ∙ ap (λ k. start .args .heading .unknowns * k) f, length-take-le _ _ (words-fit known) ∙ f),
+        (
+          length-take-le _ _ (words-fit known) ∙ f,
+          length-take-le _ _ (every-fit known)
+              ∙ ap (λ k. start .args .heading .unknowns * k) f,
+          length-take-le _ _ (words-fit known) ∙ f,
+        ),
       ),
     )
 

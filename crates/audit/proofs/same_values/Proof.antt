@@ -18,14 +18,24 @@ abbrev μ-loop : tie.MeasureT-loop
 μ-loop u n held fresh own₀ k w j₀ own j = u - j
 
 -- part j of the tables, and part j of the words
-table-small : (c : tie.In-loop Inv-loop μ-loop) → c .before .loop .j * c .before .before .before .pow2 .result + c .before .before .before .pow2 .result ≤ 6144
-table-small c = part-small _ _ _ _ (c .before .before .before .before .before .before .before .pre .0) (c .before .before .before .before .before .before .before .pre .1) (c .before .before .before .pow2 .ensures) (c .loop-test .taken)
+table-small : (c : tie.In-loop Inv-loop μ-loop)
+    → c .before .loop .j * c .before .before .before .pow2 .result + c .before .before .before .pow2 .result ≤ 6144
+table-small c =
+    part-small _ _ _ _ (c .before .before .before .before .before .before .before .pre .0)
+    (c .before .before .before .before .before .before .before .pre .1) (c .before .before .before .pow2 .ensures) (c .loop-test .taken)
 
-word-small : (c : tie.In-loop Inv-loop μ-loop) → c .before .loop .j * c .before .before .word-count .result + c .before .before .word-count .result ≤ 96
-word-small c = words-small _ _ _ _ (c .before .before .before .before .before .before .before .pre .0) (c .before .before .before .before .before .before .before .pre .1) (c .before .before .word-count .ensures) (c .loop-test .taken)
+word-small : (c : tie.In-loop Inv-loop μ-loop)
+    → c .before .loop .j * c .before .before .word-count .result + c .before .before .word-count .result ≤ 96
+word-small c =
+    words-small _ _ _ _ (c .before .before .before .before .before .before .before .pre .0)
+    (c .before .before .before .before .before .before .before .pre .1) (c .before .before .word-count .ensures) (c .loop-test .taken)
 
-word-fits : (c : tie.In-loop Inv-loop μ-loop) → c .before .loop .j * c .before .before .word-count .result + c .before .before .word-count .result ≤ length (c .before .before .before .before .before .before .before .args .fresh .now)
-word-fits c = part-fits _ _ _ _ _ (c .before .before .word-count .ensures) (c .loop-test .taken) (c .before .before .before .before .before .before .before .pre .3)
+word-fits : (c : tie.In-loop Inv-loop μ-loop)
+    → c .before .loop .j * c .before .before .word-count .result + c .before .before .word-count .result ≤ length
+    (c .before .before .before .before .before .before .before .args .fresh .now)
+word-fits c =
+    part-fits _ _ _ _ _ (c .before .before .word-count .ensures) (c .loop-test .taken)
+    (c .before .before .before .before .before .before .before .pre .3)
 
 pub same-values-spec : {M : Type 1} → statement M
 same-values-spec =
@@ -42,21 +52,36 @@ same-values-spec =
     (λ c. omega (arith, word-small c))
     (λ c. search needs)
     (λ c. search needs)
-    (λ c. part-fits _ _ _ _ _ (c .before .before .before .pow2 .ensures) (c .loop-test .taken) (held-length _ _ _ (c .before .before .before .before .before .before .before .pre .2)))
-    (λ c κs. (c .before .before .before .before .before .before .before .before .before .pre .1, part-is-table _ _ _ (c .before .before .before .before .before .before .before .before .before .pre .2) _ _ (c .before .before .before .before .before .pow2 .ensures) (c .before .before .loop-test .taken), c .before .before .before .loop .inv .1 ∙ c .before .before .before .before .before .before .before .before .before .pre .4))
+    (λ c. part-fits _ _ _ _ _ (c .before .before .before .pow2 .ensures) (c .loop-test .taken)
+    (held-length _ _ _ (c .before .before .before .before .before .before .before .pre .2)))
+    (λ c κs. (
+      c .before .before .before .before .before .before .before .before .before .pre .1,
+      part-is-table _ _ _
+          (c .before .before .before .before .before .before .before .before .before .pre .2) _ _
+          (c .before .before .before .before .before .pow2 .ensures)
+          (c .before .before .loop-test .taken),
+      c .before .before .before .loop .inv .1
+          ∙ c .before .before .before .before .before .before .before .before .before .pre .4,
+    ))
     (λ c. omega (arith, word-small (c .before .before .before .before .before .before)))
     (λ c. search needs)
     (λ c. search needs)
     (λ c. word-fits (c .before .before .before .before .before .before))
-    (λ c κs. size-words _ _ _ (c .before .before .before .before .take-values .ensures) ∙ sym (c .before .before .before .before .before .before .before .before .before .word-count .ensures) ∙ sym (part-length _ _ _ (word-fits (c .before .before .before .before .before .before .before))))
-    (λ c. size-words _ _ _ (c .before .before .before .before .before .before .take-values .ensures) ∙ sym (c .before .before .before .before .before .before .before .before .before .before .before .before .before .before .before .before .pre .4))
-    (λ c. agreed-differ _ _ _ _ (c .before .before .before .before .before .before .before .before .before .before .before .before .before .before .before .before .pre .2) _ (c .before .before .before .before .before .before .before .before .before .before .loop .inv .2) (c .before .before .before .before .before .before .before .before .before .loop-test .taken) (c .before .before .before .before .before .before .before .before .before .before .before .before .pow2 .ensures) (c .before .before .before .before .before .before .before .before .before .before .before .word-count .ensures) _ (c .before .before .before .before .before .before .take-values .ensures) (failed (c .before .same-words .ensures) (c .if1 .taken)))
+    (λ c κs. size-words _ _ _ (c .before .before .before .before .take-values .ensures)
+    ∙ sym (c .before .before .before .before .before .before .before .before .before .word-count .ensures)
+    ∙ sym (part-length _ _ _ (word-fits (c .before .before .before .before .before .before .before))))
+    (λ c. size-words _ _ _ (c .before .before .before .before .before .before .take-values .ensures)
+    ∙ sym (c .before .before .before .before .before .before .before .before .before .before .before .before .before .before .before .before .pre .4))
+    (λ c. agreed-differ _ _ _ _
+    (c .before .before .before .before .before .before .before .before .before .before .before .before .before .before .before .before .pre .2) _ (c .before .before .before .before .before .before .before .before .before .before .loop .inv .2) (c .before .before .before .before .before .before .before .before .before .loop-test .taken) (c .before .before .before .before .before .before .before .before .before .before .before .before .pow2 .ensures) (c .before .before .before .before .before .before .before .before .before .before .before .word-count .ensures) _ (c .before .before .before .before .before .before .take-values .ensures) (failed (c .before .same-words .ensures) (c .if1 .taken)))
     (λ c. omega (arith, c .before .before .before .before .before .before .before .before .before .loop-test .taken, c .before .before .before .before .before .before .before .before .before .before .before .before .before .before .before .before .pre .0))
     (λ c. omega (arith, c .before .before .before .before .before .before .before .before .before .loop-test .taken))
     (λ c. (
       omega (arith, c .before .before .before .before .before .before .before .before .before .loop-test .taken),
-      size-words _ _ _ (c .before .before .before .before .before .before .take-values .ensures) ∙ sym (c .before .before .before .before .before .before .before .before .before .before .before .before .before .before .before .before .pre .4),
+      size-words _ _ _ (c .before .before .before .before .before .before .take-values .ensures)
+          ∙ sym (c .before .before .before .before .before .before .before .before .before .before .before .before .before .before .before .before .pre .4),
       agreed-next _ _ _ _ (c .before .before .before .before .before .before .before .before .before .before .before .before .before .before .before .before .pre .2) _ (c .before .before .before .before .before .before .before .before .before .before .loop .inv .2) (c .before .before .before .before .before .before .before .before .before .loop-test .taken) (c .before .before .before .before .before .before .before .before .before .before .before .before .pow2 .ensures) (c .before .before .before .before .before .before .before .before .before .before .before .word-count .ensures) _ (c .before .before .before .before .before .before .take-values .ensures) (passed (c .before .same-words .ensures) (c .if1 .left)),
     ))
     (λ c. c .before .loop .inv .1)
-    (λ c. agreed-end _ _ _ _ (c .before .before .before .before .before .before .before .pre .2) _ (c .before .loop .inv .2) (c .loop-test .left)))
+    (λ c. agreed-end _ _ _ _ (c .before .before .before .before .before .before .before .pre .2) _ (c .before .loop .inv .2)
+    (c .loop-test .left)))

@@ -49,21 +49,46 @@ pub +answer-all-spec : {M : Type 1} → statement M
     (λ c. let start = c .before .before .before .before .before in
     let b : 2 ^ start .args .c ≤ 2 ^ 4 = pow-mono (start .pre .1 .0) in omega (arith, c .before .pow2 .ensures))
     (λ c. let start = c .before .before .before .before .before in
-    slot-room _ _ (start .args .order .now) (start .args .stages .now) (c .before .pow2 .ensures) (ap length (start .pre .1 .3) ∙ length-stages (start .args .c) _ (start .args .order .now)) (omega arith))
+    slot-room _ _ (start .args .order .now) (start .args .stages .now) (c .before .pow2 .ensures)
+    (ap length (start .pre .1 .3) ∙ length-stages (start .args .c) _ (start .args .order .now)) (omega arith))
     (λ c. let start = c .before .before .before .before .before in
-    omega (arith, slot-room _ _ (start .args .order .now) (start .args .stages .now) (c .before .pow2 .ensures) (ap length (start .pre .1 .3) ∙ length-stages (start .args .c) _ (start .args .order .now)) (omega arith)))
+    omega (
+      arith,
+      slot-room _ _ (start .args .order .now) (start .args .stages .now) (c .before .pow2 .ensures)
+          (ap length (start .pre .1 .3) ∙ length-stages (start .args .c) _ (start .args .order .now)) (omega arith),
+    ))
     (λ c. let start = c .before .before .before .before .before in
-    omega (arith, slot-room _ _ (start .args .order .now) (start .args .stages .now) (c .before .pow2 .ensures) (ap length (start .pre .1 .3) ∙ length-stages (start .args .c) _ (start .args .order .now)) (omega arith)))
+    omega (
+      arith,
+      slot-room _ _ (start .args .order .now) (start .args .stages .now) (c .before .pow2 .ensures)
+          (ap length (start .pre .1 .3) ∙ length-stages (start .args .c) _ (start .args .order .now)) (omega arith),
+    ))
     (λ c κs. let start = c .before .before .before .before .before .before in
-    let after-pow2 = c .before .before in
-    (omega (arith, start .pre .0, rest-length (start .args .order .now)), (start .pre .1 .0, rest-letters _ (start .args .order .now) (start .pre .1 .1), rest-once (start .args .order .now) (start .pre .1 .2), rest-stages _ _ (start .args .order .now) (start .args .stages .now) (after-pow2 .pow2 .ensures) (start .pre .1 .1) (omega arith) (start .pre .1 .3))))
+    let after-pow2 = c .before .before in (
+      omega (arith, start .pre .0, rest-length (start .args .order .now)),
+      (
+        start .pre .1 .0,
+        rest-letters _ (start .args .order .now)
+            (start .pre .1 .1),
+        rest-once (start .args .order .now) (start .pre .1 .2),
+        rest-stages _ _ (start .args .order .now)
+            (start .args .stages .now) (after-pow2 .pow2 .ensures) (start .pre .1 .1) (omega arith) (start .pre .1 .3),
+      ),
+    ))
     (λ c κs. let start = c .before .before .before .before .before .before .before .before .before .before in
     let after-pow2 = c .before .before .before .before .before .before in
-    let after-answer-all = c .before .before .before in
-    (start .pre .1 .0, omega arith, start .pre .1 .1, answered-size _ _ _ (start .args .order .now) (start .args .stages .now) _ (after-pow2 .pow2 .ensures) (omega arith) (start .pre .1 .3) (after-answer-all .answer-all .ensures)))
+    let after-answer-all = c .before .before .before in (
+      start .pre .1 .0,
+      omega arith,
+      start .pre .1 .1,
+      answered-size _ _ _ (start .args .order .now) (start .args .stages .now) _
+          (after-pow2 .pow2 .ensures) (omega arith) (start .pre .1 .3) (after-answer-all .answer-all .ensures),
+    ))
     (λ c. search needs)
     (λ c. let start = c .before .before .before .before .before .before .before .before .before .before .before .before .before in
     let after-pow2 = c .before .before .before .before .before .before .before .before .before in
     let after-answer-all = c .before .before .before .before .before .before in
     let after-answer-first = c .before .before in
-    answers-more _ _ (start .args .order .now) (start .args .stages .now) _ _ _ (after-pow2 .pow2 .ensures) (start .pre .1 .1) (start .pre .1 .2) (omega arith) (start .pre .1 .3) (after-answer-all .answer-all .ensures) refl (after-answer-first .answer-first .ensures)))
+    answers-more _ _ (start .args .order .now) (start .args .stages .now) _ _ _ (after-pow2 .pow2 .ensures) (start .pre .1 .1)
+    (start .pre .1 .2) (omega arith) (start .pre .1 .3) (after-answer-all .answer-all .ensures) refl
+    (after-answer-first .answer-first .ensures)))

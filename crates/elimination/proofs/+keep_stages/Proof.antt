@@ -44,7 +44,9 @@ pub +keep-stages-spec : {M : Type 1} → statement M
     keep-stages.Post
     (λ c. let start = c .before .before .before .before in
     let known = c .before .before in
-    let w = machine-words _ (start .args .f .now) (start .pre .1 .2) (λ i. omega (arith, known .slice-known .given i)) in (stages-none _ _ _ (c .if1 .taken) w, stages-empty _ _ (start .args .order .now) _ (c .if1 .taken) (start .pre .1 .3)))
+    let w =
+    machine-words _ (start .args .f .now) (start .pre .1 .2) (λ i. omega (arith, known .slice-known .given i)) in
+    (stages-none _ _ _ (c .if1 .taken) w, stages-empty _ _ (start .args .order .now) _ (c .if1 .taken) (start .pre .1 .3)))
     (λ c κs. search needs)
     (λ c. search needs)
     (λ c. let start = c .before .before .before .before .before .before .before in
@@ -52,10 +54,17 @@ pub +keep-stages-spec : {M : Type 1} → statement M
     slot-room _ _ (start .args .order .now) (start .args .stages .now) (after-pow2 .pow2 .ensures) (start .pre .1 .3) (omega arith))
     (λ c. let start = c .before .before .before .before .before .before .before .before in
     let after-pow2 = c .before .before .before in
-    sym (length-take-le _ _ (slot-room _ _ (start .args .order .now) (start .args .stages .now) (after-pow2 .pow2 .ensures) (start .pre .1 .3) (omega arith))))
+    sym (length-take-le _ _
+    (slot-room _ _ (start .args .order .now) (start .args .stages .now) (after-pow2 .pow2 .ensures) (start .pre .1 .3) (omega arith))))
     (λ c κs. let start = c .before .before .before .before .before .before .before .before in
-    let after-pow2 = c .before .before .before in
-    (first-letter _ (start .args .order .now) (start .pre .1 .1) (omega arith), start .pre .1 .0, start .pre .1 .2, length-take-le _ _ (slot-room _ _ (start .args .order .now) (start .args .stages .now) (after-pow2 .pow2 .ensures) (start .pre .1 .3) (omega arith)) ∙ after-pow2 .pow2 .ensures))
+    let after-pow2 = c .before .before .before in (
+      first-letter _ (start .args .order .now) (start .pre .1 .1) (omega arith),
+      start .pre .1 .0,
+      start .pre .1 .2,
+      length-take-le _ _
+          (slot-room _ _ (start .args .order .now) (start .args .stages .now) (after-pow2 .pow2 .ensures) (start .pre .1 .3) (omega arith))
+          ∙ after-pow2 .pow2 .ensures,
+    ))
     (λ c. search needs)
     (λ c. search needs)
     (λ c. search needs)
@@ -65,27 +74,52 @@ pub +keep-stages-spec : {M : Type 1} → statement M
     (λ c. let start = c .before .before .before .before .before .before .before .before .before .before .before .before .before .before .before in
     let after-pow2 = c .before .before .before .before .before .before .before .before .before .before in
     let after-keep-stage = c .before .before .before .before .before .before in
-    front-room _ _ (start .args .order .now) _ _ (start .args .stages .now) (after-pow2 .pow2 .ensures) (after-keep-stage .keep-stage .ensures .1) (start .pre .1 .2) (start .pre .1 .3) (omega arith))
+    front-room _ _ (start .args .order .now) _ _ (start .args .stages .now) (after-pow2 .pow2 .ensures)
+    (after-keep-stage .keep-stage .ensures .1) (start .pre .1 .2) (start .pre .1 .3) (omega arith))
     (λ c. let start = c .before .before .before .before .before .before .before .before .before .before .before .before .before .before .before in
     let after-pow2 = c .before .before .before .before .before .before .before .before .before .before in
     let after-keep-stage = c .before .before .before .before .before .before in
-    omega (arith, front-room _ _ (start .args .order .now) _ _ (start .args .stages .now) (after-pow2 .pow2 .ensures) (after-keep-stage .keep-stage .ensures .1) (start .pre .1 .2) (start .pre .1 .3) (omega arith)))
+    omega (
+      arith,
+      front-room _ _ (start .args .order .now) _ _ (start .args .stages .now) (after-pow2 .pow2 .ensures)
+          (after-keep-stage .keep-stage .ensures .1) (start .pre .1 .2) (start .pre .1 .3) (omega arith),
+    ))
     (λ c. let start = c .before .before .before .before .before .before .before .before .before .before .before .before .before .before .before in
     let after-pow2 = c .before .before .before .before .before .before .before .before .before .before in
     let after-keep-stage = c .before .before .before .before .before .before in
-    omega (arith, front-room _ _ (start .args .order .now) _ _ (start .args .stages .now) (after-pow2 .pow2 .ensures) (after-keep-stage .keep-stage .ensures .1) (start .pre .1 .2) (start .pre .1 .3) (omega arith)))
+    omega (
+      arith,
+      front-room _ _ (start .args .order .now) _ _ (start .args .stages .now) (after-pow2 .pow2 .ensures)
+          (after-keep-stage .keep-stage .ensures .1) (start .pre .1 .2) (start .pre .1 .3) (omega arith),
+    ))
     (λ c κs. let start = c .before .before .before .before .before .before .before .before .before .before .before .before .before .before .before .before in
     let after-pow2 = c .before .before .before .before .before .before .before .before .before .before .before in
-    let after-keep-stage = c .before .before .before .before .before .before .before in
-    (omega (arith, start .pre .0, rest-length (start .args .order .now)), (start .pre .1 .0, rest-letters _ (start .args .order .now) (start .pre .1 .1), size-words _ _ _ (after-keep-stage .keep-stage .ensures .0), front-rest _ _ (start .args .order .now) _ _ (start .args .stages .now) (after-pow2 .pow2 .ensures) (after-keep-stage .keep-stage .ensures .1) (start .pre .1 .2) (start .pre .1 .3) (omega arith))))
+    let after-keep-stage = c .before .before .before .before .before .before .before in (
+      omega (arith, start .pre .0, rest-length (start .args .order .now)),
+      (
+        start .pre .1 .0,
+        rest-letters _ (start .args .order .now)
+            (start .pre .1 .1),
+        size-words _ _ _ (after-keep-stage .keep-stage .ensures .0),
+        front-rest _ _ (start .args .order .now) _ _
+            (start .args .stages .now) (after-pow2 .pow2 .ensures) (after-keep-stage .keep-stage .ensures .1) (start .pre .1 .2)
+            (start .pre .1 .3)
+            (omega arith),
+      ),
+    ))
     (λ c. search needs)
     (λ c. search needs)
     (λ c. let start = c .before .before .before .before .before .before .before .before .before .before .before .before .before .before .before .before .before .before .before .before .before in
-    let known = c .before .before .before .before .before .before .before .before .before .before .before .before .before .before .before .before .before .before .before in
-    let after-pow2 = c .before .before .before .before .before .before .before .before .before .before .before .before .before .before .before .before in
+    let known =
+    c .before .before .before .before .before .before .before .before .before .before .before .before .before .before .before .before .before .before .before in
+    let after-pow2 =
+    c .before .before .before .before .before .before .before .before .before .before .before .before .before .before .before .before in
     let after-keep-stage = c .before .before .before .before .before .before .before .before .before .before .before .before in
     let after-keep-stages = c .before .before .before .before in
     let w = machine-words _ (start .args .f .now) (start .pre .1 .2) (λ i. omega (arith, known .slice-known .given i)) in (
-      remains-more _ (start .args .order .now) (start .args .f .now) _ _ (start .pre .1 .1) (omega arith) (after-keep-stage .keep-stage .ensures .0) (after-keep-stages .keep-stages .ensures .0),
-      stages-more _ _ (start .args .order .now) (start .args .f .now) _ _ (start .args .stages .now) _ (after-pow2 .pow2 .ensures) (start .pre .1 .1) (omega arith) (start .pre .1 .3) w (after-keep-stage .keep-stage .ensures .1) (after-keep-stage .keep-stage .ensures .0) (after-keep-stages .keep-stages .ensures .1),
+      remains-more _ (start .args .order .now) (start .args .f .now) _ _ (start .pre .1 .1) (omega arith)
+          (after-keep-stage .keep-stage .ensures .0) (after-keep-stages .keep-stages .ensures .0),
+      stages-more _ _ (start .args .order .now) (start .args .f .now) _ _ (start .args .stages .now) _ (after-pow2 .pow2 .ensures)
+          (start .pre .1 .1) (omega arith) (start .pre .1 .3) w (after-keep-stage .keep-stage .ensures .1)
+          (after-keep-stage .keep-stage .ensures .0) (after-keep-stages .keep-stages .ensures .1),
     )))

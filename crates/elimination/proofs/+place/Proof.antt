@@ -31,18 +31,27 @@ pub +place-spec : {M : Type 1} → statement M
     place.Post
     (λ c. let start = c .before .before in
     omega (arith, some-place (start .args .order .now) _ (start .pre .1)))
-    (λ c. let start = c .before .before .before in
-    (place-here (start .args .order .now) _ (start .pre .1) (c .if1 .taken), omega (arith, some-place (start .args .order .now) _ (start .pre .1))))
+    (λ c. let start = c .before .before .before in (
+      place-here (start .args .order .now) _ (start .pre .1) (c .if1 .taken),
+      omega
+          (arith, some-place (start .args .order .now) _ (start .pre .1)),
+    ))
     (λ c. let start = c .before .before .before in
     omega (arith, some-place (start .args .order .now) _ (start .pre .1)))
     (λ c. let start = c .before .before .before in
     omega (arith, some-place (start .args .order .now) _ (start .pre .1)))
     (λ c. let start = c .before .before .before in
     omega (arith, some-place (start .args .order .now) _ (start .pre .1)))
-    (λ c κs. let start = c .before .before .before .before in
-    (omega (arith, start .pre .0, rest-length (start .args .order .now), some-place (start .args .order .now) _ (start .pre .1)), place-rest (start .args .order .now) _ (start .pre .1) (c .before .if1 .left)))
+    (λ c κs. let start = c .before .before .before .before in (
+      omega (arith, start .pre .0, rest-length (start .args .order .now), some-place (start .args .order .now) _ (start .pre .1)),
+      place-rest
+          (start .args .order .now) _ (start .pre .1) (c .before .if1 .left),
+    ))
     (λ c. let start = c .before .before .before .before .before in
     omega (arith, c .place .ensures .1, rest-length (start .args .order .now)))
     (λ c. let start = c .before .before .before .before .before in
-    let decided = c .before .before in
-    (place-later (start .args .order .now) _ _ (start .pre .1) (decided .if1 .left) (c .place .ensures .0), omega (arith, c .place .ensures .1, rest-length (start .args .order .now), some-place (start .args .order .now) _ (start .pre .1))))
+    let decided = c .before .before in (
+      place-later (start .args .order .now) _ _ (start .pre .1) (decided .if1 .left) (c .place .ensures .0),
+      omega
+          (arith, c .place .ensures .1, rest-length (start .args .order .now), some-place (start .args .order .now) _ (start .pre .1)),
+    ))

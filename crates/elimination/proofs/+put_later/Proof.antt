@@ -42,7 +42,9 @@ pub +put-later-spec : {M : Type 1} → statement M
     (put-later-at t)
     put-later.Post
     (λ c. let start = c .before .before .before .before in
-    let w = machine-words _ (start .args .a .now) (start .pre .1 .3) (λ i. omega (arith, c .before .slice-known .given i)) in put-none _ _ _ _ (c .if1 .taken) w)
+    let w =
+    machine-words _ (start .args .a .now) (start .pre .1 .3) (λ i. omega (arith, c .before .slice-known .given i)) in put-none _ _ _ _
+    (c .if1 .taken) w)
     (λ c κs. search needs)
     (λ c. search needs)
     (λ c. search needs)
@@ -52,23 +54,49 @@ pub +put-later-spec : {M : Type 1} → statement M
     (λ c. let start = c .before .before .before .before .before .before in
     slot-room _ _ (start .args .order .now) (start .args .slots .now) (c .before .pow2 .ensures) (start .pre .1 .2) (omega arith))
     (λ c. let start = c .before .before .before .before .before .before in
-    omega (arith, slot-room _ _ (start .args .order .now) (start .args .slots .now) (c .before .pow2 .ensures) (start .pre .1 .2) (omega arith)))
+    omega (
+      arith,
+      slot-room _ _ (start .args .order .now) (start .args .slots .now) (c .before .pow2 .ensures) (start .pre .1 .2)
+          (omega arith),
+    ))
     (λ c. let start = c .before .before .before .before .before .before in
-    omega (arith, slot-room _ _ (start .args .order .now) (start .args .slots .now) (c .before .pow2 .ensures) (start .pre .1 .2) (omega arith)))
+    omega (
+      arith,
+      slot-room _ _ (start .args .order .now) (start .args .slots .now) (c .before .pow2 .ensures) (start .pre .1 .2)
+          (omega arith),
+    ))
     (λ c κs. let start = c .before .before .before .before .before .before .before .before in
-    let after-pow2 = c .before .before .before in
-    (omega (arith, start .pre .0, rest-length (start .args .order .now)), (start .pre .1 .0, rest-letters _ (start .args .order .now) (start .pre .1 .1), slots-rest _ _ (start .args .order .now) (start .args .slots .now) (after-pow2 .pow2 .ensures) (start .pre .1 .2) (omega arith), start .pre .1 .3)))
+    let after-pow2 = c .before .before .before in (
+      omega (arith, start .pre .0, rest-length (start .args .order .now)),
+      (
+        start .pre .1 .0,
+        rest-letters _ (start .args .order .now)
+            (start .pre .1 .1),
+        slots-rest _ _ (start .args .order .now) (start .args .slots .now) (after-pow2 .pow2 .ensures) (start .pre .1 .2)
+            (omega arith),
+        start .pre .1 .3,
+      ),
+    ))
     (λ c. search needs)
     (λ c. let start = c .before .before .before .before .before .before .before .before .before .before .before .before .before .before in
     let after-pow2 = c .before .before .before .before .before .before .before .before .before in
-    sym (length-take-le _ _ (slot-room _ _ (start .args .order .now) (start .args .slots .now) (after-pow2 .pow2 .ensures) (start .pre .1 .2) (omega arith))))
+    sym (length-take-le _ _
+    (slot-room _ _ (start .args .order .now) (start .args .slots .now) (after-pow2 .pow2 .ensures) (start .pre .1 .2) (omega arith))))
     (λ c κs. let start = c .before .before .before .before .before .before .before .before .before .before .before .before .before .before in
     let after-pow2 = c .before .before .before .before .before .before .before .before .before in
-    let after-put-later = c .before .before .before .before .before in
-    (first-letter _ (start .args .order .now) (start .pre .1 .1) (omega arith), start .pre .1 .0, size-words _ _ _ (after-put-later .put-later .ensures), length-take-le _ _ (slot-room _ _ (start .args .order .now) (start .args .slots .now) (after-pow2 .pow2 .ensures) (start .pre .1 .2) (omega arith)) ∙ after-pow2 .pow2 .ensures))
+    let after-put-later = c .before .before .before .before .before in (
+      first-letter _ (start .args .order .now) (start .pre .1 .1) (omega arith),
+      start .pre .1 .0,
+      size-words _ _ _
+          (after-put-later .put-later .ensures),
+      length-take-le _ _
+          (slot-room _ _ (start .args .order .now) (start .args .slots .now) (after-pow2 .pow2 .ensures) (start .pre .1 .2) (omega arith))
+          ∙ after-pow2 .pow2 .ensures,
+    ))
     (λ c. search needs)
     (λ c. let start = c .before .before .before .before .before .before .before .before .before .before .before .before .before .before .before .before .before in
     let after-pow2 = c .before .before .before .before .before .before .before .before .before .before .before .before in
     let after-put-later = c .before .before .before .before .before .before .before .before in
     let after-replace-in = c .before .before in
-    put-more _ _ (start .args .order .now) (start .args .slots .now) (start .args .a .now) _ _ (after-pow2 .pow2 .ensures) (start .pre .1 .1) (omega arith) (after-put-later .put-later .ensures) (after-replace-in .replace-in .ensures)))
+    put-more _ _ (start .args .order .now) (start .args .slots .now) (start .args .a .now) _ _ (after-pow2 .pow2 .ensures)
+    (start .pre .1 .1) (omega arith) (after-put-later .put-later .ensures) (after-replace-in .replace-in .ensures)))

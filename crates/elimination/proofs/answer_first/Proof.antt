@@ -20,6 +20,7 @@ answer-first-spec =
     (λ c κs. search needs)
     (λ c. small (c .before))
     (λ c. sym (length-take-le _ _ (small (c .before .before))))
-    (λ c κs. let pre = c .before .before .before .before .before .pre in (pre .0, pre .1, pre .2, pre .3, length-take-le _ _ (small (c .before .before)) ∙ c .before .before .pow2 .ensures))
+    (λ c κs. let pre = c .before .before .before .before .before .pre in
+    (pre .0, pre .1, pre .2, pre .3, length-take-le _ _ (small (c .before .before)) ∙ c .before .before .pow2 .ensures))
     (λ c. search needs)
     (λ c. search needs))

@@ -23,13 +23,16 @@ slice-aggregate-copy : tie.Need-slice-aggregate-copy
 slice-aggregate-copy c =
     let start = c .before .before .before .before .before .before in
     let after-pow2 = c .before .before in
-    sym (length-take-le _ _ (slot-room _ _ (start .args .order .now) (start .args .stages .now) (after-pow2 .pow2 .ensures) (start .pre .3) (start .pre .1)))
+    sym (length-take-le _ _
+    (slot-room _ _ (start .args .order .now) (start .args .stages .now) (after-pow2 .pow2 .ensures) (start .pre .3) (start .pre .1)))
 
 copy-requires : tie.Need-copy-requires
 copy-requires c κs =
     let start = c .before .before .before .before .before .before in
     let after-pow2 = c .before .before in
-    start .pre .4 ∙ sym (length-take-le _ _ (slot-room _ _ (start .args .order .now) (start .args .stages .now) (after-pow2 .pow2 .ensures) (start .pre .3) (start .pre .1)) ∙ after-pow2 .pow2 .ensures)
+    start .pre .4 ∙ sym (length-take-le _ _
+    (slot-room _ _ (start .args .order .now) (start .args .stages .now) (after-pow2 .pow2 .ensures) (start .pre .3) (start .pre .1))
+    ∙ after-pow2 .pow2 .ensures)
 
 shared-slice-read-add-letter : tie.Need-shared-slice-read-add-letter
 shared-slice-read-add-letter c = search needs
@@ -62,42 +65,70 @@ sub-put-later-2 c =
 
 part-put-later-start-2 : tie.Need-part-put-later-start-2
 part-put-later-start-2 c =
-    let start = c .before .before .before .before .before .before .before .before .before .before .before .before .before .before .before .before in
+    let start =
+    c .before .before .before .before .before .before .before .before .before .before .before .before .before .before .before .before in
     let after-pow2 = c .before .before .before .before .before .before .before .before .before .before .before .before in
-    omega (arith, slot-room _ _ (start .args .order .now) (start .args .stages .now) (after-pow2 .pow2 .ensures) (start .pre .3) (start .pre .1))
+    omega (
+      arith,
+      slot-room _ _ (start .args .order .now) (start .args .stages .now) (after-pow2 .pow2 .ensures) (start .pre .3)
+          (start .pre .1),
+    )
 
 part-put-later-end-2 : tie.Need-part-put-later-end-2
 part-put-later-end-2 c =
-    let start = c .before .before .before .before .before .before .before .before .before .before .before .before .before .before .before .before in
+    let start =
+    c .before .before .before .before .before .before .before .before .before .before .before .before .before .before .before .before in
     let after-pow2 = c .before .before .before .before .before .before .before .before .before .before .before .before in
-    omega (arith, slot-room _ _ (start .args .order .now) (start .args .stages .now) (after-pow2 .pow2 .ensures) (start .pre .3) (start .pre .1))
+    omega (
+      arith,
+      slot-room _ _ (start .args .order .now) (start .args .stages .now) (after-pow2 .pow2 .ensures) (start .pre .3)
+          (start .pre .1),
+    )
 
 put-later-requires : tie.Need-put-later-requires
 put-later-requires c κs =
-    let start = c .before .before .before .before .before .before .before .before .before .before .before .before .before .before .before .before .before .before in
+    let start =
+    c .before .before .before .before .before .before .before .before .before .before .before .before .before .before .before .before .before .before in
     let after-pow2 = c .before .before .before .before .before .before .before .before .before .before .before .before .before .before in
     let after-copy = c .before .before .before .before .before .before .before .before .before .before .before in
-    let after-add-letter = c .before .before .before .before .before .before in
-    (start .pre .0, rest-letters _ (start .args .order .now) (start .pre .2), slots-rest _ _ (start .args .order .now) (start .args .stages .now) (after-pow2 .pow2 .ensures) (start .pre .3) (start .pre .1), size-words _ _ _ (after-add-letter .add-letter .ensures) ∙ ap length (after-copy .copy .ensures) ∙ length-take-le _ _ (slot-room _ _ (start .args .order .now) (start .args .stages .now) (after-pow2 .pow2 .ensures) (start .pre .3) (start .pre .1)) ∙ after-pow2 .pow2 .ensures)
+    let after-add-letter = c .before .before .before .before .before .before in (
+      start .pre .0,
+      rest-letters _ (start .args .order .now) (start .pre .2),
+      slots-rest _ _ (start .args .order .now)
+          (start .args .stages .now) (after-pow2 .pow2 .ensures) (start .pre .3) (start .pre .1),
+      size-words _ _ _
+          (after-add-letter .add-letter .ensures) ∙ ap length (after-copy .copy .ensures)
+          ∙ length-take-le _ _ (slot-room _ _ (start .args .order .now) (start .args .stages .now) (after-pow2 .pow2 .ensures)
+          (start .pre .3)
+          (start .pre .1)) ∙ after-pow2 .pow2 .ensures,
+    )
 
 slice-relend-prefix-copy : tie.Need-slice-relend-prefix-copy
 slice-relend-prefix-copy c =
-    let start = c .before .before .before .before .before .before .before .before .before .before .before .before .before .before .before .before .before .before .before .before .before in
-    let after-pow2 = c .before .before .before .before .before .before .before .before .before .before .before .before .before .before .before .before .before in
+    let start =
+    c .before .before .before .before .before .before .before .before .before .before .before .before .before .before .before .before .before .before .before .before .before in
+    let after-pow2 =
+    c .before .before .before .before .before .before .before .before .before .before .before .before .before .before .before .before .before in
     slot-room _ _ (start .args .order .now) (start .args .stages .now) (after-pow2 .pow2 .ensures) (start .pre .3) (start .pre .1)
 
 slice-aggregate-copy-2 : tie.Need-slice-aggregate-copy-2
 slice-aggregate-copy-2 c =
-    let start = c .before .before .before .before .before .before .before .before .before .before .before .before .before .before .before .before .before .before .before .before .before .before in
-    let after-pow2 = c .before .before .before .before .before .before .before .before .before .before .before .before .before .before .before .before .before .before in
-    sym (length-take-le _ _ (slot-room _ _ (start .args .order .now) (start .args .stages .now) (after-pow2 .pow2 .ensures) (start .pre .3) (start .pre .1)))
+    let start =
+    c .before .before .before .before .before .before .before .before .before .before .before .before .before .before .before .before .before .before .before .before .before .before in
+    let after-pow2 =
+    c .before .before .before .before .before .before .before .before .before .before .before .before .before .before .before .before .before .before in
+    sym (length-take-le _ _
+    (slot-room _ _ (start .args .order .now) (start .args .stages .now) (after-pow2 .pow2 .ensures) (start .pre .3) (start .pre .1)))
 
 copy-requires-2 : tie.Need-copy-requires-2
 copy-requires-2 c κs =
-    let start = c .before .before .before .before .before .before .before .before .before .before .before .before .before .before .before .before .before .before .before .before .before .before .before in
-    let after-pow2 = c .before .before .before .before .before .before .before .before .before .before .before .before .before .before .before .before .before .before .before in
+    let start =
+    c .before .before .before .before .before .before .before .before .before .before .before .before .before .before .before .before .before .before .before .before .before .before .before in
+    let after-pow2 =
+    c .before .before .before .before .before .before .before .before .before .before .before .before .before .before .before .before .before .before .before in
     let after-put-later = c .before .before .before .before in
-    length-take-le _ _ (slot-room _ _ (start .args .order .now) (start .args .stages .now) (after-pow2 .pow2 .ensures) (start .pre .3) (start .pre .1)) ∙ after-pow2 .pow2 .ensures ∙ sym (size-words _ _ _ (after-put-later .put-later .ensures))
+    length-take-le _ _ (slot-room _ _ (start .args .order .now) (start .args .stages .now) (after-pow2 .pow2 .ensures) (start .pre .3)
+    (start .pre .1)) ∙ after-pow2 .pow2 .ensures ∙ sym (size-words _ _ _ (after-put-later .put-later .ensures))
 
 same-length : tie.Need-same-length
 same-length c = search needs
@@ -107,13 +138,19 @@ same-length-2 c = search needs
 
 returns : tie.Need-returns
 returns c =
-    let start = c .before .before .before .before .before .before .before .before .before .before .before .before .before .before .before .before .before .before .before .before .before .before .before .before .before .before in
-    let after-pow2 = c .before .before .before .before .before .before .before .before .before .before .before .before .before .before .before .before .before .before .before .before .before .before in
-    let after-copy = c .before .before .before .before .before .before .before .before .before .before .before .before .before .before .before .before .before .before .before in
-    let after-add-letter = c .before .before .before .before .before .before .before .before .before .before .before .before .before .before in
+    let start =
+    c .before .before .before .before .before .before .before .before .before .before .before .before .before .before .before .before .before .before .before .before .before .before .before .before .before .before in
+    let after-pow2 =
+    c .before .before .before .before .before .before .before .before .before .before .before .before .before .before .before .before .before .before .before .before .before .before in
+    let after-copy =
+    c .before .before .before .before .before .before .before .before .before .before .before .before .before .before .before .before .before .before .before in
+    let after-add-letter =
+    c .before .before .before .before .before .before .before .before .before .before .before .before .before .before in
     let after-put-later = c .before .before .before .before .before .before .before in
     let after-copy2 = c .before .before in
-    answered-front _ _ (start .args .order .now) (start .args .stages .now) _ _ _ _ (after-pow2 .pow2 .ensures) (start .pre .2) (start .pre .3) (start .pre .1) (after-copy .copy .ensures) (after-add-letter .add-letter .ensures) (after-put-later .put-later .ensures) (after-copy2 .copy2 .ensures)
+    answered-front _ _ (start .args .order .now) (start .args .stages .now) _ _ _ _ (after-pow2 .pow2 .ensures) (start .pre .2)
+    (start .pre .3) (start .pre .1) (after-copy .copy .ensures) (after-add-letter .add-letter .ensures)
+    (after-put-later .put-later .ensures) (after-copy2 .copy2 .ensures)
 
 pub answer-with-spec : {M : Type 1} → statement M
 answer-with-spec =

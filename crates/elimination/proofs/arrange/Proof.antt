@@ -82,8 +82,10 @@ copy-requires c κs =
     let turn = c .before .before .before .before in
     let tested = c .before .before .before in
     let after-place = c .before .before in
-    part-length _ _ _ (omega (arith, part-fits _ _ _ _ _ (after-pow2 .pow2 .ensures) (tested .loop-test .taken) (start .pre .3), turn .loop .inv .2))
-    ∙ sym (part-length _ _ (start .args .slots .now) (part-fits _ _ _ _ _ (after-pow2 .pow2 .ensures) (after-place .place .ensures .1) (start .pre .2)))
+    part-length _ _ _ (omega
+    (arith, part-fits _ _ _ _ _ (after-pow2 .pow2 .ensures) (tested .loop-test .taken) (start .pre .3), turn .loop .inv .2))
+    ∙ sym (part-length _ _ (start .args .slots .now)
+    (part-fits _ _ _ _ _ (after-pow2 .pow2 .ensures) (after-place .place .ensures .1) (start .pre .2)))
 
 loop-again : tie.Need-loop-again Inv-loop μ-loop
 loop-again c =
@@ -94,7 +96,9 @@ loop-again c =
     let after-copy = c .before .before in (
       search needs,
       parts-more _ _ _ _ _ _ (turn .loop .inv .1)
-          (slot-copied (start .args .c) _ _ _ (start .args .order .now) (start .args .slots .now) _ (after-pow2 .pow2 .ensures) (after-place .place .ensures .0) (part-fits _ _ _ _ _ (after-pow2 .pow2 .ensures) (after-place .place .ensures .1) (start .pre .2)) (after-copy .copy .ensures)),
+          (slot-copied (start .args .c) _ _ _ (start .args .order .now) (start .args .slots .now) _ (after-pow2 .pow2 .ensures)
+          (after-place .place .ensures .0)
+          (part-fits _ _ _ _ _ (after-pow2 .pow2 .ensures) (after-place .place .ensures .1) (start .pre .2)) (after-copy .copy .ensures)),
       search needs,
     )
 

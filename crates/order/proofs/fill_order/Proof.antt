@@ -38,8 +38,12 @@ count-masks-requires c κs = let i = c .before .before .loop .inv in (i .0, omeg
 mask-at-requires : tie.Need-mask-at-requires Inv-loop μ-loop
 mask-at-requires c κs =
     let b = c .before .before .before in
-    let i = b .before .before .loop .inv in
-    (i .0, omega (arith, i .1 .few), number-inside (i .1) (b .before .loop-test .taken) (c .before .before .count-masks .ensures) (c .before .if1 .taken))
+    let i = b .before .before .loop .inv in (
+      i .0,
+      omega (arith, i .1 .few),
+      number-inside (i .1) (b .before .loop-test .taken) (c .before .before .count-masks .ensures)
+          (c .before .if1 .taken),
+    )
 
 cast-out : tie.Need-cast-out Inv-loop μ-loop
 cast-out c = let l = c .before .before .before .before .before .before .loop in omega (arith, nth-below 10 (l .k) (l .r))
@@ -59,14 +63,19 @@ add-r c = search needs
 loop-less : tie.Need-loop-less Inv-loop μ-loop
 loop-less c =
     let b = c .before .before .before in
-    let h = at-inside (b .before .before .before .loop .inv .1) (b .before .before .loop-test .taken) (b .count-masks .ensures) (c .before .before .if1 .taken) in
+    let h =
+    at-inside (b .before .before .before .loop .inv .1) (b .before .before .loop-test .taken) (b .count-masks .ensures)
+    (c .before .before .if1 .taken) in
     omega arith
 
 loop-again : tie.Need-loop-again Inv-loop μ-loop
 loop-again c =
     let b = c .before .before .before in
-    let i = b .before .before .before .loop .inv in
-    (i .0, filled-mask (i .1) (b .before .before .loop-test .taken) (b .count-masks .ensures) (c .before .before .if1 .taken) (c .mask-at .ensures))
+    let i = b .before .before .before .loop .inv in (
+      i .0,
+      filled-mask (i .1) (b .before .before .loop-test .taken) (b .count-masks .ensures) (c .before .before .if1 .taken)
+          (c .mask-at .ensures),
+    )
 
 add-k : tie.Need-add-k Inv-loop μ-loop
 add-k c = search needs

@@ -28,7 +28,9 @@ pow2-requires c κs = let g = c .before .before .before .loop .inv in omega arit
 add-m : tie.Need-add-m Inv-loop μ-loop
 add-m c =
     let b = c .before .before in
-    let f = fits-more (b .before .before .loop .inv) (b .before .loop-test .taken) (b .count-masks .ensures) (c .before .if1 .taken) (c .pow2 .ensures) in
+    let f =
+    fits-more (b .before .before .loop .inv) (b .before .loop-test .taken) (b .count-masks .ensures) (c .before .if1 .taken)
+    (c .pow2 .ensures) in
     omega arith
 
 sub-left : tie.Need-sub-left Inv-loop μ-loop

@@ -108,18 +108,23 @@ pub +factor+product+sum-spec : {M : Type 1} → statement M
     (λ c. search (readers.reads-brackets, up-to))
     (λ c. search needs)
     (λ c.
-    let pre = c .before .before .before .before .before .before .before .before .before .before .before .before .before .before .before .pre in
-    readers.close-missing _ _ (search needs) _ _ _ (pre .1 .2) (pre .1 .3) (search needs) (up-to ((c .before .before .before .before .n2) .given .1) ((c .before .before .before .before .before .before .before .before .sum) .ensures)) ((c .before .before .if2) .taken) ((c .if3) .left))
+    let pre =
+    c .before .before .before .before .before .before .before .before .before .before .before .before .before .before .before .pre in
+    readers.close-missing _ _ (search needs) _ _ _ (pre .1 .2) (pre .1 .3) (search needs)
+    (up-to ((c .before .before .before .before .n2) .given .1)
+    ((c .before .before .before .before .before .before .before .before .sum) .ensures)) ((c .before .before .if2) .taken) ((c .if3) .left))
     (λ c. search needs)
     (λ c.
     let pre = c .before .before .before .before .before .before .before .before .before .before .before .before .before .pre in
-    readers.close-at-end _ _ (search needs) _ _ _ (pre .1 .2) (pre .1 .3) (search needs) (up-to ((c .before .before .n2) .given .1) ((c .before .before .before .before .before .before .sum) .ensures)) ((c .if2) .left))
+    readers.close-at-end _ _ (search needs) _ _ _ (pre .1 .2) (pre .1 .3) (search needs)
+    (up-to ((c .before .before .n2) .given .1) ((c .before .before .before .before .before .before .sum) .ensures)) ((c .if2) .left))
     (λ c. search (readers.between-missing))
     (λ c. search (readers.other-missing))
     (λ c. search needs)
     (λ c.
     let which = ⊎-elim (λ w. inl (w .taken)) (λ w. inr (w .1 .left, w .2 .taken)) (c .before .before .before .before .if4 .came) in
-    readers.reads-letter _ _ (search needs) _ _ _ (search needs) (search needs) (c .before .before .before .before .before .match .rest) (c .before .before .put-symbol .ensures) which)
+    readers.reads-letter _ _ (search needs) _ _ _ (search needs) (search needs) (c .before .before .before .before .before .match .rest)
+    (c .before .before .put-symbol .ensures) which)
     (λ c. search (readers.at-end)))
     (λ t. product-lts.spec
     (factor-below t, factor.Post, join-reads.Asked, join-reads.Learnt)
@@ -130,74 +135,113 @@ pub +factor+product+sum-spec : {M : Type 1} → statement M
     (λ c κs. search needs)
     (λ c. search needs)
     (λ c. search needs)
-    (λ c. readers.begin productLoop _ _ _ _ _ (up-to ((c .before .m) .given .1) ((c .before .before .before .before .before .factor) .ensures)))
+    (λ c. readers.begin productLoop _ _ _ _ _
+    (up-to ((c .before .m) .given .1) ((c .before .before .before .before .before .factor) .ensures)))
     (λ c. search needs)
     (λ c. search needs)
     (λ c. omega (arith, (c .before .before .before .before .before .before .before .before .before .before .before .before .before .pre) .1 .2))
     (λ c.
-    let first = up-to (c .before .before .before .before .before .m .given .1) (c .before .before .before .before .before .before .before .before .before .factor .ensures) in
+    let first =
+    up-to (c .before .before .before .before .before .m .given .1)
+    (c .before .before .before .before .before .before .before .before .before .factor .ensures) in
     let pre = c .before .before .before .before .before .before .before .before .before .before .before .before .before .pre in
     let loop = c .before .before .before .loop in
     let test = c .before .before .loop-test in
     readers.part-start productLoop _ _ _ _ _ first (loop .inv) (test .taken) (pre .1 .2) (pre .1 .3))
     (λ c.
-    let first = up-to (c .before .before .before .before .before .m .given .1) (c .before .before .before .before .before .before .before .before .before .factor .ensures) in
+    let first =
+    up-to (c .before .before .before .before .before .m .given .1)
+    (c .before .before .before .before .before .before .before .before .before .factor .ensures) in
     let pre = c .before .before .before .before .before .before .before .before .before .before .before .before .before .pre in
     let loop = c .before .before .before .loop in
     let test = c .before .before .loop-test in
     omega (arith, readers.part-start productLoop _ _ _ _ _ first (loop .inv) (test .taken) (pre .1 .2) (pre .1 .3)))
     (λ c.
-    let first = up-to (c .before .before .before .before .before .m .given .1) (c .before .before .before .before .before .before .before .before .before .factor .ensures) in
+    let first =
+    up-to (c .before .before .before .before .before .m .given .1)
+    (c .before .before .before .before .before .before .before .before .before .factor .ensures) in
     let pre = c .before .before .before .before .before .before .before .before .before .before .before .before .before .pre in
     let loop = c .before .before .before .loop in
     let test = c .before .before .loop-test in
     omega (arith, readers.part-start productLoop _ _ _ _ _ first (loop .inv) (test .taken) (pre .1 .2) (pre .1 .3)))
     (λ c κs.
-    let first = up-to (c .before .before .before .before .before .before .m .given .1) (c .before .before .before .before .before .before .before .before .before .before .factor .ensures) in
+    let first =
+    up-to (c .before .before .before .before .before .before .m .given .1)
+    (c .before .before .before .before .before .before .before .before .before .before .factor .ensures) in
     let pre = c .before .before .before .before .before .before .before .before .before .before .before .before .before .before .pre in
     let loop = c .before .before .before .before .loop in
-    let test = c .before .before .before .loop-test in
-    (omega (arith, pre .0, loop .inv .past, test .taken), (omega (arith, test .taken), pre .1 .1, pre .1 .2, readers.part-room productLoop _ _ _ _ _ first (loop .inv) (test .taken) (pre .1 .2) (pre .1 .3))))
+    let test = c .before .before .before .loop-test in (
+      omega (arith, pre .0, loop .inv .past, test .taken),
+      (
+        omega
+            (arith, test .taken),
+        pre .1 .1,
+        pre .1 .2,
+        readers.part-room productLoop _ _ _ _ _ first (loop .inv) (test .taken) (pre .1 .2)
+            (pre .1 .3),
+      ),
+    ))
     (λ c. search needs)
     (λ c.
-    let g = up-to (c .before .before .before .before .before .before .before .before .before .before .before .m .given .1) (c .before .before .before .before .before .before .before .before .before .before .before .before .before .before .before .factor .ensures) in
+    let g =
+    up-to (c .before .before .before .before .before .before .before .before .before .before .before .m .given .1)
+    (c .before .before .before .before .before .before .before .before .before .before .before .before .before .before .before .factor .ensures) in
     let loop = c .before .before .before .before .before .before .before .before .before .loop in
-    let args = c .before .before .before .before .before .before .before .before .before .before .before .before .before .before .before .before .before .before .before .args in
+    let args =
+    c .before .before .before .before .before .before .before .before .before .before .before .before .before .before .before .before .before .before .before .args in
     let read = c .before .before .before .before .factor2 in
     readers.stays (args .k) (loop .stack) (read .last .1 .1 .1 .1 .0) (read .kept .1 .1 .1 .1 .0) (loop .inv .kept) (g .kept))
     (λ c. search (readers.more-missing productLoop, missing, readers.times-taken))
     (λ c. search needs)
     (λ c κs.
-    let first = up-to (c .before .before .before .before .before .before .before .before .before .before .before .before .before .m .given .1) (c .before .before .before .before .before .before .before .before .before .before .before .before .before .before .before .before .before .factor .ensures) in
+    let first =
+    up-to (c .before .before .before .before .before .before .before .before .before .before .before .before .before .m .given .1)
+    (c .before .before .before .before .before .before .before .before .before .before .before .before .before .before .before .before .before .factor .ensures) in
     let part = up-to (c .before .before .next .given .1) (c .before .before .before .before .before .before .factor2 .ensures) in
-    let pre = c .before .before .before .before .before .before .before .before .before .before .before .before .before .before .before .before .before .before .before .before .before .pre in
+    let pre =
+    c .before .before .before .before .before .before .before .before .before .before .before .before .before .before .before .before .before .before .before .before .before .pre in
     let loop = c .before .before .before .before .before .before .before .before .before .before .before .loop in
     let test = c .before .before .before .before .before .before .before .before .before .before .loop-test in
     readers.both-room productLoop _ _ _ _ _ first (loop .inv) (test .taken) (pre .1 .2) (pre .1 .3) part)
     (λ c.
-    let g = up-to (c .before .before .before .before .before .next .given .1) (c .before .before .before .before .before .before .before .before .before .factor2 .ensures) in
+    let g =
+    up-to (c .before .before .before .before .before .next .given .1)
+    (c .before .before .before .before .before .before .before .before .before .factor2 .ensures) in
     let test = c .before .before .before .before .before .before .before .before .before .before .before .before .before .loop-test in
     omega (arith, g .past, g .inside, test .taken))
     (λ c.
-    let first = up-to (c .before .before .before .before .before .before .before .before .before .before .before .before .before .before .before .before .m .given .1) (c .before .before .before .before .before .before .before .before .before .before .before .before .before .before .before .before .before .before .before .before .factor .ensures) in
-    let part = up-to (c .before .before .before .before .before .next .given .1) (c .before .before .before .before .before .before .before .before .before .factor2 .ensures) in
-    let pre = c .before .before .before .before .before .before .before .before .before .before .before .before .before .before .before .before .before .before .before .before .before .before .before .before .pre in
+    let first =
+    up-to (c .before .before .before .before .before .before .before .before .before .before .before .before .before .before .before .before .m .given .1) (c .before .before .before .before .before .before .before .before .before .before .before .before .before .before .before .before .before .before .before .before .factor .ensures) in
+    let part =
+    up-to (c .before .before .before .before .before .next .given .1)
+    (c .before .before .before .before .before .before .before .before .before .factor2 .ensures) in
+    let pre =
+    c .before .before .before .before .before .before .before .before .before .before .before .before .before .before .before .before .before .before .before .before .before .before .before .before .pre in
     let loop = c .before .before .before .before .before .before .before .before .before .before .before .before .before .before .loop in
     let test = c .before .before .before .before .before .before .before .before .before .before .before .before .before .loop-test in
-    readers.more productLoop _ _ _ _ _ first (loop .inv) (test .taken) (pre .1 .2) (pre .1 .3) part _ (readers.times-taken _ ((c .before .before .before .before .before .before .before .before .before .before .before .if1) .taken)) ((c .before .before .join) .ensures))
+    readers.more productLoop _ _ _ _ _ first (loop .inv) (test .taken) (pre .1 .2) (pre .1 .3) part _
+    (readers.times-taken _ ((c .before .before .before .before .before .before .before .before .before .before .before .if1) .taken))
+    ((c .before .before .join) .ensures))
     (λ c.
-    let g = up-to (c .before .before .before .before .before .m .given .1) (c .before .before .before .before .before .before .before .before .before .factor .ensures) in
+    let g =
+    up-to (c .before .before .before .before .before .m .given .1)
+    (c .before .before .before .before .before .before .before .before .before .factor .ensures) in
     let loop = c .before .before .before .loop in
     loop .inv .kept ∙ g .kept)
     (λ c.
-    let first = up-to (c .before .before .before .before .before .m .given .1) (c .before .before .before .before .before .before .before .before .before .factor .ensures) in
+    let first =
+    up-to (c .before .before .before .before .before .m .given .1)
+    (c .before .before .before .before .before .before .before .before .before .factor .ensures) in
     let loop = c .before .before .before .loop in
     let test = c .before .before .loop-test in
     readers.other-sign productLoop _ _ _ _ _ first (loop .inv) (test .taken) (readers.times-left _ ((c .if1) .left)))
     (λ c. search needs)
     (λ c. search (readers.begin-missing productLoop, missing))
-    (λ c. let g = (up-to ((c .before .before .before .m) .given .1) ((c .before .before .before .before .before .before .before .factor) .ensures)) in (c .before .loop) .inv .kept ∙ g .kept)
-    (λ c. readers.ended productLoop _ _ _ _ _ (up-to ((c .before .before .before .m) .given .1) ((c .before .before .before .before .before .before .before .factor) .ensures)) ((c .before .loop) .inv) ((c .loop-test) .left)))
+    (λ c. let g = (up-to ((c .before .before .before .m) .given .1)
+    ((c .before .before .before .before .before .before .before .factor) .ensures)) in (c .before .loop) .inv .kept ∙ g .kept)
+    (λ c. readers.ended productLoop _ _ _ _ _
+    (up-to ((c .before .before .before .m) .given .1) ((c .before .before .before .before .before .before .before .factor) .ensures))
+    ((c .before .loop) .inv) ((c .loop-test) .left)))
     λ t. sum-lts.spec (
       product-below t,
       product.Post,
@@ -213,74 +257,121 @@ pub +factor+product+sum-spec : {M : Type 1} → statement M
     (λ c κs. search needs)
     (λ c. search needs)
     (λ c. search needs)
-    (λ c. readers.begin sumLoop _ _ _ _ _ (up-to ((c .before .m) .given .1) ((c .before .before .before .before .before .product) .ensures)))
+    (λ c. readers.begin sumLoop _ _ _ _ _
+    (up-to ((c .before .m) .given .1) ((c .before .before .before .before .before .product) .ensures)))
     (λ c. search needs)
     (λ c κs. search needs)
     (λ c. search needs)
     (λ c. omega (arith, (c .before .before .before .before .before .before .before .before .before .before .before .before .before .before .pre) .1 .2))
     (λ c.
-    let first = up-to (c .before .before .before .before .before .before .m .given .1) (c .before .before .before .before .before .before .before .before .before .before .product .ensures) in
+    let first =
+    up-to (c .before .before .before .before .before .before .m .given .1)
+    (c .before .before .before .before .before .before .before .before .before .before .product .ensures) in
     let pre = c .before .before .before .before .before .before .before .before .before .before .before .before .before .before .pre in
     let loop = c .before .before .before .before .loop in
     let test = c .before .before .before .loop-test in
     readers.part-start sumLoop _ _ _ _ _ first (loop .inv) (test .taken) (pre .1 .2) (pre .1 .3))
     (λ c.
-    let first = up-to (c .before .before .before .before .before .before .m .given .1) (c .before .before .before .before .before .before .before .before .before .before .product .ensures) in
+    let first =
+    up-to (c .before .before .before .before .before .before .m .given .1)
+    (c .before .before .before .before .before .before .before .before .before .before .product .ensures) in
     let pre = c .before .before .before .before .before .before .before .before .before .before .before .before .before .before .pre in
     let loop = c .before .before .before .before .loop in
     let test = c .before .before .before .loop-test in
     omega (arith, readers.part-start sumLoop _ _ _ _ _ first (loop .inv) (test .taken) (pre .1 .2) (pre .1 .3)))
     (λ c.
-    let first = up-to (c .before .before .before .before .before .before .m .given .1) (c .before .before .before .before .before .before .before .before .before .before .product .ensures) in
+    let first =
+    up-to (c .before .before .before .before .before .before .m .given .1)
+    (c .before .before .before .before .before .before .before .before .before .before .product .ensures) in
     let pre = c .before .before .before .before .before .before .before .before .before .before .before .before .before .before .pre in
     let loop = c .before .before .before .before .loop in
     let test = c .before .before .before .loop-test in
     omega (arith, readers.part-start sumLoop _ _ _ _ _ first (loop .inv) (test .taken) (pre .1 .2) (pre .1 .3)))
     (λ c κs.
-    let first = up-to (c .before .before .before .before .before .before .before .m .given .1) (c .before .before .before .before .before .before .before .before .before .before .before .product .ensures) in
-    let pre = c .before .before .before .before .before .before .before .before .before .before .before .before .before .before .before .pre in
+    let first =
+    up-to (c .before .before .before .before .before .before .before .m .given .1)
+    (c .before .before .before .before .before .before .before .before .before .before .before .product .ensures) in
+    let pre =
+    c .before .before .before .before .before .before .before .before .before .before .before .before .before .before .before .pre in
     let loop = c .before .before .before .before .before .loop in
-    let test = c .before .before .before .before .loop-test in
-    (omega (arith, pre .0, loop .inv .past, test .taken), (omega (arith, test .taken), pre .1 .1, pre .1 .2, readers.part-room sumLoop _ _ _ _ _ first (loop .inv) (test .taken) (pre .1 .2) (pre .1 .3))))
+    let test = c .before .before .before .before .loop-test in (
+      omega (arith, pre .0, loop .inv .past, test .taken),
+      (
+        omega
+            (arith, test .taken),
+        pre .1 .1,
+        pre .1 .2,
+        readers.part-room sumLoop _ _ _ _ _ first (loop .inv) (test .taken) (pre .1 .2)
+            (pre .1 .3),
+      ),
+    ))
     (λ c. search needs)
     (λ c.
-    let g = up-to (c .before .before .before .before .before .before .before .before .before .before .before .before .m .given .1) (c .before .before .before .before .before .before .before .before .before .before .before .before .before .before .before .before .product .ensures) in
+    let g =
+    up-to (c .before .before .before .before .before .before .before .before .before .before .before .before .m .given .1)
+    (c .before .before .before .before .before .before .before .before .before .before .before .before .before .before .before .before .product .ensures) in
     let loop = c .before .before .before .before .before .before .before .before .before .before .loop in
-    let args = c .before .before .before .before .before .before .before .before .before .before .before .before .before .before .before .before .before .before .before .before .args in
+    let args =
+    c .before .before .before .before .before .before .before .before .before .before .before .before .before .before .before .before .before .before .before .before .args in
     let read = c .before .before .before .before .product2 in
     readers.stays (args .k) (loop .stack) (read .last .1 .1 .1 .1 .0) (read .kept .1 .1 .1 .1 .0) (loop .inv .kept) (g .kept))
     (λ c. search (readers.more-missing sumLoop, missing, readers.sum-test))
     (λ c. search needs)
     (λ c κs.
-    let first = up-to (c .before .before .before .before .before .before .before .before .before .before .before .before .before .before .m .given .1) (c .before .before .before .before .before .before .before .before .before .before .before .before .before .before .before .before .before .before .product .ensures) in
+    let first =
+    up-to (c .before .before .before .before .before .before .before .before .before .before .before .before .before .before .m .given .1)
+    (c .before .before .before .before .before .before .before .before .before .before .before .before .before .before .before .before .before .before .product .ensures) in
     let part = up-to (c .before .before .next .given .1) (c .before .before .before .before .before .before .product2 .ensures) in
-    let pre = c .before .before .before .before .before .before .before .before .before .before .before .before .before .before .before .before .before .before .before .before .before .before .pre in
+    let pre =
+    c .before .before .before .before .before .before .before .before .before .before .before .before .before .before .before .before .before .before .before .before .before .before .pre in
     let loop = c .before .before .before .before .before .before .before .before .before .before .before .before .loop in
     let test = c .before .before .before .before .before .before .before .before .before .before .before .loop-test in
     readers.both-room sumLoop _ _ _ _ _ first (loop .inv) (test .taken) (pre .1 .2) (pre .1 .3) part)
     (λ c.
-    let g = up-to (c .before .before .before .before .before .next .given .1) (c .before .before .before .before .before .before .before .before .before .product2 .ensures) in
-    let test = c .before .before .before .before .before .before .before .before .before .before .before .before .before .before .loop-test in
+    let g =
+    up-to (c .before .before .before .before .before .next .given .1)
+    (c .before .before .before .before .before .before .before .before .before .product2 .ensures) in
+    let test =
+    c .before .before .before .before .before .before .before .before .before .before .before .before .before .before .loop-test in
     omega (arith, g .past, g .inside, test .taken))
     (λ c.
-    let first = up-to (c .before .before .before .before .before .before .before .before .before .before .before .before .before .before .before .before .before .m .given .1) (c .before .before .before .before .before .before .before .before .before .before .before .before .before .before .before .before .before .before .before .before .before .product .ensures) in
-    let part = up-to (c .before .before .before .before .before .next .given .1) (c .before .before .before .before .before .before .before .before .before .product2 .ensures) in
-    let pre = c .before .before .before .before .before .before .before .before .before .before .before .before .before .before .before .before .before .before .before .before .before .before .before .before .before .pre in
-    let loop = c .before .before .before .before .before .before .before .before .before .before .before .before .before .before .before .loop in
-    let test = c .before .before .before .before .before .before .before .before .before .before .before .before .before .before .loop-test in
-    let args = c .before .before .before .before .before .before .before .before .before .before .before .before .before .before .before .before .before .before .before .before .before .before .before .before .before .args in
-    readers.more sumLoop _ _ _ _ _ first (loop .inv) (test .taken) (pre .1 .2) (pre .1 .3) part _ (readers.sum-test _ _ (meant (getD (args .s .now) (loop .n) 0)) ((c .before .before .before .before .before .before .before .before .before .before .before .before .joins-sum) .ensures) ((c .before .before .before .before .before .before .before .before .before .before .before .if1) .taken)) ((c .before .before .join) .ensures))
+    let first =
+    up-to (c .before .before .before .before .before .before .before .before .before .before .before .before .before .before .before .before .before .m .given .1) (c .before .before .before .before .before .before .before .before .before .before .before .before .before .before .before .before .before .before .before .before .before .product .ensures) in
+    let part =
+    up-to (c .before .before .before .before .before .next .given .1)
+    (c .before .before .before .before .before .before .before .before .before .product2 .ensures) in
+    let pre =
+    c .before .before .before .before .before .before .before .before .before .before .before .before .before .before .before .before .before .before .before .before .before .before .before .before .before .pre in
+    let loop =
+    c .before .before .before .before .before .before .before .before .before .before .before .before .before .before .before .loop in
+    let test =
+    c .before .before .before .before .before .before .before .before .before .before .before .before .before .before .loop-test in
+    let args =
+    c .before .before .before .before .before .before .before .before .before .before .before .before .before .before .before .before .before .before .before .before .before .before .before .before .before .args in
+    readers.more sumLoop _ _ _ _ _ first (loop .inv) (test .taken) (pre .1 .2) (pre .1 .3) part _
+    (readers.sum-test _ _ (meant (getD (args .s .now) (loop .n) 0))
+    ((c .before .before .before .before .before .before .before .before .before .before .before .before .joins-sum) .ensures)
+    ((c .before .before .before .before .before .before .before .before .before .before .before .if1) .taken))
+    ((c .before .before .join) .ensures))
     (λ c.
-    let g = up-to (c .before .before .before .before .before .before .m .given .1) (c .before .before .before .before .before .before .before .before .before .before .product .ensures) in
+    let g =
+    up-to (c .before .before .before .before .before .before .m .given .1)
+    (c .before .before .before .before .before .before .before .before .before .before .product .ensures) in
     let loop = c .before .before .before .before .loop in
     loop .inv .kept ∙ g .kept)
     (λ c.
-    let first = up-to (c .before .before .before .before .before .before .m .given .1) (c .before .before .before .before .before .before .before .before .before .before .product .ensures) in
+    let first =
+    up-to (c .before .before .before .before .before .before .m .given .1)
+    (c .before .before .before .before .before .before .before .before .before .before .product .ensures) in
     let loop = c .before .before .before .before .loop in
     let test = c .before .before .before .loop-test in
     let args = c .before .before .before .before .before .before .before .before .before .before .before .before .before .before .args in
-    readers.other-sign sumLoop _ _ _ _ _ first (loop .inv) (test .taken) (readers.sum-test _ _ (meant (getD (args .s .now) (loop .n) 0)) ((c .before .joins-sum) .ensures) ((c .if1) .left)))
+    readers.other-sign sumLoop _ _ _ _ _ first (loop .inv) (test .taken)
+    (readers.sum-test _ _ (meant (getD (args .s .now) (loop .n) 0)) ((c .before .joins-sum) .ensures) ((c .if1) .left)))
     (λ c. search needs)
     (λ c. search (readers.begin-missing sumLoop, missing))
-    (λ c. let g = (up-to ((c .before .before .before .m) .given .1) ((c .before .before .before .before .before .before .before .product) .ensures)) in (c .before .loop) .inv .kept ∙ g .kept)
-    (λ c. readers.ended sumLoop _ _ _ _ _ (up-to ((c .before .before .before .m) .given .1) ((c .before .before .before .before .before .before .before .product) .ensures)) ((c .before .loop) .inv) ((c .loop-test) .left))
+    (λ c. let g = (up-to ((c .before .before .before .m) .given .1)
+    ((c .before .before .before .before .before .before .before .product) .ensures)) in (c .before .loop) .inv .kept ∙ g .kept)
+    (λ c. readers.ended sumLoop _ _ _ _ _
+    (up-to ((c .before .before .before .m) .given .1) ((c .before .before .before .before .before .before .before .product) .ensures))
+    ((c .before .loop) .inv) ((c .loop-test) .left))

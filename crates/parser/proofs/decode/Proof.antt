@@ -33,15 +33,20 @@ returns-4 c = by-test (λ byte. code foreign) 44 4 refl (c .before .before .befo
 
 returns-5 : tie.Need-returns-5
 unfolding everyBelow symbol isUnknown isGiven isSingle
-returns-5 c = by-test (λ byte. code foreign) 50 47 refl (c .before .before .before .before .before .before .args .byte) (search needs) (search needs)
+returns-5 c =
+    by-test (λ byte. code foreign) 50 47 refl (c .before .before .before .before .before .before .args .byte) (search needs) (search needs)
 
 returns-6 : tie.Need-returns-6
 unfolding everyBelow symbol isUnknown isGiven isSingle
-returns-6 c = by-test (λ byte. code foreign) 105 12 refl (c .before .before .before .before .before .before .before .before .args .byte) (search needs) (search needs)
+returns-6 c =
+    by-test (λ byte. code foreign) 105 12 refl (c .before .before .before .before .before .before .before .before .args .byte)
+    (search needs) (search needs)
 
 returns-7 : tie.Need-returns-7
 unfolding everyBelow symbol isUnknown isGiven isSingle
-returns-7 c = foreign-test 123 133 124 refl _ (search needs) (search needs) (λ e. c .before .before .before .before .before .before .before .before .match .rest .1 (inr e))
+returns-7 c =
+    foreign-test 123 133 124 refl _ (search needs) (search needs)
+    (λ e. c .before .before .before .before .before .before .before .before .match .rest .1 (inr e))
 
 -- the single signs
 returns-8 : tie.Need-returns-8

@@ -28,4 +28,5 @@ returns c = filled-end _ _ _ _ (c .before .loop .inv .1) (c .before .loop .inv .
 pub decode-all-spec : {M : Type 1} → statement M
 decode-all-spec =
     tie.close
-    (tie.spec Inv-loop μ-loop (λ c. (search needs, filled-start _ _ _ refl, refl)) (λ c. search needs) (λ c κs. search needs) (λ c. search needs) (λ c. search needs) (λ c. search needs) loop-again (λ c. search needs) returns)
+    (tie.spec Inv-loop μ-loop (λ c. (search needs, filled-start _ _ _ refl, refl)) (λ c. search needs) (λ c κs. search needs)
+    (λ c. search needs) (λ c. search needs) (λ c. search needs) loop-again (λ c. search needs) returns)

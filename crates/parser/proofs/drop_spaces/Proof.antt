@@ -16,7 +16,8 @@ abbrev μ-loop : tie.MeasureT-loop
 loop-again : tie.Need-loop-again Inv-loop μ-loop
 loop-again c =
     ⊎-elim
-    (λ w. rw (w .1) (past-sign _ _ _ _ _ (c .before .before .before .loop .inv) (c .before .before .loop-test .taken) (w .0 .taken) (c .before .before .before .before .pre)))
+    (λ w. rw (w .1) (past-sign _ _ _ _ _ (c .before .before .before .loop .inv) (c .before .before .loop-test .taken) (w .0 .taken)
+    (c .before .before .before .before .pre)))
     (λ w. rw (w .1) (past-space _ _ _ _ _ (c .before .before .before .loop .inv) (c .before .before .loop-test .taken) (w .0 .left)))
     (c .if1 .came)
 
@@ -26,4 +27,5 @@ returns c = all-unspaced _ _ _ _ _ (c .before .loop .inv) (c .loop-test .left) (
 pub drop-spaces-spec : {M : Type 1} → statement M
 drop-spaces-spec =
     tie.close
-    (tie.spec Inv-loop μ-loop (λ c. unspacing _ _) (λ c. search needs) (λ c. search needs) (λ c. search needs) (λ c. search needs) (λ c. search needs) loop-again (λ c. search needs) returns)
+    (tie.spec Inv-loop μ-loop (λ c. unspacing _ _) (λ c. search needs) (λ c. search needs) (λ c. search needs) (λ c. search needs)
+    (λ c. search needs) loop-again (λ c. search needs) returns)

@@ -18,7 +18,12 @@ abbrev μ-loop : tie.MeasureT-loop
 μ-loop stack₀ k j i₀ stack i = k - i
 
 loop-again : tie.Need-loop-again Inv-loop μ-loop
-loop-again c = (search needs, filled-more _ _ _ _ (c .before .before .loop .inv .1) _ (omega (arith, c .before .before .before .before .pre .0, c .before .loop-test .taken)) (c .high-letter .ensures), search needs)
+loop-again c = (
+  search needs,
+  filled-more _ _ _ _ (c .before .before .loop .inv .1) _
+      (omega (arith, c .before .before .before .before .pre .0, c .before .loop-test .taken)) (c .high-letter .ensures),
+  search needs,
+)
 
 returns : tie.Need-returns Inv-loop μ-loop
 returns c = fill-end _ _ _ _ _ (c .before .loop .inv .1) (c .before .loop .inv .0) (c .loop-test .left)

@@ -10,13 +10,20 @@ use Rattle.parser.proofs.join_each.Statement.{statement}
 use Rattle.parser.proofs.join_each.Tie as tie
 
 abbrev Inv-loop : tie.InvT-loop
-Inv-loop op stack₀ k word i₀ stack i = (i ≤ k) × (stack ≡ filled i (λ n. joinOf op (getD stack₀ n 0) word) stack₀) × (length stack ≡ length stack₀)
+Inv-loop op stack₀ k word i₀ stack i =
+    (i ≤ k) × (stack ≡ filled i (λ n. joinOf op (getD stack₀ n 0) word) stack₀) × (length stack ≡ length stack₀)
 
 abbrev μ-loop : tie.MeasureT-loop
 μ-loop op stack₀ k word i₀ stack i = k - i
 
 loop-again : tie.Need-loop-again Inv-loop μ-loop
-loop-again c = (search needs, each-more _ (c .before .before .before .before .before .args .stack .now) _ _ _ _ _ (c .before .before .before .loop .inv .1) (c .before .before .loop-test .taken) (c .before .before .before .before .before .pre) (c .combine .ensures), search needs)
+loop-again c = (
+  search needs,
+  each-more _ (c .before .before .before .before .before .args .stack .now) _ _ _ _ _
+      (c .before .before .before .loop .inv .1) (c .before .before .loop-test .taken) (c .before .before .before .before .before .pre)
+      (c .combine .ensures),
+  search needs,
+)
 
 returns : tie.Need-returns Inv-loop μ-loop
 returns c = fill-end _ _ _ _ _ (c .before .loop .inv .1) (c .before .loop .inv .0) (c .loop-test .left)

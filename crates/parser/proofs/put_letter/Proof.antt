@@ -5,9 +5,12 @@ use Rattle.parser.proofs.put_letter.Statement.{statement}
 use Rattle.parser.proofs.put_letter.Tie as tie
 
 returns : tie.Need-returns
-returns c = low-filled _ _ _ _ _ (c .before .before .before .before .before .if1 .taken) (c .before .before .before .low-letter .ensures) (c .before .before .join-word .ensures)
+returns c =
+    low-filled _ _ _ _ _ (c .before .before .before .before .before .if1 .taken) (c .before .before .before .low-letter .ensures)
+    (c .before .before .join-word .ensures)
 
 pub put-letter-spec : {M : Type 1} → statement M
 put-letter-spec =
     tie.close
-    (tie.spec (λ c κs. search needs) (λ c κs. search needs) (λ c κs. search needs) (λ c. search needs) returns (λ c. search needs) (λ c. search needs))
+    (tie.spec (λ c κs. search needs) (λ c κs. search needs) (λ c κs. search needs) (λ c. search needs) returns (λ c. search needs)
+    (λ c. search needs))

@@ -17,15 +17,21 @@ slice-aggregate-copy c =
     copy-size _ _ (c .before .before .before .before .before .before .before .before .before .before .before .before .before .args .words .now) _ _ _ _ (up-to (c .before .before .before .before .n .given .1) (c .before .before .before .before .before .before .before .before .sum .ensures)) (pre .1) (pre .2)
 
 returns : tie.Need-returns
-returns c = missing-whole _ _ (c .before .before .before .before .before .before .before .before .before .args .words .now) (missing _ _ _ _ (c .enum-told .given .1) (c .before .before .before .before .sum .ensures))
+returns c =
+    missing-whole _ _ (c .before .before .before .before .before .before .before .before .before .args .words .now)
+    (missing _ _ _ _ (c .enum-told .given .1) (c .before .before .before .before .sum .ensures))
 
 returns-2 : tie.Need-returns-2
 returns-2 c =
-    let g = up-to (c .before .before .before .before .before .before .before .n .given .1) (c .before .before .before .before .before .before .before .before .before .before .before .sum .ensures) in
+    let g =
+    up-to (c .before .before .before .before .before .before .before .n .given .1)
+    (c .before .before .before .before .before .before .before .before .before .before .before .sum .ensures) in
     read-whole _ _ (c .before .before .before .before .before .before .before .before .before .before .before .before .before .before .before .before .args .words .now) _ _ _ _ g refl (c .before .before .before .before .before .if1 .taken) _ (c .before .before .copy .ensures)
 
 returns-3 : tie.Need-returns-3
-returns-3 c = read-partly _ _ (c .before .before .before .before .before .before .before .before .before .before .before .args .words .now) _ _ _ _ (up-to (c .before .before .n .given .1) (c .before .before .before .before .before .before .sum .ensures)) (c .if1 .left)
+returns-3 c =
+    read-partly _ _ (c .before .before .before .before .before .before .before .before .before .before .before .args .words .now) _ _ _ _
+    (up-to (c .before .before .n .given .1) (c .before .before .before .before .before .before .sum .ensures)) (c .if1 .left)
 
 pub read-with-spec : {M : Type 1} → statement M
 read-with-spec =

@@ -7,12 +7,17 @@ use Rattle.polynomials.proofs.add.Statement.{statement}
 use Rattle.polynomials.proofs.add.Tie as tie
 
 add-into-requires : tie.Need-add-into-requires
-add-into-requires c κs =
-    (search needs, same-is-table _ _ _ (c .before .before .before .copy .ensures) (c .before .before .before .before .before .before .before .before .pre .0) .bits, c .before .before .before .before .before .before .before .before .pre .1 .bits)
+add-into-requires c κs = (
+  search needs,
+  same-is-table _ _ _ (c .before .before .before .copy .ensures)
+      (c .before .before .before .before .before .before .before .before .pre .0) .bits,
+  c .before .before .before .before .before .before .before .before .pre .1 .bits,
+)
 
 returns : tie.Need-returns
 returns c =
-    sum-done _ _ _ _ _ (c .before .before .before .before .before .before .before .before .before .before .before .pre .0) (c .before .before .before .before .before .before .copy .ensures) (c .before .before .add-into .ensures)
+    sum-done _ _ _ _ _ (c .before .before .before .before .before .before .before .before .before .before .before .pre .0)
+    (c .before .before .before .before .before .before .copy .ensures) (c .before .before .add-into .ensures)
 
 pub add-spec : {M : Type 1} → statement M
 add-spec =

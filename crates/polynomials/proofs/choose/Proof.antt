@@ -17,8 +17,12 @@ abbrev μ-loop : tie.MeasureT-loop
 μ-loop t₀ b half p₀ t p = half - p
 
 loop-again : tie.Need-loop-again Inv-loop μ-loop
-loop-again c =
-    (search needs, choose-more _ _ _ (c .before .before .before .before .args .t .now) _ (c .before .before .before .loop .inv .1) (c .before .before .loop-test .taken) (c .before .before .before .before .pre), search needs)
+loop-again c = (
+  search needs,
+  choose-more _ _ _ (c .before .before .before .before .args .t .now) _ (c .before .before .before .loop .inv .1)
+      (c .before .before .loop-test .taken) (c .before .before .before .before .pre),
+  search needs,
+)
 
 returns : tie.Need-returns Inv-loop μ-loop
 returns c =

@@ -22,12 +22,18 @@ slice-write-s : tie.Need-slice-write-s Inv-loop μ-loop
 slice-write-s c = omega (arith, (c .before .before .before .before .pre))
 
 loop-again : tie.Need-loop-again Inv-loop μ-loop
-loop-again c = (search needs, filled-more _ _ _ _ ((c .before .before .loop) .inv .1) _ (omega (arith, (c .before .before .before .before .pre))) ((c .four) .ensures), search needs)
+loop-again c = (
+  search needs,
+  filled-more _ _ _ _ ((c .before .before .loop) .inv .1) _ (omega (arith, (c .before .before .before .before .pre)))
+      ((c .four) .ensures),
+  search needs,
+)
 
 returns : tie.Need-returns Inv-loop μ-loop
 returns c =
     let f : ℕ → ℕ = λ x. wordOf (λ i. bit x (placeOf ((c .before .before .before .args) .a) ((c .before .before .before .args) .b) i)) in
-    filled-end _ f _ _ ((c .before .loop) .inv .1) (omega (arith, (c .before .before .before .pre))) (omega (arith, (c .before .before .before .pre))) ∙ ap (λ (k : ℕ). listed k f) ((c .before .before .before .pre))
+    filled-end _ f _ _ ((c .before .loop) .inv .1) (omega (arith, (c .before .before .before .pre)))
+    (omega (arith, (c .before .before .before .pre))) ∙ ap (λ (k : ℕ). listed k f) ((c .before .before .before .pre))
 
 pub each-four-spec : {M : Type 1} → statement M
 each-four-spec =

@@ -12,7 +12,8 @@ array-borrow-prefix-first c =
 
 slice-aggregate-multiply-with : tie.Need-slice-aggregate-multiply-with
 slice-aggregate-multiply-with c =
-    sym (length-take-le _ _ (count-small _ _ (c .before .before .word-count .ensures) (c .before .before .before .before .before .before .pre .0)))
+    sym (length-take-le _ _
+    (count-small _ _ (c .before .before .word-count .ensures) (c .before .before .before .before .before .before .pre .0)))
 
 array-borrow-prefix-second : tie.Need-array-borrow-prefix-second
 array-borrow-prefix-second c =
@@ -20,13 +21,23 @@ array-borrow-prefix-second c =
 
 slice-aggregate-multiply-with-2 : tie.Need-slice-aggregate-multiply-with-2
 slice-aggregate-multiply-with-2 c =
-    sym (length-take-le _ _ (count-small _ _ (c .before .before .before .word-count .ensures) (c .before .before .before .before .before .before .before .pre .0)))
+    sym (length-take-le _ _
+    (count-small _ _ (c .before .before .before .word-count .ensures) (c .before .before .before .before .before .before .before .pre .0)))
 
 multiply-with-requires : tie.Need-multiply-with-requires
 multiply-with-requires c κs =
     let pre = c .before .before .before .before .before .before .before .pre in
-    let small = count-small _ _ (c .before .before .before .word-count .ensures) (c .before .before .before .before .before .before .before .pre .0) in
-    (pre .0, pre .1, pre .2, pre .3, length-take-le _ _ small ∙ c .before .before .before .word-count .ensures, length-take-le _ _ small ∙ c .before .before .before .word-count .ensures)
+    let small =
+    count-small _ _ (c .before .before .before .word-count .ensures)
+    (c .before .before .before .before .before .before .before .pre .0) in (
+      pre .0,
+      pre .1,
+      pre .2,
+      pre .3,
+      length-take-le _ _ small ∙ c .before .before .before .word-count .ensures,
+      length-take-le _ _ small
+          ∙ c .before .before .before .word-count .ensures,
+    )
 
 pub multiply-spec : {M : Type 1} → statement M
 multiply-spec =

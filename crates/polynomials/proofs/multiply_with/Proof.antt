@@ -8,7 +8,8 @@ use Rattle.polynomials.proofs.multiply_with.Tie as tie
 
 multiply-into-requires : tie.Need-multiply-into-requires
 multiply-into-requires c κs =
-    size-words _ _ _ (c .before .before .before .before .before .before .before .before .take-values .ensures) ∙ sym (size-words _ _ _ (c .before .before .before .before .take-values2 .ensures))
+    size-words _ _ _ (c .before .before .before .before .before .before .before .before .take-values .ensures)
+    ∙ sym (size-words _ _ _ (c .before .before .before .before .take-values2 .ensures))
 
 put-table-requires : tie.Need-put-table-requires
 put-table-requires c κs =

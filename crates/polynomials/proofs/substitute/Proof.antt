@@ -18,7 +18,8 @@ array-borrow-prefix-f c =
 
 slice-aggregate-substitute-with : tie.Need-slice-aggregate-substitute-with
 slice-aggregate-substitute-with c =
-    sym (length-take-le _ _ (count-small _ _ (c .before .before .word-count .ensures) (c .before .before .before .before .before .before .pre .1)))
+    sym (length-take-le _ _
+    (count-small _ _ (c .before .before .word-count .ensures) (c .before .before .before .before .before .before .pre .1)))
 
 array-borrow-prefix-parts : tie.Need-array-borrow-prefix-parts
 array-borrow-prefix-parts c =
@@ -26,13 +27,29 @@ array-borrow-prefix-parts c =
 
 slice-aggregate-substitute-with-2 : tie.Need-slice-aggregate-substitute-with-2
 slice-aggregate-substitute-with-2 c =
-    sym (length-take-le _ _ (omega (arith, count-small _ _ (c .before .before .before .word-count .ensures) (c .before .before .before .before .before .before .before .pre .1))))
+    sym (length-take-le _ _
+    (omega (
+      arith,
+      count-small _ _ (c .before .before .before .word-count .ensures)
+          (c .before .before .before .before .before .before .before .pre .1),
+    )))
 
 substitute-with-requires : tie.Need-substitute-with-requires
 substitute-with-requires c κs =
     let pre = (c .before .before .before .before .before .before .before .before .before .pre) in
-    let small = count-small _ _ ((c .before .before .before .before .before .word-count) .ensures) ((c .before .before .before .before .before .before .before .before .before .pre) .1) in
-    ((pre .0, pre .1, pre .2, pre .3, pre .4, pre .5), (length-take-le _ _ small ∙ (c .before .before .before .before .before .word-count) .ensures, length-take-le _ _ (omega (arith, small)) ∙ ap (λ (k : ℕ). 6 * k) ((c .before .before .before .before .before .word-count) .ensures), search needs, search needs))
+    let small =
+    count-small _ _ ((c .before .before .before .before .before .word-count) .ensures)
+    ((c .before .before .before .before .before .before .before .before .before .pre) .1) in (
+      (pre .0, pre .1, pre .2, pre .3, pre .4, pre .5),
+      (
+        length-take-le _ _ small
+            ∙ (c .before .before .before .before .before .word-count) .ensures,
+        length-take-le _ _ (omega (arith, small))
+            ∙ ap (λ (k : ℕ). 6 * k) ((c .before .before .before .before .before .word-count) .ensures),
+        search needs,
+        search needs,
+      ),
+    )
 
 pub substitute-spec : {M : Type 1} → statement M
 substitute-spec =

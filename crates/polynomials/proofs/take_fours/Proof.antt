@@ -20,7 +20,13 @@ mul-t-2 : tie.Need-mul-t-2 Inv-loop μ-loop
 mul-t-2 c = omega (arith, and-le-r ((c .before .before .args) .word / 2 ^ (4 * (c .before .loop) .q)) 15)
 
 shared-slice-read-t : tie.Need-shared-slice-read-t Inv-loop μ-loop
-shared-slice-read-t c = omega (arith, and-le-r ((c .before .before .before .args) .word / 2 ^ (4 * (c .before .before .loop) .q)) 15, (c .before .before .before .pre) .0)
+shared-slice-read-t c =
+    omega (
+      arith,
+      and-le-r
+          ((c .before .before .before .args) .word / 2 ^ (4 * (c .before .before .loop) .q)) 15,
+      (c .before .before .before .pre) .0,
+    )
 
 slice-write-t : tie.Need-slice-write-t Inv-loop μ-loop
 slice-write-t c = omega (arith, (c .before .before .before .pre) .1, (c .before .before .loop) .inv .2, (c .before .loop-test) .taken)
@@ -28,14 +34,18 @@ slice-write-t c = omega (arith, (c .before .before .before .pre) .1, (c .before 
 loop-again : tie.Need-loop-again Inv-loop μ-loop
 loop-again c = (
   search needs,
-  filled-more _ _ _ _ ((c .before .before .loop) .inv .1) _ (omega (arith, (c .before .before .before .pre) .1, (c .before .loop-test) .taken)) (ap (λ (x : ℕ). getD ((c .before .before .before .args) .s .now) x 0) (and-mask ((c .before .before .before .args) .word / 2 ^ (4 * (c .before .before .loop) .q)) 4)),
+  filled-more _ _ _ _ ((c .before .before .loop) .inv .1) _
+      (omega (arith, (c .before .before .before .pre) .1, (c .before .loop-test) .taken))
+      (ap (λ (x : ℕ). getD ((c .before .before .before .args) .s .now) x 0)
+      (and-mask ((c .before .before .before .args) .word / 2 ^ (4 * (c .before .before .loop) .q)) 4)),
   search needs,
 )
 
 returns : tie.Need-returns Inv-loop μ-loop
 returns c =
     let f : ℕ → ℕ = λ q. getD ((c .before .before .args) .s .now) ((c .before .before .args) .word / 2 ^ (4 * q) % 16) 0 in
-    filled-end _ f _ _ ((c .before .loop) .inv .1) (omega (arith, (c .before .before .pre) .1)) (omega (arith, (c .before .before .pre) .1)) ∙ ap (λ (k : ℕ). listed k f) ((c .before .before .pre) .1)
+    filled-end _ f _ _ ((c .before .loop) .inv .1) (omega (arith, (c .before .before .pre) .1)) (omega (arith, (c .before .before .pre) .1))
+    ∙ ap (λ (k : ℕ). listed k f) ((c .before .before .pre) .1)
 
 pub take-fours-spec : {M : Type 1} → statement M
 take-fours-spec =

@@ -19,16 +19,27 @@ part-take-values-end c =
     part-fits _ _ _ _ _ (c .pow2 .ensures) (c .before .if1 .taken) (c .before .before .before .before .pre .2)
 
 take-values-requires : tie.Need-take-values-requires
-take-values-requires c κs =
-    (c .before .before .before .before .before .before .pre .0, handed-table _ _ _ (c .before .before .before .before .before .before .args .handed .now) (c .before .before .pow2 .ensures) (part-fits _ _ _ _ _ (c .before .before .pow2 .ensures) (c .before .before .before .if1 .taken) (c .before .before .before .before .before .before .pre .2)) (c .before .before .before .before .before .before .pre .3), c .before .before .before .before .before .before .pre .4)
+take-values-requires c κs = (
+  c .before .before .before .before .before .before .pre .0,
+  handed-table _ _ _
+      (c .before .before .before .before .before .before .args .handed .now) (c .before .before .pow2 .ensures)
+      (part-fits _ _ _ _ _ (c .before .before .pow2 .ensures) (c .before .before .before .if1 .taken)
+      (c .before .before .before .before .before .before .pre .2))
+      (c .before .before .before .before .before .before .pre .3),
+  c .before .before .before .before .before .before .pre .4,
+)
 
 returns : tie.Need-returns
 returns c =
-    unknown-part _ _ _ (c .before .before .before .before .before .before .before .before .before .args .handed .now) (c .before .before .before .before .before .pow2 .ensures) _ _ _ (c .before .before .before .before .before .before .if1 .taken) (c .before .before .take-values .ensures)
+    unknown-part _ _ _ (c .before .before .before .before .before .before .before .before .before .args .handed .now)
+    (c .before .before .before .before .before .pow2 .ensures) _ _ _ (c .before .before .before .before .before .before .if1 .taken)
+    (c .before .before .take-values .ensures)
 
 returns-2 : tie.Need-returns-2
 returns-2 c =
-    given-part _ _ _ _ _ (c .before .before .before .before .before .before .before .args .handed .now) _ (c .before .before .before .before .if1 .left) (c .before .before .letter .ensures) (c .before .before .before .before .before .before .before .pre .4)
+    given-part _ _ _ _ _ (c .before .before .before .before .before .before .before .args .handed .now) _
+    (c .before .before .before .before .if1 .left) (c .before .before .letter .ensures)
+    (c .before .before .before .before .before .before .before .pre .4)
 
 pub take-part-spec : {M : Type 1} → statement M
 take-part-spec =

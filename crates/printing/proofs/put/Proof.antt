@@ -27,7 +27,12 @@ put-spec =
     (λ c. search needs)
     (λ c. search needs)
     (λ c. search needs)
-    (λ c. (omega arith, simp length-set (c .before .before .loop .inv .1), put-more _ _ _ _ _ (omega arith) (omega arith) (c .before .before .loop .inv .2)))
+    (λ c. (
+      omega arith,
+      simp length-set (c .before .before .loop .inv .1),
+      put-more _ _ _ _ _ (omega arith) (omega arith)
+          (c .before .before .loop .inv .2),
+    ))
     (λ c. search needs)
     (λ c. search needs)
     (λ c. put-all _ _ _ _ _ (c .loop-test .left) (c .before .loop .inv .2)))

@@ -11,7 +11,8 @@ use Rattle.printing.proofs.put_hexadecimal.Statement.{statement}
 use Rattle.printing.proofs.put_hexadecimal.Tie as tie
 
 abbrev Inv-loop : tie.InvT-loop
-Inv-loop out₀ at bytes i₀ out i = (i ≤ length bytes) × (length out ≡ length out₀) × Put out₀ at (hexadecimal (take i bytes)) (at + 2 * i) out
+Inv-loop out₀ at bytes i₀ out i =
+    (i ≤ length bytes) × (length out ≡ length out₀) × Put out₀ at (hexadecimal (take i bytes)) (at + 2 * i) out
 
 abbrev μ-loop : tie.MeasureT-loop
 μ-loop out₀ at bytes i₀ out i = length bytes - i
@@ -33,7 +34,12 @@ put-hexadecimal-spec =
     (λ c. simp length-set (omega arith))
     (λ c. search needs)
     (λ c. search needs)
-    (λ c. (omega arith, simp length-set (search needs), hex-more _ _ _ _ _ (omega arith) (omega arith) (c .before .digit-byte .ensures) (c .digit-byte2 .ensures) (c .before .before .before .before .loop .inv .2)))
+    (λ c. (
+      omega arith,
+      simp length-set (search needs),
+      hex-more _ _ _ _ _ (omega arith) (omega arith) (c .before .digit-byte .ensures)
+          (c .digit-byte2 .ensures) (c .before .before .before .before .loop .inv .2),
+    ))
     (λ c. search needs)
     (λ c. search needs)
     (λ c. search needs)

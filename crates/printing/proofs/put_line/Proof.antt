@@ -19,4 +19,5 @@ put-line-spec =
     room
     (λ c. omega (arith, room c))
     (λ c. search needs)
-    (λ c. put-one (c .before .before .put-hexadecimal .ensures) (omega (arith, room c, put-length (c .before .before .put-hexadecimal .ensures))) 10))
+    (λ c. put-one (c .before .before .put-hexadecimal .ensures)
+    (omega (arith, room c, put-length (c .before .before .put-hexadecimal .ensures))) 10))

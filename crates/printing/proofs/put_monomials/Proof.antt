@@ -14,8 +14,15 @@ abbrev μ-loop : tie.MeasureT-loop
 μ-loop out₀ from codes at₀ p₀ p-end out at p = length codes - p
 
 put-monomial-requires : tie.Need-put-monomial-requires Inv-loop μ-loop
-put-monomial-requires c κs =
-    (omega (arith, (c .wide) .ensures, (c .before .shared-slice-known2) .given ((c .before .before .before .before .loop) .p)), search line-fits)
+put-monomial-requires c κs = (
+  omega (
+    arith,
+    (c .wide) .ensures,
+    (c .before .shared-slice-known2) .given
+        ((c .before .before .before .before .loop) .p),
+  ),
+  search line-fits,
+)
 
 same-length : tie.Need-same-length Inv-loop μ-loop
 same-length c = (c .before .loop) .inv .long

@@ -13,5 +13,10 @@ put-refusal-spec =
     (λ c. search needs)
     (λ c κs. search needs)
     (λ c κs. search needs)
-    (λ c. put-length (c .before .before .put-number .ensures .0) ∙ put-length (c .before .before .before .before .before .before .put .ensures))
-    (λ c. (put-both (c .before .before .before .before .before .before .put .ensures) (c .before .before .put-number .ensures .0), omega (arith, c .before .before .before .before .before .before .put .ensures .place))))
+    (λ c. put-length (c .before .before .put-number .ensures .0)
+    ∙ put-length (c .before .before .before .before .before .before .put .ensures))
+    (λ c. (
+      put-both (c .before .before .before .before .before .before .put .ensures) (c .before .before .put-number .ensures .0),
+      omega
+          (arith, c .before .before .before .before .before .before .put .ensures .place),
+    )))

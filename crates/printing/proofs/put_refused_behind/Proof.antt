@@ -16,5 +16,8 @@ put-refused-behind-spec =
     (λ c κs. search needs)
     (λ c. search needs)
     (λ c. search needs)
-    (λ c. simp length-set (put-length (c .before .before .put-number .ensures .0) ∙ put-length (c .before .before .before .before .before .before .put-refusal .ensures .0)))
-    (λ c. refused-behind-put _ _ (c .before .before .before .before .before .before .put-refusal .ensures .0) (c .before .before .put-number .ensures .0) (omega arith)))
+    (λ c. simp length-set
+    (put-length (c .before .before .put-number .ensures .0)
+    ∙ put-length (c .before .before .before .before .before .before .put-refusal .ensures .0)))
+    (λ c. refused-behind-put _ _ (c .before .before .before .before .before .before .put-refusal .ensures .0)
+    (c .before .before .put-number .ensures .0) (omega arith)))

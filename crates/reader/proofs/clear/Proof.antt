@@ -18,7 +18,8 @@ loop-again : tie.Need-loop-again Inv-loop μ-loop
 loop-again c = (search needs, filled-more _ _ _ _ (c .before .loop .inv .1) _ (c .loop-test .taken) refl, search needs)
 
 returns : tie.Need-returns Inv-loop μ-loop
-returns c = filled-end _ _ _ _ (c .before .loop .inv .1) (c .before .loop .inv .0) (c .loop-test .left) ∙ listed-tabulate _ _ _ (λ i l. refl)
+returns c =
+    filled-end _ _ _ _ (c .before .loop .inv .1) (c .before .loop .inv .0) (c .loop-test .left) ∙ listed-tabulate _ _ _ (λ i l. refl)
 
 pub clear-spec : {M : Type 1} → statement M
 clear-spec =

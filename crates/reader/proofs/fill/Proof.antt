@@ -18,7 +18,9 @@ abbrev μ-loop : tie.MeasureT-loop
 μ-loop s u g condition₀ answers₀ k at₀ condition answers at = length s - at
 
 -- the record that was found ends within the bytes
-inside : (c : tie.Else1 Inv-loop μ-loop) → c .before .before .before .loop .at + c .before .size-at .result ≤ length (c .before .before .before .before .before .before .before .before .args .s .now)
+inside : (c : tie.Else1 Inv-loop μ-loop)
+    → c .before .before .before .loop .at + c .before .size-at .result ≤ length
+    (c .before .before .before .before .before .before .before .before .args .s .now)
 inside c = fits-at _ _ (c .before .before .before .loop .inv .0 .inside) (c .before .size-at .ensures)
 
 pub fill-spec : {M : Type 1} → statement M
@@ -42,10 +44,13 @@ fill-spec =
     fill-lending _ _ _ _ _ _ _ (f .before .before .before .loop .inv .0) (f .before .size-at .ensures) (f .if1 .left) refl of-k
     (f .before .before .before .loop .inv .0 .long ∙ f .before .before .before .before .before .before .before .before .pre .1 ∙ sym of-k))
     (λ c. let f = c .before .before .before .before .before .before .before .before .before in omega (arith, inside f, f .if1 .left))
-    (λ c. put-long _ _ _ _ (c .before .before .before .before .before .before .put-monomial .ensures .0) ∙ c .before .before .before .before .before .before .before .before .before .before .before .before .before .loop .inv .0 .long)
-    (λ c. put-long _ _ _ _ (c .before .before .before .before .before .before .put-monomial .ensures .1) ∙ c .before .before .before .before .before .before .before .before .before .before .before .before .before .loop .inv .1 .long)
+    (λ c. put-long _ _ _ _ (c .before .before .before .before .before .before .put-monomial .ensures .0)
+    ∙ c .before .before .before .before .before .before .before .before .before .before .before .before .before .loop .inv .0 .long)
+    (λ c. put-long _ _ _ _ (c .before .before .before .before .before .before .put-monomial .ensures .1)
+    ∙ c .before .before .before .before .before .before .before .before .before .before .before .before .before .loop .inv .1 .long)
     (λ c. (search fill-end, search fill-end))
-    (λ c. let f = c .before .before .before .before .before .before .before .before .before .before in omega (arith, inside f, f .if1 .left))
+    (λ c. let f = c .before .before .before .before .before .before .before .before .before .before in omega
+    (arith, inside f, f .if1 .left))
     (λ c. (search fill-next, search fill-next))
     (λ c. c .before .loop .inv .0 .long)
     (λ c. c .before .loop .inv .1 .long)

@@ -9,8 +9,12 @@ use Rattle.reader.proofs.put_monomial.Statement.{statement}
 use Rattle.reader.proofs.put_monomial.Tie as tie
 
 -- the byte's index
-small : (c : tie.After-wide) → (c .wide .result * c .before .before .before .before .before .before .before .before .before .before .before .args .k ≤ 10240) × (c .before .before .before .mask-of2 .result < 1024)
-small c = put-small _ _ _ _ (c .before .before .before .before .before .before .before .before .before .before .before .pre) (c .before .before .before .before .before .before .match .keys2) (c .wide .ensures) (c .before .before .before .mask-of2 .ensures)
+small : (c : tie.After-wide)
+    → (c .wide .result * c .before .before .before .before .before .before .before .before .before .before .before .args .k ≤ 10240)
+    × (c .before .before .before .mask-of2 .result < 1024)
+small c =
+    put-small _ _ _ _ (c .before .before .before .before .before .before .before .before .before .before .before .pre)
+    (c .before .before .before .before .before .before .match .keys2) (c .wide .ensures) (c .before .before .before .mask-of2 .ensures)
 
 pub put-monomial-spec : {M : Type 1} → statement M
 put-monomial-spec =
@@ -18,13 +22,21 @@ put-monomial-spec =
     (tie.spec
     (λ c. search needs)
     (λ c. omega (arith, long-2 _ (c .before .before .before .before .before .before .before .pre .whole) (c .before .before .match .keys1)))
-    (λ c. omega (arith, long-2 _ (c .before .before .before .before .before .before .before .before .pre .whole) (c .before .before .before .match .keys1)))
+    (λ c. omega (
+      arith,
+      long-2 _ (c .before .before .before .before .before .before .before .before .pre .whole)
+          (c .before .before .before .match .keys1),
+    ))
     (λ c κs. search needs)
     (λ c κs. search needs)
     (λ c. omega (arith, long-3 _ (c .before .before .before .before .before .before .pre .whole) (c .before .match .keys2)))
     (λ c. omega (arith, long-3 _ (c .before .before .before .before .before .before .before .pre .whole) (c .before .before .match .keys2)))
     (λ c κs. search needs)
-    (λ c. omega (arith, long-3 _ (c .before .before .before .before .before .before .before .before .before .before .pre .whole) (c .before .before .before .before .before .match .keys2)))
+    (λ c. omega (
+      arith,
+      long-3 _ (c .before .before .before .before .before .before .before .before .before .before .pre .whole)
+          (c .before .before .before .before .before .match .keys2),
+    ))
     (λ c κs. search needs)
     (λ c. omega (arith, small c))
     (λ c. omega (arith, small c))

@@ -9,8 +9,12 @@ use Rattle.reader.proofs.read_entry.Tie as tie
 
 read-into-requires : tie.Need-read-into-requires
 read-into-requires c κs =
-    let e = c .before .before .before .before .before .survey-entry .ensures in
-    (sym (ap (λ (x : Survey). x .refusal) e) ∙ c .before .before .before .if1 .left, ap (λ (x : Survey). x .heading) e, ap (λ (x : Survey). x .verdict) e)
+    let e = c .before .before .before .before .before .survey-entry .ensures in (
+      sym (ap (λ (x : Survey). x .refusal) e)
+          ∙ c .before .before .before .if1 .left,
+      ap (λ (x : Survey). x .heading) e,
+      ap (λ (x : Survey). x .verdict) e,
+    )
 
 pub read-entry-spec : {M : Type 1} → statement M
 read-entry-spec =

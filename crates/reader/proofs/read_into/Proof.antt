@@ -13,7 +13,8 @@ size c = search size-small
 
 -- both buffers have room
 fits : (c : tie.After-answer-room)
-    → (c .before .before .before .pow2 .result ≤ length (c .before .before .before .before .before .before .before .args .condition .now)) × (c .answer-room .result ≤ length (c .before .before .before .before .before .before .before .args .answers .now))
+    → (c .before .before .before .pow2 .result ≤ length (c .before .before .before .before .before .before .before .args .condition .now))
+    × (c .answer-room .result ≤ length (c .before .before .before .before .before .before .before .args .answers .now))
 fits c = (search condition-fits, search answers-fits)
 
 pub read-into-spec : {M : Type 1} → statement M
@@ -47,7 +48,8 @@ read-into-spec =
     (λ c. let f = c .before .before .before .before .before .before .before .before .before .before .before .before .before .before .before in
     let asked = f .before .before .before .before .before .before .before .pre in
     let filled = c .before .before .before .before .fill .ensures in
-    let condition-cleared = c .before .before .before .before .before .before .before .before .before .before .before .before .before .clear .ensures in
+    let condition-cleared =
+    c .before .before .before .before .before .before .before .before .before .before .before .before .before .clear .ensures in
     let answers-cleared = c .before .before .before .before .before .before .before .before .before .clear2 .ensures in
     read-done _ (asked .0) (asked .1) _ _ (f .before .before .before .pow2 .ensures) (f .before .before .room-refusal .ensures)
     (f .before .if1 .left) (asked .2) (f .answer-room .ensures) condition-cleared (filled .0) answers-cleared (filled .1)))

@@ -17,7 +17,8 @@ abbrev μ-loop : tie.MeasureT-loop
 μ-loop s route u g masks states at₀ seen₀ at seen = length s - at
 
 -- the record that was found ends within the bytes
-inside : (c : tie.Else1 Inv-loop μ-loop) → c .before .before .before .loop .at + c .before .size-at .result ≤ length (c .before .before .before .before .before .args .s .now)
+inside : (c : tie.Else1 Inv-loop μ-loop)
+    → c .before .before .before .loop .at + c .before .size-at .result ≤ length (c .before .before .before .before .before .args .s .now)
 inside c = fits-at _ _ (c .before .before .before .loop .inv .inside) (c .before .size-at .ensures)
 
 pub gather-spec : {M : Type 1} → statement M
@@ -34,7 +35,12 @@ gather-spec =
     (λ c. omega arith)
     (λ c. omega (arith, inside c))
     (λ c. omega (arith, inside c))
-    (λ c κs. (c .before .before .before .before .before .before .pre, lent-whole _ _ (c .before .before .size-at .ensures) refl, lent-some _ _ (c .before .before .size-at .ensures) refl (c .before .if1 .left)))
+    (λ c κs. (
+      c .before .before .before .before .before .before .pre,
+      lent-whole _ _
+          (c .before .before .size-at .ensures) refl,
+      lent-some _ _ (c .before .before .size-at .ensures) refl (c .before .if1 .left),
+    ))
     (λ c κs. search needs)
     (λ c. search gather-end)
     (λ c. let found = c .before .before .before .before in omega (arith, inside found, found .if1 .left))

@@ -18,7 +18,11 @@ see-spec =
     (λ c. omega (arith, long-3 _ (c .before .before .before .before .pre .1) (c .before .match .keys2)))
     (λ c κs. search needs)
     (λ c. omega (arith, long-3 _ (c .before .before .before .before .before .before .pre .1) (c .before .before .before .match .keys2)))
-    (λ c. omega (arith, long-3 _ (c .before .before .before .before .before .before .before .pre .1) (c .before .before .before .before .match .keys2)))
+    (λ c. omega (
+      arith,
+      long-3 _ (c .before .before .before .before .before .before .before .pre .1)
+          (c .before .before .before .before .match .keys2),
+    ))
     (λ c κs. search needs)
     (λ c. omega (arith, c .before .before .before .wide .ensures, c .before .before .before .before .before .before .before .shared-slice-known .given 1))
     (λ c κs. search needs)
@@ -30,7 +34,11 @@ see-spec =
     (λ c κs. search needs)
     (λ c. omega (arith, long-5 _ (c .before .before .before .before .before .pre .1) (c .before .before .match .keys4)))
     (λ c κs. search needs)
-    (λ c. omega (arith, long-5 _ (c .before .before .before .before .before .before .before .pre .1) (c .before .before .before .before .match .keys4)))
+    (λ c. omega (
+      arith,
+      long-5 _ (c .before .before .before .before .before .before .before .pre .1)
+          (c .before .before .before .before .match .keys4),
+    ))
     (λ c κs. search needs)
     (λ c κs. search needs)
     (λ c κs. search needs)

@@ -21,10 +21,13 @@ Inv-loop piece kept₀ kept-count last-route out₀ read written-before count₀
     × Advances read written-before (carried last-route kept-count kept₀) (take at piece) (read + at) written (carried last count kept)
 
 abbrev μ-loop : tie.MeasureT-loop
-μ-loop piece kept₀ kept-count last-route out₀ read written-before count₀ last₀ written₀ at₀ kept out count last written at = length piece - at
+μ-loop piece kept₀ kept-count last-route out₀ read written-before count₀ last₀ written₀ at₀ kept out count last written at =
+    length piece - at
 
 -- some bytes of what is left are used
-used : (c : tie.After-feed Inv-loop μ-loop) → (0 < c .feed .result .used) × (c .before .before .before .before .before .loop .at + c .feed .result .used ≤ length (c .before .before .before .before .before .before .before .before .before .before .args .piece .now))
+used : (c : tie.After-feed Inv-loop μ-loop) → (0 < c .feed .result .used)
+    × (c .before .before .before .before .before .loop .at + c .feed .result .used ≤ length
+    (c .before .before .before .before .before .before .before .before .before .before .args .piece .now))
 used c =
     let at = c .before .before .before .before .before in
     let piece = at .before .before .before .before .before .args .piece .now in
@@ -32,15 +35,25 @@ used c =
     (feeds-some _ _ _ _ _ _ _ _ (c .feed .ensures) (omega arith) (omega arith), omega (arith, c .feed .ensures .took .within))
 
 room : tie.Need-write-out-requires Inv-loop μ-loop
-room c κs = let fed = c .before .before .before .before .before in omega (arith, fed .feed .ensures .took .prints .inside, put-length (fed .feed .ensures .took .prints))
+room c κs =
+    let fed =
+    c .before .before .before .before .before in omega
+    (arith, fed .feed .ensures .took .prints .inside, put-length (fed .feed .ensures .took .prints))
 
 loop-again : tie.Need-loop-again Inv-loop μ-loop
 loop-again c =
     let fed = c .before .before .before .before .before .before .before .before in
     let at = fed .before .before .before .before .before in
     let took = fed .feed .ensures .took in
-    let written = c .before .before .write-out .ensures (c .before .if2 .left) in
-    (used fed .1, took .few, took .same ∙ at .loop .inv .2, put-length (took .prints) ∙ at .loop .inv .3, piece-more _ _ _ _ _ _ _ _ _ _ _ _ _ (fed .feed .result) (at .loop .inv .4) (fed .feed .ensures) written (used fed .1))
+    let written = c .before .before .write-out .ensures (c .before .if2 .left) in (
+      used fed .1,
+      took .few,
+      took .same ∙ at .loop .inv .2,
+      put-length (took .prints)
+          ∙ at .loop .inv .3,
+      piece-more _ _ _ _ _ _ _ _ _ _ _ _ _ (fed .feed .result) (at .loop .inv .4) (fed .feed .ensures) written
+          (used fed .1),
+    )
 
 returns : tie.Need-returns-3 Inv-loop μ-loop
 returns c =
@@ -55,8 +68,22 @@ print-piece-spec =
     μ-loop
     (λ c. search needs)
     (λ c κs. search needs)
-    (λ c. (search needs, (λ f. absurd (true≢false (sym (c .stopped .ensures .0) ∙ f)), λ f. absurd (true≢false (sym (c .stopped .ensures .0) ∙ f)))))
-    (λ c. (search needs, search needs, search needs, search needs, piece-starts _ _ _ (c .before .before .before .before .args .piece .now)))
+    (λ c. (
+      search needs,
+      (
+        λ f. absurd (true≢false (sym (c .stopped .ensures .0) ∙ f)),
+        λ f. absurd
+            (true≢false (sym (c .stopped .ensures .0) ∙ f)),
+      ),
+    ))
+    (λ c. (
+      search needs,
+      search needs,
+      search needs,
+      search needs,
+      piece-starts _ _ _
+          (c .before .before .before .before .args .piece .now),
+    ))
     (λ c. search needs)
     (λ c. search needs)
     (λ c. search needs)
@@ -65,7 +92,14 @@ print-piece-spec =
     (λ c κs. search needs)
     (λ c. search needs)
     (λ c. search needs)
-    (λ c. (search needs, (λ f. absurd (true≢false (sym (c .stopped2 .ensures .0) ∙ f)), λ f. absurd (true≢false (sym (c .stopped2 .ensures .0) ∙ f)))))
+    (λ c. (
+      search needs,
+      (
+        λ f. absurd (true≢false (sym (c .stopped2 .ensures .0) ∙ f)),
+        λ f. absurd
+            (true≢false (sym (c .stopped2 .ensures .0) ∙ f)),
+      ),
+    ))
     (λ c. omega (arith, used (c .before .before .before .before .before .before .before .before)))
     (λ c. omega (arith, used (c .before .before .before .before .before .before .before .before)))
     loop-again

@@ -18,8 +18,14 @@ within c = sized (c .read-some .result) (sym (c .read-some .kept .1 .0)) (c .rea
 returns : tie.Need-returns
 returns c =
     let read = c .before .before .before .before .before .before .before .before .before .before in
-    let taken = c .before .before .before .before .take-got .ensures in
-    (taken .0, (λ f. takes-read _ _ _ _ (read .read-some .result) _ _ _ _ (within read) (taken .1 f), λ f g. takes-forward _ _ _ _ (read .read-some .result) _ _ _ _ (within read) (taken .1 f) g))
+    let taken = c .before .before .before .before .take-got .ensures in (
+      taken .0,
+      (
+        λ f. takes-read _ _ _ _ (read .read-some .result) _ _ _ _ (within read) (taken .1 f),
+        λ f g. takes-forward _ _ _ _
+            (read .read-some .result) _ _ _ _ (within read) (taken .1 f) g,
+      ),
+    )
 
 pub read-piece-spec : {M : Type 1} → statement M
 read-piece-spec =

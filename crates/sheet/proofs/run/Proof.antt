@@ -14,12 +14,15 @@ use Rattle.sheet.proofs.run.Tie as tie
 
 abbrev Inv-loop : tie.InvT-loop
 Inv-loop input₀ kept₀ out₀ going₀ count₀ last₀ read₀ written₀ input kept out going count last read written =
-    (count ≤ 301) × (read < 18446744073709551616) × (length input ≡ length input₀) × (length kept ≡ length kept₀) × (length out ≡ length out₀) × Reached read written (carried last count kept)
+    (count ≤ 301) × (read < 18446744073709551616) × (length input ≡ length input₀) × (length kept ≡ length kept₀)
+    × (length out ≡ length out₀) × Reached read written (carried last count kept)
 
 abbrev μ-loop : tie.MeasureT-loop
-μ-loop input₀ kept₀ out₀ going₀ count₀ last₀ read₀ written₀ input kept out going count last read written = cond going (18446744073709551616 - read) 0
+μ-loop input₀ kept₀ out₀ going₀ count₀ last₀ read₀ written₀ input kept out going count last read written =
+    cond going (18446744073709551616 - read) 0
 
-less : (g g′ : Bool) (read read′ : ℕ) → g ≡ true → read < 18446744073709551616 → (g′ ≡ true → read < read′) → cond g′ (18446744073709551616 - read′) 0 < cond g (18446744073709551616 - read) 0
+less : (g g′ : Bool) (read read′ : ℕ) → g ≡ true → read < 18446744073709551616 → (g′ ≡ true → read < read′)
+    → cond g′ (18446744073709551616 - read′) 0 < cond g (18446744073709551616 - read) 0
 less false g′ read read′ e h l = absurd (false≢true e)
 less true false read read′ e h l = omega arith
 less true true read read′ e h l = omega (arith, l refl)
@@ -31,13 +34,21 @@ loop-less : tie.Need-loop-less Inv-loop μ-loop
 loop-less c =
     let turn = c .before .before .before .before .before .before .before in
     let at = turn .before .before .before .before .before in
-    less _ _ _ _ (turn .before .before .before .before .loop-test .taken) (at .loop .inv .1) (turn .read-piece .ensures .1 .1 (c .if1 .left))
+    less _ _ _ _ (turn .before .before .before .before .loop-test .taken) (at .loop .inv .1)
+    (turn .read-piece .ensures .1 .1 (c .if1 .left))
 
 loop-again : tie.Need-loop-again Inv-loop μ-loop
 loop-again c =
     let turn = c .before .before .before .before .before .before .before in
-    let at = turn .before .before .before .before .before in
-    (turn .read-piece .ensures .0, search needs, search needs, search needs, search needs, reached-more (at .loop .inv .5) (turn .read-piece .ensures .1 .0 (c .if1 .left)))
+    let at = turn .before .before .before .before .before in (
+      turn .read-piece .ensures .0,
+      search needs,
+      search needs,
+      search needs,
+      search needs,
+      reached-more (at .loop .inv .5)
+          (turn .read-piece .ensures .1 .0 (c .if1 .left)),
+    )
 
 room : tie.Need-write-out-requires Inv-loop μ-loop
 room c κs = let done = c .before .before .before .finish .ensures in omega (arith, done .inside, put-length done)
@@ -45,7 +56,8 @@ room c κs = let done = c .before .before .before .finish .ensures in omega (ari
 returns-2 : tie.Need-returns-2 Inv-loop μ-loop
 returns-2 c =
     let done = c .before .before .before .before in
-    λ f. reached-end (done .before .before .before .before .loop .inv .5) (omega (arith, c .write-out .ensures f, done .finish .ensures .place))
+    λ f. reached-end (done .before .before .before .before .loop .inv .5)
+    (omega (arith, c .write-out .ensures f, done .finish .ensures .place))
 
 pub run-spec : {M : Type 1} → statement M
 run-spec =
@@ -53,7 +65,15 @@ run-spec =
     (tie.spec
     Inv-loop
     μ-loop
-    (λ c. (search needs, search needs, search needs, search needs, search needs, reached-start (c .before .before .before .args .kept .now)))
+    (λ c. (
+      search needs,
+      search needs,
+      search needs,
+      search needs,
+      search needs,
+      reached-start
+          (c .before .before .before .args .kept .now),
+    ))
     (λ c κs. search needs)
     (λ c κs. search needs)
     (λ c. search needs)

@@ -31,7 +31,8 @@ take-got-spec =
     tie.close
     (tie.spec
     (λ c. search needs)
-    (λ c. sym (length-take-le _ _ (within (c .before .before .got .given .1) (c .before .before .before .before .before .before .before .pre .0) .1)))
+    (λ c. sym (length-take-le _ _
+    (within (c .before .before .got .given .1) (c .before .before .before .before .before .before .before .pre .0) .1)))
     (λ c κs. search needs)
     (λ c. search needs)
     (λ c. search needs)

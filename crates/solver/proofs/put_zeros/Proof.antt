@@ -13,13 +13,19 @@ use Rattle.solver.proofs.put_zeros.Statement.{statement}
 use Rattle.solver.proofs.put_zeros.Tie as tie
 
 abbrev Inv-loop : tie.InvT-loop
-Inv-loop u words₀ x₀ words x = (x ≤ u) × (words ≡ wordsOf (length words₀) (λ p. bitAt words₀ (zeroChoice x p))) × (length words ≡ length words₀)
+Inv-loop u words₀ x₀ words x =
+    (x ≤ u) × (words ≡ wordsOf (length words₀) (λ p. bitAt words₀ (zeroChoice x p))) × (length words ≡ length words₀)
 
 abbrev μ-loop : tie.MeasureT-loop
 μ-loop u words₀ x₀ words x = u - x
 
 loop-holds : tie.Need-loop-holds Inv-loop μ-loop
-loop-holds c = (search needs, zeros-start _ (c .before .args .words .now) (machine-words _ (c .before .args .words .now) refl (λ i. omega (arith, c .slice-known .given i))) refl, refl)
+loop-holds c = (
+  search needs,
+  zeros-start _ (c .before .args .words .now)
+      (machine-words _ (c .before .args .words .now) refl (λ i. omega (arith, c .slice-known .given i))) refl,
+  refl,
+)
 
 put-zero-requires : tie.Need-put-zero-requires Inv-loop μ-loop
 put-zero-requires c κs =
@@ -30,8 +36,12 @@ loop-again : tie.Need-loop-again Inv-loop μ-loop
 loop-again c =
     let start = c .before .before .before .before .before .before .before in
     let turn = c .before .before .before .before .before in
-    let after-put-zero = c .before .before in
-    (search needs, zeros-more _ (start .args .words .now) _ _ (turn .loop .inv .1) (after-put-zero .put-zero .ensures), size-words _ _ _ (after-put-zero .put-zero .ensures) ∙ turn .loop .inv .2)
+    let after-put-zero = c .before .before in (
+      search needs,
+      zeros-more _ (start .args .words .now) _ _ (turn .loop .inv .1) (after-put-zero .put-zero .ensures),
+      size-words _ _ _
+          (after-put-zero .put-zero .ensures) ∙ turn .loop .inv .2,
+    )
 
 returns : tie.Need-returns Inv-loop μ-loop
 returns c =
@@ -39,4 +49,6 @@ returns c =
     zeros-end _ _ (start .args .words .now) _ (omega (arith, c .before .loop .inv .0, c .loop-test .left)) (c .before .loop .inv .1)
 
 pub put-zeros-spec : {M : Type 1} → statement M
-put-zeros-spec = tie.close (tie.spec Inv-loop μ-loop loop-holds put-zero-requires (λ c. search needs) (λ c. search needs) loop-again (λ c. search needs) returns)
+put-zeros-spec =
+    tie.close (tie.spec Inv-loop μ-loop loop-holds put-zero-requires (λ c. search needs) (λ c. search needs) loop-again
+    (λ c. search needs) returns)

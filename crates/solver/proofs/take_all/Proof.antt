@@ -52,14 +52,24 @@ mul-take-values c =
     let start = c .before .before .before .before .before .before .before in
     let after-word-count = c .before .before .before .before in
     let turn = c .before .before in
-    omega (arith, part-fits _ _ _ _ _ (after-word-count .word-count .ensures) (c .before .loop-test .taken) (start .pre .4), turn .loop .inv .2)
+    omega (
+      arith,
+      part-fits _ _ _ _ _ (after-word-count .word-count .ensures) (c .before .loop-test .taken)
+          (start .pre .4),
+      turn .loop .inv .2,
+    )
 
 part-take-values-end-2 : tie.Need-part-take-values-end-2 Inv-loop μ-loop
 part-take-values-end-2 c =
     let start = c .before .before .before .before .before .before .before in
     let after-word-count = c .before .before .before .before in
     let turn = c .before .before in
-    omega (arith, part-fits _ _ _ _ _ (after-word-count .word-count .ensures) (c .before .loop-test .taken) (start .pre .4), turn .loop .inv .2)
+    omega (
+      arith,
+      part-fits _ _ _ _ _ (after-word-count .word-count .ensures) (c .before .loop-test .taken)
+          (start .pre .4),
+      turn .loop .inv .2,
+    )
 
 take-values-requires : tie.Need-take-values-requires Inv-loop μ-loop
 take-values-requires c κs =
@@ -67,8 +77,18 @@ take-values-requires c κs =
     let after-word-count = c .before .before .before .before .before in
     let after-pow2 = c .before .before .before .before in
     let turn = c .before .before .before in
-    let tested = c .before .before in
-    (start .pre .1, part-is-table _ _ _ (start .args .t .now) (after-pow2 .pow2 .ensures) (part-fits _ _ _ _ _ (after-pow2 .pow2 .ensures) (tested .loop-test .taken) (start .pre .2)) (start .pre .3), part-length _ _ _ (omega (arith, part-fits _ _ _ _ _ (after-word-count .word-count .ensures) (tested .loop-test .taken) (start .pre .4), turn .loop .inv .2)) ∙ after-word-count .word-count .ensures)
+    let tested = c .before .before in (
+      start .pre .1,
+      part-is-table _ _ _ (start .args .t .now) (after-pow2 .pow2 .ensures)
+          (part-fits _ _ _ _ _ (after-pow2 .pow2 .ensures) (tested .loop-test .taken) (start .pre .2)) (start .pre .3),
+      part-length _ _ _
+          (omega (
+            arith,
+            part-fits _ _ _ _ _ (after-word-count .word-count .ensures) (tested .loop-test .taken)
+                (start .pre .4),
+            turn .loop .inv .2,
+          )) ∙ after-word-count .word-count .ensures,
+    )
 
 loop-again : tie.Need-loop-again Inv-loop μ-loop
 loop-again c =
@@ -78,7 +98,8 @@ loop-again c =
     let turn = c .before .before .before .before .before .before in
     let after-take-values = c .before .before in (
       search needs,
-      values-more (start .args .n) _ _ _ (start .args .t .now) _ _ _ (after-word-count .word-count .ensures) (after-pow2 .pow2 .ensures) (turn .loop .inv .1) (after-take-values .take-values .ensures),
+      values-more (start .args .n) _ _ _ (start .args .t .now) _ _ _ (after-word-count .word-count .ensures) (after-pow2 .pow2 .ensures)
+          (turn .loop .inv .1) (after-take-values .take-values .ensures),
       search needs,
     )
 
@@ -86,7 +107,8 @@ returns : tie.Need-returns Inv-loop μ-loop
 returns c =
     let start = c .before .before .before .before .before .before in
     let after-word-count = c .before .before .before in
-    values-done (start .args .n) _ _ _ (start .args .t .now) (start .args .words .now) _ (after-word-count .word-count .ensures) (omega (arith, c .before .loop .inv .0, c .loop-test .left)) (start .pre .4) (c .before .loop .inv .1)
+    values-done (start .args .n) _ _ _ (start .args .t .now) (start .args .words .now) _ (after-word-count .word-count .ensures)
+    (omega (arith, c .before .loop .inv .0, c .loop-test .left)) (start .pre .4) (c .before .loop .inv .1)
 
 pub take-all-spec : {M : Type 1} → statement M
 take-all-spec =

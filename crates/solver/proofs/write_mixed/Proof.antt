@@ -17,7 +17,8 @@ use Rattle.solver.proofs.write_mixed.Tie as tie
 
 abbrev Inv-loop : tie.InvT-loop
 Inv-loop u n values b own₀ answers₀ k size x₀ own answers x =
-    (x ≤ u) × (answers ≡ filled (x * size) (answerByte n (λ j. value n (mixedValue (bitAt values) (partValue (2 ^ (n - 6)) b j) j))) answers₀)
+    (x ≤ u) × (answers ≡ filled (x * size)
+    (answerByte n (λ j. value n (mixedValue (bitAt values) (partValue (2 ^ (n - 6)) b j) j))) answers₀)
     × (length answers ≡ length answers₀) × (length own ≡ length own₀)
 
 abbrev μ-loop : tie.MeasureT-loop
@@ -64,8 +65,14 @@ mix-requires c κs =
     let start = c .before .before .before .before .before .before .before .before .before .before in
     let after-word-count = c .before .before .before .before .before in
     let turn = c .before .before .before in
-    let tested = c .before .before in
-    (omega (arith, start .pre .0, tested .loop-test .taken), start .pre .2 ∙ sym (turn .loop .inv .3 ∙ start .pre .4), part-length _ _ (start .args .b .now) (part-fits _ _ _ _ _ (after-word-count .word-count .ensures) (tested .loop-test .taken) (start .pre .3)) ∙ after-word-count .word-count .ensures ∙ sym (turn .loop .inv .3 ∙ start .pre .4))
+    let tested = c .before .before in (
+      omega (arith, start .pre .0, tested .loop-test .taken),
+      start .pre .2
+          ∙ sym (turn .loop .inv .3 ∙ start .pre .4),
+      part-length _ _ (start .args .b .now)
+          (part-fits _ _ _ _ _ (after-word-count .word-count .ensures) (tested .loop-test .taken) (start .pre .3))
+          ∙ after-word-count .word-count .ensures ∙ sym (turn .loop .inv .3 ∙ start .pre .4),
+    )
 
 part-put-table-end : tie.Need-part-put-table-end Inv-loop μ-loop
 part-put-table-end c =
@@ -81,20 +88,29 @@ put-table-requires c κs =
     let after-pow2 = c .before .before .before .before .before .before .before .before .before in
     let turn = c .before .before .before .before .before .before .before .before in
     let tested = c .before .before .before .before .before .before .before in
-    let after-mix = c .before .before .before .before in
-    (start .pre .1, size-words _ _ _ (after-mix .mix .ensures) ∙ turn .loop .inv .3 ∙ start .pre .4, part-length _ _ _ (omega (arith, part-fits _ _ _ _ _ (after-pow2 .pow2 .ensures) (tested .loop-test .taken) (start .pre .5), turn .loop .inv .2)) ∙ after-pow2 .pow2 .ensures)
+    let after-mix = c .before .before .before .before in (
+      start .pre .1,
+      size-words _ _ _ (after-mix .mix .ensures) ∙ turn .loop .inv .3
+          ∙ start .pre .4,
+      part-length _ _ _
+          (omega (arith, part-fits _ _ _ _ _ (after-pow2 .pow2 .ensures) (tested .loop-test .taken) (start .pre .5), turn .loop .inv .2))
+          ∙ after-pow2 .pow2 .ensures,
+    )
 
 loop-again : tie.Need-loop-again Inv-loop μ-loop
 loop-again c =
-    let start = c .before .before .before .before .before .before .before .before .before .before .before .before .before .before .before .before .before .before .before .before in
-    let after-word-count = c .before .before .before .before .before .before .before .before .before .before .before .before .before .before .before in
+    let start =
+    c .before .before .before .before .before .before .before .before .before .before .before .before .before .before .before .before .before .before .before .before in
+    let after-word-count =
+    c .before .before .before .before .before .before .before .before .before .before .before .before .before .before .before in
     let after-pow2 = c .before .before .before .before .before .before .before .before .before .before .before .before .before .before in
     let turn = c .before .before .before .before .before .before .before .before .before .before .before .before .before in
     let after-mix = c .before .before .before .before .before .before .before .before .before in
     let after-put-table = c .before .before .before .before in (
       search needs,
       tables-more (start .args .n) _ _ _ _ _ _ _ (after-pow2 .pow2 .ensures) (turn .loop .inv .1) (after-put-table .put-table .ensures)
-          (mixed-table (start .args .n) _ _ _ (start .args .values .now) (start .args .b .now) _ (after-word-count .word-count .ensures) (turn .loop .inv .3 ∙ start .pre .4) (after-mix .mix .ensures)),
+          (mixed-table (start .args .n) _ _ _ (start .args .values .now) (start .args .b .now) _ (after-word-count .word-count .ensures)
+          (turn .loop .inv .3 ∙ start .pre .4) (after-mix .mix .ensures)),
       search needs,
       search needs,
     )
@@ -103,7 +119,8 @@ returns : tie.Need-returns Inv-loop μ-loop
 returns c =
     let start = c .before .before .before .before .before .before .before .before in
     let after-pow2 = c .before .before in
-    tables-done (start .args .n) _ _ _ _ (start .args .answers .now) _ (after-pow2 .pow2 .ensures) (omega (arith, c .before .loop .inv .0, c .loop-test .left)) (start .pre .5) (c .before .loop .inv .1)
+    tables-done (start .args .n) _ _ _ _ (start .args .answers .now) _ (after-pow2 .pow2 .ensures)
+    (omega (arith, c .before .loop .inv .0, c .loop-test .left)) (start .pre .5) (c .before .loop .inv .1)
 
 pub write-mixed-spec : {M : Type 1} → statement M
 write-mixed-spec =

@@ -15,7 +15,8 @@ use Rattle.solver.proofs.write_tables.Tie as tie
 
 abbrev Inv-loop : tie.InvT-loop
 Inv-loop u n found answers₀ k size x₀ answers x =
-    (x ≤ u) × (answers ≡ filled (x * size) (answerByte n (λ j. value n (partValue (2 ^ (n - 6)) found j))) answers₀) × (length answers ≡ length answers₀)
+    (x ≤ u) × (answers ≡ filled (x * size) (answerByte n (λ j. value n (partValue (2 ^ (n - 6)) found j))) answers₀)
+    × (length answers ≡ length answers₀)
 
 abbrev μ-loop : tie.MeasureT-loop
 μ-loop u n found answers₀ k size x₀ answers x = u - x
@@ -69,8 +70,15 @@ put-copy-requires c κs =
     let after-word-count = c .before .before .before .before .before in
     let after-pow2 = c .before .before .before .before in
     let turn = c .before .before .before in
-    let tested = c .before .before in
-    (start .pre .1, part-length _ _ (start .args .found .now) (part-fits _ _ _ _ _ (after-word-count .word-count .ensures) (tested .loop-test .taken) (start .pre .2)) ∙ after-word-count .word-count .ensures, part-length _ _ _ (omega (arith, part-fits _ _ _ _ _ (after-pow2 .pow2 .ensures) (tested .loop-test .taken) (start .pre .3), turn .loop .inv .2)) ∙ after-pow2 .pow2 .ensures)
+    let tested = c .before .before in (
+      start .pre .1,
+      part-length _ _ (start .args .found .now)
+          (part-fits _ _ _ _ _ (after-word-count .word-count .ensures) (tested .loop-test .taken) (start .pre .2))
+          ∙ after-word-count .word-count .ensures,
+      part-length _ _ _
+          (omega (arith, part-fits _ _ _ _ _ (after-pow2 .pow2 .ensures) (tested .loop-test .taken) (start .pre .3), turn .loop .inv .2))
+          ∙ after-pow2 .pow2 .ensures,
+    )
 
 loop-again : tie.Need-loop-again Inv-loop μ-loop
 loop-again c =
@@ -80,7 +88,8 @@ loop-again c =
     let turn = c .before .before .before .before .before .before in
     let after-put-copy = c .before .before in (
       search needs,
-      tables-more (start .args .n) _ _ _ _ _ _ _ (after-pow2 .pow2 .ensures) (turn .loop .inv .1) (after-put-copy .put-copy .ensures) (copied-table (start .args .n) _ _ (start .args .found .now) (after-word-count .word-count .ensures)),
+      tables-more (start .args .n) _ _ _ _ _ _ _ (after-pow2 .pow2 .ensures) (turn .loop .inv .1) (after-put-copy .put-copy .ensures)
+          (copied-table (start .args .n) _ _ (start .args .found .now) (after-word-count .word-count .ensures)),
       search needs,
     )
 
@@ -88,7 +97,8 @@ returns : tie.Need-returns Inv-loop μ-loop
 returns c =
     let start = c .before .before .before .before .before .before in
     let after-pow2 = c .before .before in
-    tables-done (start .args .n) _ _ _ _ (start .args .answers .now) _ (after-pow2 .pow2 .ensures) (omega (arith, c .before .loop .inv .0, c .loop-test .left)) (start .pre .3) (c .before .loop .inv .1)
+    tables-done (start .args .n) _ _ _ _ (start .args .answers .now) _ (after-pow2 .pow2 .ensures)
+    (omega (arith, c .before .loop .inv .0, c .loop-test .left)) (start .pre .3) (c .before .loop .inv .1)
 
 pub write-tables-spec : {M : Type 1} → statement M
 write-tables-spec =

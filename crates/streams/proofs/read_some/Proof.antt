@@ -23,8 +23,12 @@ of-count (suc n) room h = (omega arith, h)
 within : tie.Need-returns Inv-loop μ-loop
 within c =
     let n = c .before .count in
-    let size : n .result ≤ length (c .before .before .before .before .before .before .before .before .before .before .before .args .room .now) = omega (arith, n .ensures .0 .0, c .before .before .before .before .before .before .read .kept .1 .0, c .before .before .before .before .before .before .before .before .before .loop .inv) in
-    subst (λ (r : Got). gotWithin r (length (c .before .before .before .before .before .before .before .before .before .before .before .args .room .now))) (sym (c .got-of .ensures)) (of-count (n .result) _ size)
+    let size : n .result ≤ length
+    (c .before .before .before .before .before .before .before .before .before .before .before .args .room .now) =
+    omega (arith, n .ensures .0 .0, c .before .before .before .before .before .before .read .kept .1 .0, c .before .before .before .before .before .before .before .before .before .loop .inv) in
+    subst (λ (r : Got). gotWithin r
+    (length (c .before .before .before .before .before .before .before .before .before .before .before .args .room .now)))
+    (sym (c .got-of .ensures)) (of-count (n .result) _ size)
 
 pub read-some-spec : {M : Type 1} → statement M
 read-some-spec =

@@ -13,11 +13,14 @@ Inv-loop file bytes done₀ done = done ≤ length bytes
 abbrev μ-loop : tie.MeasureT-loop
 μ-loop file bytes done₀ done = length bytes - done
 
-more : (c : tie.Else1 Inv-loop μ-loop) → c .before .before .before .before .loop .done + c .before .write-some .result ≤ length (c .before .before .before .before .before .before .args .bytes .now)
+more : (c : tie.Else1 Inv-loop μ-loop)
+    → c .before .before .before .before .loop .done + c .before .write-some .result ≤ length
+    (c .before .before .before .before .before .before .args .bytes .now)
 more c =
     let at = c .before .before .before .before in
     let bytes = at .before .before .args .bytes .now in
-    let left = length-take-le (length bytes - at .loop .done) (drop (at .loop .done) bytes) (omega (arith, length-drop (at .loop .done) bytes)) in
+    let left =
+    length-take-le (length bytes - at .loop .done) (drop (at .loop .done) bytes) (omega (arith, length-drop (at .loop .done) bytes)) in
     omega (arith, c .before .write-some .ensures)
 
 pub write-whole-spec : {M : Type 1} → statement M

@@ -27,7 +27,8 @@ returns : tie.Need-returns Inv-loop μ-loop
 unfolding sum present
 returns c =
     let pre = c .before .before .pre in
-    combined-end bitXor _ _ _ _ _ (c .before .loop .inv .1) (c .before .loop .inv .0) (c .loop-test .left) (λ m. xor-bytes _ _ (pre .1 m) (pre .2 m))
+    combined-end bitXor _ _ _ _ _ (c .before .loop .inv .1) (c .before .loop .inv .0) (c .loop-test .left)
+    (λ m. xor-bytes _ _ (pre .1 m) (pre .2 m))
 
 pub add-into-spec : {M : Type 1} → statement M
 add-into-spec =

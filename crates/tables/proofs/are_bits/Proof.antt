@@ -21,7 +21,8 @@ unfolding areBits
 loop-holds c = (search needs, refl)
 
 loop-again : tie.Need-loop-again Inv-loop μ-loop
-loop-again c = (search needs, bits-more _ (c .before .before .loop .union) _ (c .before .loop-test .taken) (c .before .before .loop .inv .1))
+loop-again c =
+    (search needs, bits-more _ (c .before .before .loop .union) _ (c .before .loop-test .taken) (c .before .before .loop .inv .1))
 
 returns : tie.Need-returns Inv-loop μ-loop
 returns c = bits-end _ (c .before .loop .union) _ (c .before .loop .inv .0) (c .loop-test .left) (c .before .loop .inv .1)

@@ -20,7 +20,8 @@ loop-again c = (search needs, filled-more _ _ _ _ (c .before .before .loop .inv 
 
 returns : tie.Need-returns Inv-loop μ-loop
 returns c =
-    filled-end _ _ _ _ (c .before .loop .inv .1) (c .before .loop .inv .0) (c .loop-test .left) ∙ rw (c .before .before .pre) (listed-getD _)
+    filled-end _ _ _ _ (c .before .loop .inv .1) (c .before .loop .inv .0) (c .loop-test .left)
+    ∙ rw (c .before .before .pre) (listed-getD _)
 
 pub copy-spec : {M : Type 1} → statement M
 copy-spec =

@@ -12,7 +12,9 @@ use Rattle.volume.proofs.audit_at.Statement.{statement}
 use Rattle.volume.proofs.audit_at.Tie as tie
 
 -- the audit's answer, from the place on
-answer : (c : tie.After-audit) → answered (reading (c .audit .result)) [] ≡ auditCall (drop (c .before .before .before .args .at) (c .before .before .before .args .volume .now))
+answer : (c : tie.After-audit)
+    → answered (reading (c .audit .result)) []
+    ≡ auditCall (drop (c .before .before .before .args .at) (c .before .before .before .args .volume .now))
 answer c =
     let a = c .before .before .before .args in
     c .audit .ensures ∙ ap auditCall (rest-of (a .at) (a .volume .now))

@@ -12,7 +12,8 @@ use Rattle.volume.proofs.walk_at.Statement.{statement}
 use Rattle.volume.proofs.walk_at.Tie as tie
 
 abbrev Inv-loop : tie.InvT-loop
-Inv-loop volume place at₀ before₀ passed₀ at before passed = (place ≤ at) × (passed ≤ at) × (walkReply volume place ≡ walkBehind before passed (drop at volume))
+Inv-loop volume place at₀ before₀ passed₀ at before passed =
+    (place ≤ at) × (passed ≤ at) × (walkReply volume place ≡ walkBehind before passed (drop at volume))
 
 abbrev μ-loop : tie.MeasureT-loop
 μ-loop volume place at₀ before₀ passed₀ at before passed = length volume - at
@@ -30,7 +31,8 @@ some c =
     some-used _ _ _ _ _ (turn .before .loop .inv .2) l _ (told .before .before .audit-at .ensures) (told .heading .given .1)
 
 within : (c : tie.After-struct-known Inv-loop μ-loop)
-    → c .before .before .before .before .before .before .loop .at + c .before .before .heading .given .0 .0 .used ≤ length (c .before .before .before .before .before .before .before .before .args .volume .now)
+    → c .before .before .before .before .before .before .loop .at + c .before .before .heading .given .0 .0 .used ≤ length
+    (c .before .before .before .before .before .before .before .before .args .volume .now)
 within c =
     let told = c .before .before in
     let turn = told .before .before .before in
@@ -41,8 +43,12 @@ loop-again : tie.Need-loop-again Inv-loop μ-loop
 loop-again c =
     let told = c .before .before in
     let turn = told .before .before .before in
-    let l : turn .before .loop .at < length (turn .before .before .before .args .volume .now) = omega arith in
-    (omega arith, omega (arith, some c), walk-passed _ _ _ _ _ (turn .before .loop .inv .2) l _ (told .before .before .audit-at .ensures) (told .heading .given .1))
+    let l : turn .before .loop .at < length (turn .before .before .before .args .volume .now) = omega arith in (
+      omega arith,
+      omega (arith, some c),
+      walk-passed _ _ _ _ _ (turn .before .loop .inv .2) l _ (told .before .before .audit-at .ensures)
+          (told .heading .given .1),
+    )
 
 returns : tie.Need-returns Inv-loop μ-loop
 returns c =

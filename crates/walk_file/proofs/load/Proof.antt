@@ -20,8 +20,13 @@ within : {r : Got} {n room : ℕ} → r ≡ Bytes n → gotWithin r room → (0 
 within e h = rw e at h
 
 -- some bytes more, within what is left of the room
-more : (c : tie.After-known-told Inv-loop μ-loop) → (0 < c .before .more .given .0 .0) × (c .before .before .before .before .before .before .before .before .loop .n + c .before .more .given .0 .0 ≤ length (c .before .before .before .before .before .before .before .before .loop .room))
-more c = let got = within (c .before .more .given .1) (c .before .before .before .before .before .load-more .ensures .0) in (got .0, omega (arith, got .1))
+more : (c : tie.After-known-told Inv-loop μ-loop) → (0 < c .before .more .given .0 .0)
+    × (c .before .before .before .before .before .before .before .before .loop .n + c .before .more .given .0 .0 ≤ length
+    (c .before .before .before .before .before .before .before .before .loop .room))
+more c =
+    let got =
+    within (c .before .more .given .1) (c .before .before .before .before .before .load-more .ensures .0) in
+    (got .0, omega (arith, got .1))
 
 pub load-spec : {M : Type 1} → statement M
 load-spec =

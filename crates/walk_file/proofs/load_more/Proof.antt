@@ -18,8 +18,11 @@ returns : tie.Need-returns
 returns c =
     let read = c .before .before in
     let n = read .before .before .before .args .n in
-    let room = read .before .before .before .args .room .now in
-    (sized (read .read-some .result) (length-take-le (length room - n) (drop n room) (omega (arith, length-drop n room))) (read .read-some .ensures), take-put n (length room - n) room (read .read-some .last .1 .0) (read .before .before .before .pre))
+    let room = read .before .before .before .args .room .now in (
+      sized (read .read-some .result) (length-take-le (length room - n) (drop n room) (omega (arith, length-drop n room)))
+          (read .read-some .ensures),
+      take-put n (length room - n) room (read .read-some .last .1 .0) (read .before .before .before .pre),
+    )
 
 pub load-more-spec : {M : Type 1} → statement M
 load-more-spec =

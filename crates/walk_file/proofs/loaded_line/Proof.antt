@@ -36,7 +36,8 @@ loaded-line-spec =
     tie.close
     (tie.spec
     (λ c. search needs)
-    (λ c. sym (length-take-le _ _ (omega (arith, within (c .before .before .loaded .given .1) (c .before .before .before .before .before .before .pre .0)))))
+    (λ c. sym (length-take-le _ _
+    (omega (arith, within (c .before .before .loaded .given .1) (c .before .before .before .before .before .before .pre .0)))))
     (λ c κs. search needs)
     (λ c. search needs)
     (λ c κs. search needs)

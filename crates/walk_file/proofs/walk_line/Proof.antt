@@ -12,13 +12,15 @@ returns-2 : tie.Need-returns-2
 returns-2 c =
     let found = c .before .before .before .before .before in
     let walked = found .before .before in
-    put-same (c .before .before .put-count .ensures) (walk-count _ (walked .before .if1 .left) (walked .walk-volume .ensures) (found .count .given .1))
+    put-same (c .before .before .put-count .ensures)
+    (walk-count _ (walked .before .if1 .left) (walked .walk-volume .ensures) (found .count .given .1))
 
 returns-3 : tie.Need-returns-3
 returns-3 c =
     let found = c .before .before .before .before .before in
     let walked = found .before .before in
-    put-same (c .before .before .put-refused-behind .ensures) (walk-refused _ (walked .before .if1 .left) (walked .walk-volume .ensures) (found .number .given .1))
+    put-same (c .before .before .put-refused-behind .ensures)
+    (walk-refused _ (walked .before .if1 .left) (walked .walk-volume .ensures) (found .number .given .1))
 
 pub walk-line-spec : {M : Type 1} → statement M
 walk-line-spec =

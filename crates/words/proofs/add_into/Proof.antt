@@ -23,14 +23,21 @@ loop-again c =
     let d = c .before .before .before .before .args .d .now in
     let s = c .before .before .before .before .args .s .now in
     let i = c .before .before .before .loop .i in
-    let read : getD (c .before .before .before .loop .d) i 0 ≡ getD d i 0 = filled-read _ _ _ _ (c .before .before .before .loop .inv .1) (c .before .before .loop-test .taken) in
+    let read : getD (c .before .before .before .loop .d) i 0
+    ≡ getD d i 0 = filled-read _ _ _ _ (c .before .before .before .loop .inv .1) (c .before .before .loop-test .taken) in
     let small-d : getD (c .before .before .before .loop .d) i 0 < 2 ^ 64 = omega (arith, c .before .slice-known .given i) in
-    let small-s : getD s i 0 < 2 ^ 64 = omega (arith, c .shared-slice-known .given i) in
-    (search needs, words-more (λ p. bitAt d p ⊕ bitAt s p) _ _ _ _ (c .before .before .before .loop .inv .1) (c .before .before .loop-test .taken) (xor-holds (read-holds d i _ (rw read at small-d) read) (read-holds s i _ small-s refl)), search needs)
+    let small-s : getD s i 0 < 2 ^ 64 = omega (arith, c .shared-slice-known .given i) in (
+      search needs,
+      words-more (λ p. bitAt d p ⊕ bitAt s p) _ _ _ _ (c .before .before .before .loop .inv .1)
+          (c .before .before .loop-test .taken)
+          (xor-holds (read-holds d i _ (rw read at small-d) read) (read-holds s i _ small-s refl)),
+      search needs,
+    )
 
 returns : tie.Need-returns Inv-loop μ-loop
 returns c =
-    words-end (λ p. bitAt (c .before .before .args .d .now) p ⊕ bitAt (c .before .before .args .s .now) p) _ _ _ (c .before .loop .inv .1) (c .before .loop .inv .0) (c .loop-test .left)
+    words-end (λ p. bitAt (c .before .before .args .d .now) p ⊕ bitAt (c .before .before .args .s .now) p) _ _ _ (c .before .loop .inv .1)
+    (c .before .loop .inv .0) (c .loop-test .left)
 
 pub add-into-spec : {M : Type 1} → statement M
 add-into-spec =

@@ -23,13 +23,19 @@ loop-again : tie.Need-loop-again Inv-loop μ-loop
 loop-again c =
     let d = c .before .before .before .args .d .now in
     let i = c .before .before .loop .i in
-    let read : getD (c .before .before .loop .d) i 0 ≡ getD d i 0 = filled-read _ _ _ _ (c .before .before .loop .inv .1) (c .before .loop-test .taken) in
-    let small : getD (c .before .before .loop .d) i 0 < 2 ^ 64 = omega (arith, c .slice-known .given i) in
-    (search needs, words-more (λ p. bitAt d p ⊕ true) _ _ _ _ (c .before .before .loop .inv .1) (c .before .loop-test .taken) (xor-holds (read-holds d i _ (rw read at small) read) (constant-holds true _ refl)), search needs)
+    let read : getD (c .before .before .loop .d) i 0
+    ≡ getD d i 0 = filled-read _ _ _ _ (c .before .before .loop .inv .1) (c .before .loop-test .taken) in
+    let small : getD (c .before .before .loop .d) i 0 < 2 ^ 64 = omega (arith, c .slice-known .given i) in (
+      search needs,
+      words-more (λ p. bitAt d p ⊕ true) _ _ _ _ (c .before .before .loop .inv .1) (c .before .loop-test .taken)
+          (xor-holds (read-holds d i _ (rw read at small) read) (constant-holds true _ refl)),
+      search needs,
+    )
 
 returns : tie.Need-returns Inv-loop μ-loop
 returns c =
-    words-end (λ p. bitAt (c .before .before .args .d .now) p ⊕ true) _ _ _ (c .before .loop .inv .1) (c .before .loop .inv .0) (c .loop-test .left)
+    words-end (λ p. bitAt (c .before .before .args .d .now) p ⊕ true) _ _ _ (c .before .loop .inv .1) (c .before .loop .inv .0)
+    (c .loop-test .left)
 
 pub complement-spec : {M : Type 1} → statement M
 complement-spec =

@@ -34,8 +34,11 @@ returns c =
     first-found words i _ (c .before .before .loop-test .taken) (c .before .before .before .loop .inv .1) (first .0) (first .1)
 
 loop-again : tie.Need-loop-again Inv-loop μ-loop
-loop-again c =
-    (search needs, none-more (c .before .before .before .before .args .words .now) _ (c .before .before .before .loop .inv .1) (omega arith))
+loop-again c = (
+  search needs,
+  none-more (c .before .before .before .before .args .words .now) _ (c .before .before .before .loop .inv .1)
+      (omega arith),
+)
 
 returns-2 : tie.Need-returns-2 Inv-loop μ-loop
 returns-2 c =

@@ -7,7 +7,11 @@ use Rattle.words.proofs.gather.Tie as tie
 
 returns : tie.Need-returns
 returns c =
-    rows-word (present ((c .before .before .before .before .before .before .before .before .before .args) .t .now)) _ _ _ _ _ _ _ _ ((c .before .before .before .before .before .before .before .eight) .ensures .0) ((c .before .before .before .before .before .before .eight2) .ensures .0) ((c .before .before .before .before .before .eight3) .ensures .0) ((c .before .before .before .before .eight4) .ensures .0) ((c .before .before .before .eight5) .ensures .0)
+    rows-word (present ((c .before .before .before .before .before .before .before .before .before .args) .t .now)) _ _ _ _ _ _ _ _
+    ((c .before .before .before .before .before .before .before .eight) .ensures .0)
+    ((c .before .before .before .before .before .before .eight2) .ensures .0)
+    ((c .before .before .before .before .before .eight3) .ensures .0) ((c .before .before .before .before .eight4) .ensures .0)
+    ((c .before .before .before .eight5) .ensures .0)
     ((c .before .before .eight6) .ensures .0) ((c .before .eight7) .ensures .0) ((c .eight8) .ensures .0)
 
 pub gather-spec : {M : Type 1} → statement M

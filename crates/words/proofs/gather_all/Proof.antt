@@ -15,7 +15,8 @@ use Rattle.words.proofs.gather_all.Statement.{statement}
 use Rattle.words.proofs.gather_all.Tie as tie
 
 abbrev Inv-loop : tie.InvT-loop
-Inv-loop t words₀ w₀ w-end words w = (w ≤ length words₀) × (words ≡ filled w (λ m. wordOf (λ b. present t (crossed (64 * m + b)))) words₀) × (length words ≡ length words₀)
+Inv-loop t words₀ w₀ w-end words w =
+    (w ≤ length words₀) × (words ≡ filled w (λ m. wordOf (λ b. present t (crossed (64 * m + b)))) words₀) × (length words ≡ length words₀)
 
 abbrev μ-loop : tie.MeasureT-loop
 μ-loop t words₀ w₀ w-end words w = length words₀ - w
@@ -24,17 +25,34 @@ gather-requires : tie.Need-gather-requires Inv-loop μ-loop
 gather-requires c κs =
     let w = (c .before .before .loop) .w in
     let t = (c .before .before .before .before .before .args) .t .now in
-    let d : w * 64 + 64 - w * 64 ≡ 64 = omega arith in
-    (omega (arith, length-take (w * 64 + 64 - w * 64) (drop (w * 64) t), length-drop (w * 64) t, (c .before .before .before .before .before .pre) .0), part-bits t (w * 64) (w * 64 + 64 - w * 64) ((c .before .before .before .before .before .pre) .1) d)
+    let d : w * 64 + 64 - w * 64 ≡ 64 = omega arith in (
+      omega (
+        arith,
+        length-take (w * 64 + 64 - w * 64) (drop (w * 64) t),
+        length-drop
+            (w * 64) t,
+        (c .before .before .before .before .before .pre) .0,
+      ),
+      part-bits t (w * 64) (w * 64 + 64 - w * 64)
+          ((c .before .before .before .before .before .pre) .1) d,
+    )
 
 loop-again : tie.Need-loop-again Inv-loop μ-loop
 loop-again c =
     let w = (c .before .before .before .loop) .w in
-    let d : w * 64 + 64 - w * 64 ≡ 64 = omega arith in
-    (search needs, filled-more _ _ _ _ ((c .before .before .before .loop) .inv .1) _ ((c .before .before .loop-test) .taken) (part-crossed ((c .before .before .before .before .before .before .args) .t .now) (w * 64) (w * 64 + 64 - w * 64) _ _ (mul-comm w 64) d ((c .gather) .ensures)), search needs)
+    let d : w * 64 + 64 - w * 64 ≡ 64 = omega arith in (
+      search needs,
+      filled-more _ _ _ _ ((c .before .before .before .loop) .inv .1) _ ((c .before .before .loop-test) .taken)
+          (part-crossed ((c .before .before .before .before .before .before .args) .t .now) (w * 64) (w * 64 + 64 - w * 64) _ _
+          (mul-comm w 64) d
+          ((c .gather) .ensures)),
+      search needs,
+    )
 
 returns : tie.Need-returns Inv-loop μ-loop
-returns c = words-end (λ p. present ((c .before .before .before .before .args) .t .now) (crossed p)) _ _ _ ((c .before .loop) .inv .1) ((c .before .loop) .inv .0) ((c .loop-test) .left)
+returns c =
+    words-end (λ p. present ((c .before .before .before .before .args) .t .now) (crossed p)) _ _ _ ((c .before .loop) .inv .1)
+    ((c .before .loop) .inv .0) ((c .loop-test) .left)
 
 pub gather-all-spec : {M : Type 1} → statement M
 gather-all-spec =

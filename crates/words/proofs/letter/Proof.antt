@@ -17,12 +17,17 @@ abbrev μ-loop : tie.MeasureT-loop
 μ-loop x out₀ i₀ i-end out i = length out₀ - i
 
 loop-again : tie.Need-loop-again Inv-loop μ-loop
-loop-again c =
-    (search needs, words-more (λ p. bit p (c .before .before .before .before .args .x)) _ _ _ _ (c .before .before .loop .inv .1) (c .before .loop-test .taken) (word-holds _ _ (c .letter-word .ensures)), search needs)
+loop-again c = (
+  search needs,
+  words-more (λ p. bit p (c .before .before .before .before .args .x)) _ _ _ _ (c .before .before .loop .inv .1)
+      (c .before .loop-test .taken) (word-holds _ _ (c .letter-word .ensures)),
+  search needs,
+)
 
 returns : tie.Need-returns Inv-loop μ-loop
 returns c =
-    words-end (λ p. bit p (c .before .before .before .args .x)) _ _ _ (c .before .loop .inv .1) (c .before .loop .inv .0) (c .loop-test .left)
+    words-end (λ p. bit p (c .before .before .before .args .x)) _ _ _ (c .before .loop .inv .1) (c .before .loop .inv .0)
+    (c .loop-test .left)
 
 pub letter-spec : {M : Type 1} → statement M
 letter-spec =

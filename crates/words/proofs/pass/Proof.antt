@@ -18,13 +18,27 @@ abbrev μ-loop : tie.MeasureT-loop
 μ-loop t₀ c j₀ t j = j
 
 loop-again : tie.Need-loop-again Inv-loop μ-loop
-loop-again c = (omega arith, stages-next _ _ _ _ _ ((c .before .before .before .before .loop-test) .taken) ((c .before .before .before .before .before .loop) .inv .0) ((c .before .before .before .before .before .loop) .inv .1) ((c .before .before .step-words) .ensures))
+loop-again c = (
+  omega arith,
+  stages-next _ _ _ _ _ ((c .before .before .before .before .loop-test) .taken)
+      ((c .before .before .before .before .before .loop) .inv .0) ((c .before .before .before .before .before .loop) .inv .1)
+      ((c .before .before .step-words) .ensures),
+)
 
 same-length : tie.Need-same-length Inv-loop μ-loop
-same-length c = omega (arith, size-words _ _ _ ((c .before .before .before .before .before .loop) .inv .1), c .before .before .before .before .before .before .before .pre .1, (c .before .before .low-values) .kept .0)
+same-length c =
+    omega (
+      arith,
+      size-words _ _ _
+          ((c .before .before .before .before .before .loop) .inv .1),
+      c .before .before .before .before .before .before .before .pre .1,
+      (c .before .before .low-values) .kept .0,
+    )
 
 returns : tie.Need-returns Inv-loop μ-loop
-returns c = stages-end _ _ _ _ _ _ (omega arith) (size-words _ _ _ ((c .before .before .before .before .before .loop) .inv .1)) ((c .before .before .before .before .before .loop) .inv .1) ((c .before .before .low-values) .ensures)
+returns c =
+    stages-end _ _ _ _ _ _ (omega arith) (size-words _ _ _ ((c .before .before .before .before .before .loop) .inv .1))
+    ((c .before .before .before .before .before .loop) .inv .1) ((c .before .before .low-values) .ensures)
 
 pub pass-spec : {M : Type 1} → statement M
 pass-spec =

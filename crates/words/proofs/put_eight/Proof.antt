@@ -20,8 +20,14 @@ slice-write-out-8 c = simp length-set (omega (arith, (c .before .before .before 
 
 returns : tie.Need-returns
 returns c =
-    eight-put ((c .before .before .before .before .before .before .before .before .before .args) .word) ((c .before .before .before .before .before .before .before .before .before .args) .out .now) _ _ _ _ _ _ _ _ ((c .before .before .before .before .before .before .before .before .before .pre)) ((c .before .before .before .before .before .before .before .low-byte) .ensures) ((c .before .before .before .before .before .before .low-byte2) .ensures) ((c .before .before .before .before .before .low-byte3) .ensures) ((c .before .before .before .before .low-byte4) .ensures)
-    ((c .before .before .before .low-byte5) .ensures) ((c .before .before .low-byte6) .ensures) ((c .before .low-byte7) .ensures) ((c .low-byte8) .ensures)
+    eight-put ((c .before .before .before .before .before .before .before .before .before .args) .word)
+    ((c .before .before .before .before .before .before .before .before .before .args) .out .now) _ _ _ _ _ _ _ _
+    ((c .before .before .before .before .before .before .before .before .before .pre))
+    ((c .before .before .before .before .before .before .before .low-byte) .ensures)
+    ((c .before .before .before .before .before .before .low-byte2) .ensures)
+    ((c .before .before .before .before .before .low-byte3) .ensures) ((c .before .before .before .before .low-byte4) .ensures)
+    ((c .before .before .before .low-byte5) .ensures) ((c .before .before .low-byte6) .ensures) ((c .before .low-byte7) .ensures)
+    ((c .low-byte8) .ensures)
 
 pub put-eight-spec : {M : Type 1} → statement M
 put-eight-spec =

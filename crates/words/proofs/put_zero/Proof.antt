@@ -16,7 +16,8 @@ use Rattle.words.proofs.put_zero.Statement.{statement}
 use Rattle.words.proofs.put_zero.Tie as tie
 
 abbrev Inv-loop : tie.InvT-loop
-Inv-loop words₀ x mask width i₀ i-end words i = (i ≤ length words₀) × (words ≡ wordsTo i (λ p. bitAt words₀ (assign p x false)) words₀) × (length words ≡ length words₀)
+Inv-loop words₀ x mask width i₀ i-end words i =
+    (i ≤ length words₀) × (words ≡ wordsTo i (λ p. bitAt words₀ (assign p x false)) words₀) × (length words ≡ length words₀)
 
 abbrev μ-loop : tie.MeasureT-loop
 μ-loop words₀ x mask width i₀ i-end words i = length words₀ - i
@@ -28,21 +29,30 @@ width-small x s h e =
     omega arith
 
 shl-words : tie.Need-shl-words Inv-loop μ-loop
-shl-words c = omega (arith, width-small _ _ (c .before .before .before .before .before .before .pre) ((c .before .before .before .pow2) .ensures))
+shl-words c =
+    omega (arith, width-small _ _ (c .before .before .before .before .before .before .pre) ((c .before .before .before .pow2) .ensures))
 
 loop-again : tie.Need-loop-again Inv-loop μ-loop
 loop-again c =
     let words = (c .before .before .before .before .before .before .args) .words .now in
     let i = (c .before .before .loop) .i in
-    let read : getD ((c .before .before .loop) .words) i 0 ≡ getD words i 0 = filled-read _ _ _ _ ((c .before .before .loop) .inv .1) ((c .before .loop-test) .taken) in
-    let small : getD ((c .before .before .loop) .words) i 0 < 2 ^ 64 = omega (arith, (c .before .before .before .before .before .slice-known) .given i) in (
+    let read : getD ((c .before .before .loop) .words) i 0
+    ≡ getD words i 0 = filled-read _ _ _ _ ((c .before .before .loop) .inv .1) ((c .before .loop-test) .taken) in
+    let small : getD ((c .before .before .loop) .words) i 0 < 2 ^ 64 = omega
+    (arith, (c .before .before .before .before .before .slice-known) .given i) in (
       search needs,
-      words-more (λ p. bitAt words (assign p ((c .before .before .before .before .before .before .args) .x) false)) _ _ _ _ ((c .before .before .loop) .inv .1) ((c .before .loop-test) .taken) (zero-holds words _ _ _ i _ (c .before .before .before .before .before .before .pre) ((c .before .before .before .pow2) .ensures) ((c .before .before .before .before .low-letter) .ensures) (rw read at small) read),
+      words-more (λ p. bitAt words (assign p ((c .before .before .before .before .before .before .args) .x) false)) _ _ _ _
+          ((c .before .before .loop) .inv .1) ((c .before .loop-test) .taken)
+          (zero-holds words _ _ _ i _ (c .before .before .before .before .before .before .pre) ((c .before .before .before .pow2) .ensures)
+          ((c .before .before .before .before .low-letter) .ensures) (rw read at small) read),
       search needs,
     )
 
 returns : tie.Need-returns Inv-loop μ-loop
-returns c = words-end (λ p. bitAt ((c .before .before .before .before .before .args) .words .now) (assign p ((c .before .before .before .before .before .args) .x) false)) _ _ _ ((c .before .loop) .inv .1) ((c .before .loop) .inv .0) ((c .loop-test) .left)
+returns c =
+    words-end (λ p. bitAt ((c .before .before .before .before .before .args) .words .now)
+    (assign p ((c .before .before .before .before .before .args) .x) false)) _ _ _ ((c .before .loop) .inv .1) ((c .before .loop) .inv .0)
+    ((c .loop-test) .left)
 
 pub put-zero-spec : {M : Type 1} → statement M
 put-zero-spec =

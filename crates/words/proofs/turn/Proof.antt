@@ -14,7 +14,8 @@ returns c =
 
 returns-2 : tie.Need-returns-2
 returns-2 c =
-    let e : 6 + (c .before .before .before .before .before .before .before .args .x - 6) ≡ c .before .before .before .before .before .before .before .args .x = omega arith in
+    let e : 6 + (c .before .before .before .before .before .before .before .args .x - 6)
+    ≡ c .before .before .before .before .before .before .before .args .x = omega arith in
     turned-as _ _ _ (c .before .before .before .before .before .before .before .args .f .now) _ (c .before .before .turn-high .ensures) e
 
 pub turn-spec : {M : Type 1} → statement M

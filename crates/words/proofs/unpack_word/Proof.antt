@@ -13,23 +13,31 @@ use Rattle.words.proofs.unpack_word.Statement.{statement}
 use Rattle.words.proofs.unpack_word.Tie as tie
 
 abbrev Inv-loop : tie.InvT-loop
-Inv-loop word out₀ eights j₀ out j = (j ≤ eights) × (out ≡ filled (j * 8) (λ p. digit (bit word (crossed p))) out₀) × (length out ≡ length out₀)
+Inv-loop word out₀ eights j₀ out j =
+    (j ≤ eights) × (out ≡ filled (j * 8) (λ p. digit (bit word (crossed p))) out₀) × (length out ≡ length out₀)
 
 abbrev μ-loop : tie.MeasureT-loop
 μ-loop word out₀ eights j₀ out j = eights - j
 
 put-eight-requires : tie.Need-put-eight-requires Inv-loop μ-loop
-put-eight-requires c κs = part-length ((c .before .before .loop) .j) 8 ((c .before .before .loop) .out) (omega (arith, (c .before .before .before .before .pre) .1, (c .before .loop-test) .taken, (c .before .before .loop) .inv .2))
+put-eight-requires c κs =
+    part-length ((c .before .before .loop) .j) 8 ((c .before .before .loop) .out)
+    (omega (arith, (c .before .before .before .before .pre) .1, (c .before .loop-test) .taken, (c .before .before .loop) .inv .2))
 
 loop-again : tie.Need-loop-again Inv-loop μ-loop
 loop-again c = (
   search needs,
-  parts-more ((c .before .before .before .before .before .loop) .j) 8 _ _ _ _ ((c .before .before .before .before .before .loop) .inv .1) (row-listed ((c .before .before .before .before .before .before .before .args) .word) ((c .before .before .before .before .before .loop) .j) _ (omega (arith, (c .before .before .before .before .before .before .before .pre) .0, (c .before .before .before .before .loop-test) .taken)) ((c .before .before .put-eight) .ensures)),
+  parts-more ((c .before .before .before .before .before .loop) .j) 8 _ _ _ _ ((c .before .before .before .before .before .loop) .inv .1)
+      (row-listed ((c .before .before .before .before .before .before .before .args) .word)
+      ((c .before .before .before .before .before .loop) .j) _
+      (omega (arith, (c .before .before .before .before .before .before .before .pre) .0, (c .before .before .before .before .loop-test) .taken)) ((c .before .before .put-eight) .ensures)),
   search needs,
 )
 
 returns : tie.Need-returns Inv-loop μ-loop
-returns c = filled-whole (λ p. bit ((c .before .before .before .args) .word) (crossed p)) _ _ _ ((c .before .loop) .inv .1) (omega (arith, (c .before .before .before .pre) .1)) (omega (arith, (c .before .before .before .pre) .1))
+returns c =
+    filled-whole (λ p. bit ((c .before .before .before .args) .word) (crossed p)) _ _ _ ((c .before .loop) .inv .1)
+    (omega (arith, (c .before .before .before .pre) .1)) (omega (arith, (c .before .before .before .pre) .1))
 
 pub unpack-word-spec : {M : Type 1} → statement M
 unpack-word-spec =
