@@ -126,14 +126,6 @@ module _ (k : ℕ) (vs : List ℕ) (h : length vs ≡ length (fields k)) where
   unfolding inBounds kind
   made-fits U G = fits-body U G (fields k) vs h
 
-  pub made-size : 0 < size k → length (recordOf k vs) ≡ size k
-  unfolding size
-  made-size = go (fields k) h
-    where
-      go : (fs : List Field) → length vs ≡ length fs → 0 < sizeWith fs → suc (length (bodyOf fs vs)) ≡ sizeWith fs
-      go [] e l = absurd (omega arith)
-      go (f ∷ fs) e l = ap suc (length-body (f ∷ fs) vs e)
-
 -- ---- what question 12 tells of a field
 value-fits : (U G : ℕ) (f : Field) (fs : List Field) (bs : List ℕ) → among f fs ≡ true → bodyFits U G fs bs ≡ true
     → fieldFits U G f (valueIn f fs bs) ≡ true

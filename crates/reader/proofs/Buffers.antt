@@ -45,10 +45,6 @@ rest-is : (k : ℕ) (front rest : List ℕ) → front ≡ zeros k → drop k (fr
 rest-is k front rest e =
     rw e (ap (λ (i : ℕ). drop i (zeros k ++ rest)) (sym (length-tabulate k (λ i. false))) ∙ drop-append-seam (zeros k) rest)
 
-no-zeros : zeros 0 ≡ []
-unfolding tabulate
-no-zeros = refl
-
 -- ---- the part of a buffer that is lent
 pub part-long : (k : ℕ) (l : List ℕ) → k ≤ length l → k ≡ length (take k l)
 part-long k l h = sym (length-take-le k l h)

@@ -95,10 +95,6 @@ assign-above p (suc j) b =
 pub shift-half : (p j : ℕ) → p / 2 ^ suc j ≡ p / 2 ^ j / 2
 shift-half p j = ap (λ (x : ℕ). p / x) (pow-suc 2 j) ∙ sym (div-div-eq-div-mul p (2 ^ j) 2)
 
-pub assign-higher : (p j : ℕ) (b : Bool) → assign p j b / 2 ^ suc j ≡ p / 2 ^ suc j
-assign-higher p j b =
-    shift-half (assign p j b) j ∙ ap (λ (x : ℕ). x / 2) (assign-above p j b) ∙ half-digit (p / 2 ^ suc j) (digit b) (digit-lt b)
-
 -- a point of n letters stays one
 pub assign-lt : (n p j : ℕ) (b : Bool) → p < 2 ^ n → j < n → assign p j b < 2 ^ n
 unfolding assign

@@ -143,10 +143,6 @@ answerTable-cong (suc U) n a b e =
     ∙ ap₂ _++_ (answerTable-cong U n a b (λ j m l h. e j m (omega arith) h)) (table-cong n (a U) (b U) (λ m l. e U m (omega arith) l))
     ∙ sym (answerTable-last U n b)
 
-pub value-present-values : (n : ℕ) (t : List ℕ) (p : ℕ) → p < 2 ^ n → present (values n t) p ≡ value n (present t) p
-unfolding values
-value-present-values n t p l = present-tabulate (2 ^ n) _ p l
-
 -- back to the polynomials that have these values
 pub values-back : (u n : ℕ) (a : ℕ → Polynomial) (h : ℕ → ℕ → Bool) → ((j p : ℕ) → j < u → p < 2 ^ n → h j p ≡ value n (a j) p)
     → answerTable u n (λ j. value n (h j)) ≡ answerTable u n a
@@ -156,25 +152,5 @@ values-back u n a h e = answerTable-cong u n _ _ (λ j m hj hm. value-cong n _ _
 pub same-is-table : (n : ℕ) (s t : List ℕ) → s ≡ t → IsTable n t → IsTable n s
 same-is-table n s t e h = rw e h
 
-pub values-is-table : (n : ℕ) (s t : List ℕ) → s ≡ values n t → IsTable n s
-unfolding values
-values-is-table n s t e = rw e (is-table n _)
-
-pub tabulate-is-table : (n k : ℕ) (h : ℕ → Bool) (s : List ℕ) → s ≡ tabulate k h → k ≡ 2 ^ n → IsTable n s
-tabulate-is-table n k h s e ek = rw (e, ek) (is-table n h)
-
-pub tabulated-bits : (k : ℕ) (h : ℕ → Bool) (t : List ℕ) → t ≡ tabulate k h → AreBits t
-tabulated-bits k h t e m = rw e (bits-tabulate k h m)
-
-pub tabulated-length : (k size : ℕ) (h : ℕ → Bool) (t : List ℕ) → t ≡ tabulate k h → k ≡ size → length t ≡ size
-tabulated-length k size h t e es = ap length e ∙ length-tabulate k h ∙ es
-
-pub same-bits : (s t : List ℕ) → s ≡ t → AreBits t → AreBits s
-same-bits s t e h = rw e h
-
 pub answers-length : (count n : ℕ) (a : ℕ → Polynomial) (s : List ℕ) → s ≡ answerTable count n a → length s ≡ count * 2 ^ n
 answers-length count n a s e = ap length e ∙ length-answerTable count n a
-
-pub answers-bits : (count n : ℕ) (a : ℕ → Polynomial) (s : List ℕ) → s ≡ answerTable count n a → AreBits s
-unfolding answerTable
-answers-bits count n a s e = rw e (bits-tabulate (count * 2 ^ n) _)

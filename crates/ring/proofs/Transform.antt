@@ -133,10 +133,3 @@ stage-flip n f j p h e =
     ∙ rw e (xor-comm (stageAt n f (suc j) (p / 2 ^ j / 2) (p % 2 ^ j)) (stageAt n f (suc j) (p / 2 ^ j / 2) (2 ^ j + p % 2 ^ j)))
     ∙ ap₂ _⊕_ (ap₂ (stageAt n f (suc j)) (sym (shift-half p j)) (sym (column-true p j e)))
     (ap₂ (stageAt n f (suc j)) (sym (without-row p j e)) (sym (without-column p j e)))
-
-pub bit-without : (p j : ℕ) → bit p j ≡ true → bit (p - 2 ^ j) j ≡ false
-unfolding bit
-bit-without p j e =
-    let q : ℕ = p / 2 ^ j / 2 * 2 in
-    let h : (p - 2 ^ j) / 2 ^ j ≡ q = ap (λ (x : ℕ). x / 2 ^ j) (without p j e) ∙ high q j (mod-lt p (pow-pos j)) in
-    ne-eqb ((p - 2 ^ j) / 2 ^ j % 2) 1 (omega arith)

@@ -147,9 +147,3 @@ pointOf-local [] v w e = refl
 pointOf-local (x ∷ L) v w e =
     ap₂ (λ (p : ℕ) (b : Bool). p * 2 + digit b) (pointOf-local L v w (λ l h. e l (rw h (or-true (sameLetter x l)))))
     (e x (rw (sameLetter-refl x)))
-
--- the value of a polynomial over L turns on the letters of L alone
-pub value-local : (L : List Letter) (f : Polynomial) (v w : Valuation) → ((l : Letter) → holds L l ≡ true → v l ≡ w l)
-    → valueOver L f v ≡ valueOver L f w
-unfolding valueOver
-value-local L f v w e = ap (value (length L) f) (pointOf-local L v w e)

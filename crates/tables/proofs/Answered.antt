@@ -52,21 +52,11 @@ pub reply-no : (question : Question) (answer : Bool) (given : List ℕ) (rest : 
 unfolding reply
 reply-no question answer given rest values e = rw e
 
-pub reply-refused : (questions : List Asked) (values : List ℕ) → givesNothing questions ≡ true → (firstNo questions ≡ 0 → ⊥)
-    → refused (firstNo questions) [] ≡ reply questions values
-reply-refused questions values p n = rw (append-nil questions) at (reply-stops questions [] values p n)
-
 -- ---- what becomes of a buffer
 pub after-refused : (found : ℕ) (answer lent : List ℕ) → (found ≡ 0 → ⊥) → lent ≡ after found answer lent
 unfolding after
 after-refused zero answer lent n = absurd (n refl)
 after-refused (suc found) answer lent n = refl
-
--- as the code leaves it
-pub after-done : (found : ℕ) (answer lent front : List ℕ) (k : ℕ) → found ≡ 0 → front ≡ answer → k ≡ length answer
-    → front ++ drop k lent ≡ after found answer lent
-unfolding after
-after-done found answer lent front k z ef ek = rw (z, ef, ek)
 
 -- ---- a call's contract is built
 -- the buffers as they were lent

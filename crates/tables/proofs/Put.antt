@@ -32,12 +32,6 @@ put-both {old} {mid} {new} {vs} {ws} {at} {next} {last} p q =
 pub put-same : {old new vs ws : List ℕ} {at next : ℕ} → Put old at vs next new → vs ≡ ws → Put old at ws next new
 put-same p e = rw e at p
 
--- what stands in front, when all was put from the start
-pub put-front : {old vs new : List ℕ} {next : ℕ} → Put old 0 vs next new → take next new ≡ vs
-put-front {old} {vs} {new} {next} p =
-    let e : next ≡ length vs = omega (arith, p .place) in
-    rw (e, p .bytes, sets-eq vs old 0 (omega (arith, p .inside))) (take-append-seam vs _)
-
 -- nothing, a byte behind a part, and a byte in front of one
 pub put-none : (old : List ℕ) (at : ℕ) → at ≤ length old → Put old at [] at old
 put-none old at h = record { place = sym (add-zero at); inside = h; bytes = refl }
