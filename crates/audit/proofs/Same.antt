@@ -24,7 +24,7 @@ use Rattle.ring.proofs.Lists.{listed-tabulate}
 use Rattle.ring.proofs.Table.{is-table, same-is-table, getD-tabulate, present-tabulate, present-table, held-answerTable, answerTable-cong, answers-length}
 use Rattle.ring.proofs.Value.{value-cong, involution}
 use Rattle.tables.proofs.Parts.{answers-fit}
-use Rattle.words.specs.Words.{wordsOf, bitAt, answerWords}
+use Rattle.words.specs.Inner.Words.{wordsOf, bitAt, answerWords}
 use Rattle.words.proofs.Letters.{room, count-small}
 use Rattle.words.proofs.Parts.{part-fits}
 use Rattle.words.proofs.Words.{words-cong, at-words}

@@ -12,7 +12,7 @@ ghost use lib.ListN.{length};
 ghost use Rattle.ring.specs.Polynomial.{Polynomial, value};
 ghost use Rattle.ring.specs.Table.{answerTable};
 ghost use Rattle.tables.specs.Answered.{answered};
-ghost use Rattle.words.specs.Words.{answerWords};
+ghost use Rattle.words.specs.Inner.Words.{answerWords};
 ghost use Rattle.solution.specs.Condition.{defaultOrder};
 ghost use Rattle.solution.specs.Elimination.{solved, none, solve};
 ghost use Rattle.entry.specs.Held.{records};

@@ -14,7 +14,7 @@ use borrow.Author.Tests.{eqb-true, eqb-false, lt-ltb}
 use Rattle.ring.specs.Letters.{bit}
 use Rattle.ring.specs.Lists.{has, listed}
 use Rattle.ring.proofs.Lists.{listed-getD, listed-cong}
-use Rattle.words.specs.Words.{wordOf, wordsOf, answerWords}
+use Rattle.words.specs.Inner.Words.{wordOf, wordsOf, answerWords}
 use Rattle.words.proofs.Parts.{part-fits, part-below, points-in, part-point, words-parts}
 use Rattle.words.proofs.Words.{length-words, getD-words, word-cong, words-cong, words-listed}
 use Rattle.solution.specs.Condition.{IsOrder}

@@ -18,7 +18,7 @@ use Rattle.ring.proofs.Lists.{has-cases}
 use borrow.Author.Tests.{eq-eqb, ne-eqb}
 use Rattle.ring.proofs.Points.{assign-lt}
 use Rattle.tables.proofs.Slices.{rest-of}
-use Rattle.words.specs.Words.{wordsOf, bitAt, IsWords}
+use Rattle.words.specs.Inner.Words.{wordsOf, bitAt, IsWords}
 use Rattle.words.proofs.Words.{words-cong, at-known, at-words, size-words, length-words}
 use Rattle.solution.specs.Inner.ByPoints.{bothCases, remainsThrough, answeredThrough}
 use Rattle.solution.proofs.Elimination.{answered-kept, answered-lt}

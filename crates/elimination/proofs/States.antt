@@ -12,7 +12,7 @@ use borrow.Author.Tests.{ltb-true, ltb-false}
 use Rattle.ring.specs.Letters.{bit}
 use Rattle.ring.specs.Lists.{listed}
 use Rattle.ring.proofs.Points.{bit-above}
-use Rattle.words.specs.Words.{wordsOf, bitAt, answerWords, First}
+use Rattle.words.specs.Inner.Words.{wordsOf, bitAt, answerWords, First}
 use Rattle.words.proofs.Letters.{room}
 use Rattle.words.proofs.Words.{at-known}
 use Rattle.solution.specs.Condition.{IsOrder}

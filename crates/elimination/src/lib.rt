@@ -13,7 +13,7 @@ ghost use Rattle.ring.specs.Polynomial.{_⊕_};
 ghost use Rattle.solution.specs.Condition.{IsOrder};
 ghost use Rattle.solution.specs.Elimination.{smallestBelow};
 ghost use Rattle.solution.specs.Inner.ByPoints.{bothCases, remainsThrough, answeredThrough};
-ghost use Rattle.words.specs.Words.{wordsOf, bitAt, answerWords};
+ghost use Rattle.words.specs.Inner.Words.{wordsOf, bitAt, answerWords};
 ghost use Rattle.elimination.specs.Inner.Stages.{InLetters, IgnoresUnknowns, noRepeats, ListsEach};
 ghost use Rattle.elimination.specs.Inner.Stages.{stageWords, slotWords, putWords, firstAnswered, placeOf, slotWord};
 

@@ -17,7 +17,7 @@ use Rattle.grammar.specs.Reader.{sum, reads, isWhole, grammarReads, treeOf}
 use Rattle.grammar.specs.Text.{IsRead, textTable}
 use Rattle.grammar.proofs.Points.{value-normal}
 use Rattle.grammar.proofs.Theorems.{text-declared}
-use Rattle.words.specs.Words.{bitAt}
+use Rattle.words.specs.Inner.Words.{bitAt}
 use Rattle.words.proofs.Words.{words-cong, length-words, at-known}
 use Rattle.words.proofs.Letters.{room, table-back}
 use Rattle.parser.specs.Inner.Codes.{codes}

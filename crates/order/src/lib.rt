@@ -8,7 +8,7 @@ ghost use mathlib.Core.List.{_++_};
 ghost use Prim.Native.Nat.{_+_, _-_, _^_, _≤_, _<_};
 ghost use lib.ListN.{length, take, drop};
 ghost use Rattle.ring.specs.Letters.{digit};
-ghost use Rattle.words.specs.Words.{bitAt};
+ghost use Rattle.words.specs.Inner.Words.{bitAt};
 ghost use Rattle.order.specs.Order.{letters, order, monomials};
 ghost use Rattle.order.specs.Inner.Place.{AreCounts, choose, nth, rank};
 ghost use Rattle.order.specs.Inner.Listing.{tagged, Listed};

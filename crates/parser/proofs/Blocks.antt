@@ -23,7 +23,7 @@ use Rattle.grammar.specs.Symbols.{timesSign, plusSign, orSign, isSingle}
 use Rattle.grammar.specs.Grammar.{Tree, constant, negation, times}
 use Rattle.grammar.specs.Meaning.{atPoint}
 use Rattle.grammar.specs.Reader.{is, joinsSum, joined}
-use Rattle.words.specs.Words.{wordsOf, lowLetters}
+use Rattle.words.specs.Inner.Words.{wordsOf, lowLetters}
 use Rattle.words.proofs.Words.{word-is, word-lt, word-bit, word-cong}
 use Rattle.words.proofs.Turned.{low-letter, high-letter}
 use Rattle.parser.specs.Inner.Codes.{meant}

@@ -22,7 +22,7 @@ use Rattle.grammar.specs.Meaning.{atPoint}
 use Rattle.grammar.specs.Reader.{nothing, found, Reader, sum, product, factor, sumFrom, productFrom}
 use Rattle.grammar.specs.Reader.{andThen, is, joinsSum, joined, closed, factorAt, reads}
 use Rattle.grammar.proofs.Fixed.{fixed, then-nothing, then-found}
-use Rattle.words.specs.Words.{wordsOf}
+use Rattle.words.specs.Inner.Words.{wordsOf}
 use Rattle.parser.specs.Inner.Codes.{meant, meanings}
 use Rattle.parser.specs.Inner.Blocks.{ones, wordAt, letterOf, joinOf, paired, IsUpTo, IsMissing, Agrees}
 use Rattle.parser.specs.declared.Place.{Place}

@@ -9,7 +9,7 @@ use lib.ListN.{length, drop, take, drop-of-length-le}
 use lib.Seq.{drop-cons, length-take-le}
 use Rattle.grammar.specs.Meaning.{atPoint}
 use Rattle.grammar.specs.Reader.{sum, reads, isWhole}
-use Rattle.words.specs.Words.{wordsOf}
+use Rattle.words.specs.Inner.Words.{wordsOf}
 use Rattle.parser.specs.Inner.Codes.{meanings}
 use Rattle.parser.specs.Inner.Blocks.{IsUpTo, IsMissing, wholeWords}
 

@@ -24,7 +24,7 @@ use Rattle.ring.proofs.Lists.{getD-listed}
 use Rattle.ring.proofs.Points.{bit-pointWhere, pointWhere-lt, pointWhere-cong, same-letters, bit-none}
 use Rattle.ring.proofs.Substitute.{value-forUnknowns}
 use Rattle.tables.proofs.Filled.{filled, filled-low, filled-high, filled-more, filled-read}
-use Rattle.words.specs.Words.{wordOf, wordsOf, bitAt, answerWords}
+use Rattle.words.specs.Inner.Words.{wordOf, wordsOf, bitAt, answerWords}
 use Rattle.words.proofs.Bits.{bit-in, bit-over, shr-bit, shl-bit}
 use Rattle.words.proofs.Words.{word-cong, bit-at, at-known}
 use Rattle.words.proofs.Holds.{Holds, word-holds, and-holds, xor-holds, also-holds, holds-word, constant-holds}

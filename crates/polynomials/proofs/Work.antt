@@ -17,7 +17,7 @@ use Rattle.ring.proofs.Value.{value-cong, value-product}
 use Rattle.tables.proofs.Bits.{bits-take, bits-drop}
 use Rattle.tables.proofs.Filled.{filled}
 use Rattle.tables.proofs.Parts.{held-part}
-use Rattle.words.specs.Words.{wordOf, wordsOf, bitAt, answerWords}
+use Rattle.words.specs.Inner.Words.{wordOf, wordsOf, bitAt, answerWords}
 use Rattle.words.proofs.Words.{words-cong, at-known, size-words}
 use Rattle.words.proofs.Letters.{room, table-back}
 use Rattle.words.proofs.Parts.{part-length, parts-end, words-parts}

@@ -9,7 +9,7 @@ ghost use Rattle.ring.specs.Letters.{bit, pointWhere};
 ghost use Rattle.ring.specs.Lists.{listed};
 ghost use Rattle.ring.specs.Polynomial.{sum, product, substitute};
 ghost use Rattle.ring.specs.Table.{AreBits, IsTable, present, table, held, forUnknowns};
-ghost use Rattle.words.specs.Words.{wordOf, wordsOf, bitAt, answerWords};
+ghost use Rattle.words.specs.Inner.Words.{wordOf, wordsOf, bitAt, answerWords};
 ghost use Rattle.polynomials.specs.Inner.LookUp.{chosen, placeOf, putFor};
 
 // The sum of two tables, into a third.

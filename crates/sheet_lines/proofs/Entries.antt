@@ -19,7 +19,7 @@ use Rattle.tables.specs.Inner.Put.{Put}
 use Rattle.tables.specs.Questions.{lettersFit}
 use Rattle.tables.proofs.Put.{put-length, put-both, put-same}
 use Rattle.tables.proofs.Questions.{letters-small, unknowns-small}
-use Rattle.words.specs.Words.{wordsOf, bitAt}
+use Rattle.words.specs.Inner.Words.{wordsOf, bitAt}
 use Rattle.words.proofs.Words.{at-known, words-cong, size-words}
 use Rattle.words.proofs.Letters.{room}
 use Rattle.grammar.specs.Text.{textTable}

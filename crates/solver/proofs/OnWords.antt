@@ -18,7 +18,7 @@ use Rattle.tables.specs.declared.Question.the-variants.{Solution}
 use Rattle.tables.specs.Questions.{firstNo}
 use Rattle.tables.specs.Answered.{answered, _into_}
 use Rattle.tables.proofs.Answered.{call-last-no, call-done}
-use Rattle.words.specs.Words.{wordsOf, bitAt, answerWords}
+use Rattle.words.specs.Inner.Words.{wordsOf, bitAt, answerWords}
 use Rattle.words.proofs.Letters.{room, points}
 use Rattle.words.proofs.Words.{at-known}
 use Rattle.solution.specs.Condition.{Condition, width, polynomial, IsOrder, defaultOrder}

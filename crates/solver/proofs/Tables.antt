@@ -19,7 +19,7 @@ use Rattle.ring.proofs.Value.{value-cong}
 use Rattle.tables.proofs.Bits.{bits-take, bits-drop}
 use Rattle.tables.proofs.Filled.{filled}
 use Rattle.tables.proofs.Parts.{held-part}
-use Rattle.words.specs.Words.{wordOf, wordsOf, bitAt, answerWords}
+use Rattle.words.specs.Inner.Words.{wordOf, wordsOf, bitAt, answerWords}
 use Rattle.words.proofs.Letters.{room}
 use Rattle.words.proofs.Words.{word-cong, at-known}
 use Rattle.words.proofs.Parts.{points-in, parts-more, parts-end, part-length, words-parts}

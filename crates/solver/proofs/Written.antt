@@ -15,7 +15,7 @@ use Rattle.ring.specs.Table.{present, held, answerTable}
 use Rattle.ring.proofs.Points.{assign-above, assign-bit, assign-clear}
 use Rattle.ring.proofs.Table.{values-back, present-take, held-take, answerTable-cong, length-answerTable}
 use Rattle.ring.proofs.Value.{product-cong}
-use Rattle.words.specs.Words.{wordsOf, bitAt, IsWords, answerWords}
+use Rattle.words.specs.Inner.Words.{wordsOf, bitAt, IsWords, answerWords}
 use Rattle.words.proofs.Letters.{room}
 use Rattle.words.proofs.Words.{at-known, size-words, words-cong}
 use Rattle.solution.specs.Condition.{Condition, width, polynomial}

@@ -16,7 +16,7 @@ ghost use Rattle.ring.specs.Polynomial.{value};
 ghost use Rattle.ring.specs.Table.{IsTable, AreBits, held, answerTable};
 ghost use Rattle.tables.specs.Questions.{firstNo};
 ghost use Rattle.tables.specs.Answered.{answered};
-ghost use Rattle.words.specs.Words.{wordsOf, bitAt, answerWords};
+ghost use Rattle.words.specs.Inner.Words.{wordsOf, bitAt, answerWords};
 ghost use Rattle.solution.specs.Condition.{conditionOf};
 ghost use Rattle.solution.specs.Inner.ByPoints.{zeroChoice};
 ghost use Rattle.elimination.specs.Inner.Stages.{ListsEach};

@@ -16,7 +16,7 @@ use Rattle.ring.specs.Polynomial.{count}
 use Rattle.ring.proofs.Mask.{low}
 use Rattle.ring.proofs.Parity.{count-first}
 use Rattle.ring.proofs.Points.{bit-zero, bit-suc, digit-low}
-use Rattle.words.specs.Words.{bitAt, First}
+use Rattle.words.specs.Inner.Words.{bitAt, First}
 use Rattle.words.proofs.Words.{bit-at}
 
 -- ---- the number of ones

@@ -25,7 +25,7 @@ use Rattle.ring.proofs.Points.{bit-none, same-letters}
 use Rattle.ring.proofs.Table.{tabulate-cong}
 use Rattle.tables.proofs.Bits.{byte-digit}
 use Rattle.tables.proofs.Filled.{filled-read}
-use Rattle.words.specs.Words.{wordOf, wordsOf, bitAt, crossed, eightOf}
+use Rattle.words.specs.Inner.Words.{wordOf, wordsOf, bitAt, crossed, eightOf}
 use Rattle.words.proofs.Bits.{shl-bit, shr-bit, shl-none}
 use Rattle.words.proofs.Words.{word-is, word-cong, words-cong, size-words, bit-at, at-known}
 use Rattle.words.proofs.Packing.{small-size}

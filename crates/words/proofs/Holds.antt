@@ -15,7 +15,7 @@ use Rattle.ring.proofs.Bool.{same-bool}
 use Rattle.ring.proofs.Every.{every-all}
 use Rattle.ring.proofs.Bitwise.{and-bit, xor-bit}
 use Rattle.tables.proofs.Filled.{filled, filled-more}
-use Rattle.words.specs.Words.{wordOf, wordsOf, bitAt}
+use Rattle.words.specs.Inner.Words.{wordOf, wordsOf, bitAt}
 use Rattle.words.proofs.Words.{word-is, word-lt, word-bit, bit-at}
 
 -- the machine word v has the bits h

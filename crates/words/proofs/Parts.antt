@@ -14,7 +14,7 @@ use borrow.Rule.Slice.PartMut.{putMid}
 use Rattle.ring.specs.Lists.{listed}
 use Rattle.ring.proofs.Lists.{length-listed, listed-add}
 use Rattle.tables.proofs.Filled.{filled, filled-all}
-use Rattle.words.specs.Words.{wordOf, bitAt, answerWords}
+use Rattle.words.specs.Inner.Words.{wordOf, bitAt, answerWords}
 use Rattle.words.proofs.Words.{words-listed, word-cong, at-known}
 
 -- one more part of k elements put

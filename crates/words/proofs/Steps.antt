@@ -13,7 +13,7 @@ use lib.Pow.{high, pow-add}
 use lib.ListN.{length, getD, set}
 use Rattle.ring.specs.Letters.{bit}
 use Rattle.tables.proofs.Filled.{filled, filled-low, filled-high, filled-set, filled-skip}
-use Rattle.words.specs.Words.{xorRun}
+use Rattle.words.specs.Inner.Words.{xorRun}
 
 -- what stands at m after letter j's step
 unfoldable pub stepWord : ℕ → List ℕ → ℕ → ℕ

@@ -10,7 +10,7 @@ ghost use Rattle.ring.specs.Lists.{listed};
 ghost use Rattle.ring.specs.Letters.{digit, bit, assign};
 ghost use Rattle.ring.specs.Polynomial.{_⊕_, count, value};
 ghost use Rattle.ring.specs.Table.{AreBits, IsTable, present, tabulate, table};
-ghost use Rattle.words.specs.Words.{wordOf, wordsOf, bitAt, First, lowLetters, stepped, steppedBelow, xorRun, turned, crossed, eightOf};
+ghost use Rattle.words.specs.Inner.Words.{wordOf, wordsOf, bitAt, First, lowLetters, stepped, steppedBelow, xorRun, turned, crossed, eightOf};
 
 // The number of words of n letters.
 pub fn word_count(n: usize) -> usize

@@ -16,7 +16,7 @@ use Rattle.ring.specs.Table.{IsTable, present, table, tabulate, held, answerTab
 use Rattle.ring.proofs.Table.{present-table, held-answerTable, same-table, is-table, present-tabulate}
 use Rattle.ring.proofs.Value.{value-cong, involution}
 use Rattle.tables.specs.Answered.{Reply, Answered}
-use Rattle.words.specs.Words.{wordsOf, bitAt, answerWords}
+use Rattle.words.specs.Inner.Words.{wordsOf, bitAt, answerWords}
 use Rattle.words.proofs.Words.{at-known, words-cong, size-words}
 use Rattle.words.proofs.Letters.{room, value-low, values-taken, count-small}
 use Rattle.order.specs.Order.{order, monomials}

@@ -14,7 +14,7 @@ use Rattle.ring.specs.Polynomial.{Polynomial, value}
 use Rattle.ring.specs.Table.{IsTable, present, table, tabulate}
 use Rattle.ring.proofs.Table.{same-table, is-table, present-tabulate}
 use Rattle.ring.proofs.Value.{value-cong}
-use Rattle.words.specs.Words.{wordsOf, bitAt}
+use Rattle.words.specs.Inner.Words.{wordsOf, bitAt}
 use Rattle.words.proofs.Words.{at-known, words-cong}
 use Rattle.words.proofs.Letters.{room, value-low, values-taken, count-small}
 use Rattle.order.specs.Order.{order, monomials}

@@ -13,7 +13,7 @@ ghost use Rattle.ring.specs.Table.{table};
 ghost use Rattle.tables.specs.Questions.{firstNo};
 ghost use Rattle.tables.specs.Answered.{answered};
 ghost use Rattle.tables.specs.Inner.Put.{Put};
-ghost use Rattle.words.specs.Words.{wordsOf, bitAt};
+ghost use Rattle.words.specs.Inner.Words.{wordsOf, bitAt};
 ghost use Rattle.order.specs.Order.{order, monomials};
 ghost use Rattle.order.specs.Inner.Listing.{tagged, Listed};
 ghost use Rattle.solution.specs.Condition.{conditionOf, defaultOrder};

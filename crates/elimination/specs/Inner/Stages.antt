@@ -12,7 +12,7 @@ use Rattle.ring.specs.Lists.{has}
 use Rattle.ring.specs.Polynomial.{_⊕_}
 use Rattle.solution.specs.Condition.{IsOrder}
 use Rattle.solution.specs.Inner.ByPoints.{bothCases, answeredThrough, zeroChoice}
-use Rattle.words.specs.Words.{wordsOf, bitAt}
+use Rattle.words.specs.Inner.Words.{wordsOf, bitAt}
 
 -- the letters of a list are below n
 abbrev pub InLetters : ℕ → List ℕ → Type 0

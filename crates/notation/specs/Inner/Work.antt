@@ -11,7 +11,7 @@ use Rattle.tables.specs.Questions.{Asked, asks, firstNo, lettersFit, writes, bu
 use Rattle.grammar.specs.Symbols.{allSigns, allDeclared}
 use Rattle.grammar.specs.Reader.{grammarReads}
 use Rattle.grammar.specs.Text.{textTable}
-use Rattle.words.specs.Words.{wordsOf}
+use Rattle.words.specs.Inner.Words.{wordsOf}
 use Rattle.calls.specs.Questions.{hasTextLength}
 
 -- 'Text: 1, 3, 4, 5, 6, 7': 1, 3 and 4 are about numbers and lengths

@@ -7,7 +7,7 @@ use borrow.Author.Needs.{needs}
 use lib.Pow.{pow-mono}
 use Rattle.ring.specs.Letters.{digit}
 use lib.ListN.{length}
-use Rattle.words.specs.Words.{bitAt}
+use Rattle.words.specs.Inner.Words.{bitAt}
 use Rattle.order.proofs.Order.{length-order}
 use Rattle.order.proofs.Listing.{Listing, listing-start, listing-room, listing-more, listing-end, listed-monomials, mask-place, mask-in-words}
 use Rattle.order.proofs.list_monomials.Statement.{statement}

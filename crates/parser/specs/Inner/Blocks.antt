@@ -13,7 +13,7 @@ use Rattle.grammar.specs.Grammar.{Tree}
 use Rattle.grammar.specs.Meaning.{atPoint}
 use Rattle.grammar.specs.Reader.{Reading, nothing, found, Reader, reads, isWhole, treeRead}
 use Rattle.parser.specs.Inner.Codes.{meanings}
-use Rattle.words.specs.Words.{wordOf, wordsOf}
+use Rattle.words.specs.Inner.Words.{wordOf, wordsOf}
 use Rattle.parser.specs.declared.Place.{Place}
 use Rattle.parser.specs.declared.Place.the-variants.{Missing, UpTo}
 

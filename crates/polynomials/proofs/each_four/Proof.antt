@@ -7,7 +7,7 @@ use lib.ListN.{length}
 use Rattle.ring.specs.Letters.{bit}
 use Rattle.ring.specs.Lists.{listed}
 use Rattle.tables.proofs.Filled.{filled, filled-start, filled-more, filled-end}
-use Rattle.words.specs.Words.{wordOf}
+use Rattle.words.specs.Inner.Words.{wordOf}
 use Rattle.polynomials.specs.Inner.LookUp.{placeOf}
 use Rattle.polynomials.proofs.each_four.Statement.{statement}
 use Rattle.polynomials.proofs.each_four.Tie as tie

@@ -5,7 +5,7 @@ use borrow.Author.Needs.{needs}
 use lib.ListN.{length}
 use Rattle.ring.specs.Letters.{pointWhere}
 use Rattle.tables.proofs.Filled.{filled-start, filled-more, filled-read}
-use Rattle.words.specs.Words.{bitAt}
+use Rattle.words.specs.Inner.Words.{bitAt}
 use Rattle.words.proofs.Words.{words-end}
 use Rattle.words.proofs.Holds.{wordsTo}
 use Rattle.polynomials.proofs.LookUp.{looked-up}

@@ -7,7 +7,7 @@ use lib.ListN.{length, take}
 use Rattle.ring.specs.Polynomial.{value}
 use Rattle.ring.specs.Table.{table}
 use Rattle.tables.specs.Inner.Put.{Put}
-use Rattle.words.specs.Words.{wordsOf, bitAt}
+use Rattle.words.specs.Inner.Words.{wordsOf, bitAt}
 use Rattle.grammar.specs.Text.{textTable}
 use Rattle.solution.specs.Condition.{conditionOf}
 use Rattle.entry.specs.Entry.{archivedRecords}

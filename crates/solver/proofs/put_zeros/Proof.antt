@@ -5,7 +5,7 @@ use native.Mathlib.Omega.{arith}
 use borrow.Author.Needs.{needs}
 use lib.ListN.{length}
 use Rattle.solution.specs.Inner.ByPoints.{zeroChoice}
-use Rattle.words.specs.Words.{wordsOf, bitAt}
+use Rattle.words.specs.Inner.Words.{wordsOf, bitAt}
 use Rattle.words.proofs.Words.{size-words}
 use Rattle.words.proofs.Turned.{machine-words}
 use Rattle.solver.proofs.Written.{zeros-start, zeros-more, zeros-end}

@@ -7,7 +7,7 @@ use borrow.Author.Needs.{needs}
 use lib.ListN.{length}
 use Rattle.ring.specs.Polynomial.{value}
 use Rattle.tables.proofs.Filled.{filled, filled-start}
-use Rattle.words.specs.Words.{bitAt}
+use Rattle.words.specs.Inner.Words.{bitAt}
 use Rattle.words.proofs.Words.{size-words}
 use Rattle.words.proofs.Parts.{part-fits, part-length}
 use Rattle.solver.specs.Inner.Words.{partValue, mixedValue}

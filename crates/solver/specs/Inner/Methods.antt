@@ -7,7 +7,7 @@ use Rattle.ring.specs.Polynomial.{value}
 use Rattle.tables.specs.declared.Question.the-variants.{Letters}
 use Rattle.tables.specs.Questions.{Asked, asks, lettersFit, reads, writes, bufferQuestions}
 use Rattle.tables.specs.Answered.{Reply, Answered, call, _into_}
-use Rattle.words.specs.Words.{wordsOf, answerWords}
+use Rattle.words.specs.Inner.Words.{wordsOf, answerWords}
 use Rattle.solution.specs.Condition.{Condition, width, polynomial}
 use Rattle.solution.specs.Elimination.{booleAnswers, booleTable, particularTable, lowenheimTable, smallestBlocked, solvable}
 use Rattle.solution.specs.Elimination.{solved, none, Verdict as Said}

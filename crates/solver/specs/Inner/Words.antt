@@ -5,7 +5,7 @@ use mathlib.Core.List.{List}
 use Prim.Native.Nat.{ℕ, _+_, _*_}
 use Rattle.ring.specs.Letters.{bit}
 use Rattle.ring.specs.Polynomial.{_⊕_}
-use Rattle.words.specs.Words.{bitAt}
+use Rattle.words.specs.Inner.Words.{bitAt}
 
 -- the value of polynomial j at the point p
 unfoldable pub partValue : ℕ → List ℕ → ℕ → ℕ → Bool

@@ -7,7 +7,7 @@ use lib.ListN.{length, getD}
 use Rattle.tables.proofs.Filled.{filled-start, filled-read}
 use Rattle.words.proofs.Words.{words-end}
 use Rattle.ring.specs.Polynomial.{_⊕_}
-use Rattle.words.specs.Words.{bitAt}
+use Rattle.words.specs.Inner.Words.{bitAt}
 use Rattle.words.proofs.Holds.{wordsTo, read-holds, xor-holds, words-more}
 use Rattle.words.proofs.add_into.Statement.{statement}
 use Rattle.words.proofs.add_into.Tie as tie

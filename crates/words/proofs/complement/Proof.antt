@@ -8,7 +8,7 @@ use Rattle.tables.proofs.Filled.{filled-start, filled-read}
 use Rattle.words.proofs.Words.{words-end}
 use mathlib.Core.Bool.{true}
 use Rattle.ring.specs.Polynomial.{_⊕_}
-use Rattle.words.specs.Words.{bitAt}
+use Rattle.words.specs.Inner.Words.{bitAt}
 use Rattle.words.proofs.Holds.{wordsTo, read-holds, constant-holds, xor-holds, words-more}
 use Rattle.words.proofs.complement.Statement.{statement}
 use Rattle.words.proofs.complement.Tie as tie

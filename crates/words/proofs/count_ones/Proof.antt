@@ -7,7 +7,7 @@ use lib.ListN.{length, getD}
 use lib.Count.{ones-le}
 use Rattle.ring.specs.Polynomial.{count}
 use Rattle.ring.proofs.Parity.{count-most}
-use Rattle.words.specs.Words.{bitAt}
+use Rattle.words.specs.Inner.Words.{bitAt}
 use Rattle.words.proofs.Counts.{count-start, count-word}
 use Rattle.words.proofs.count_ones.Statement.{statement}
 use Rattle.words.proofs.count_ones.Tie as tie

@@ -4,7 +4,7 @@ use Prim.Native.Nat.{_≤_, _-_}
 use borrow.Author.Needs.{needs}
 use lib.ListN.{length}
 use Rattle.tables.proofs.Filled.{filled-start}
-use Rattle.words.specs.Words.{bitAt, crossed}
+use Rattle.words.specs.Inner.Words.{bitAt, crossed}
 use Rattle.words.proofs.Words.{words-end}
 use Rattle.words.proofs.Holds.{wordsTo}
 use Rattle.words.proofs.Crossing.{cross-more}

@@ -6,7 +6,7 @@ use borrow.Author.Needs.{needs}
 use lib.ListN.{length, getD}
 use mathlib.Core.Bool.{false}
 use lib.Count.{trailing-le}
-use Rattle.words.specs.Words.{bitAt}
+use Rattle.words.specs.Inner.Words.{bitAt}
 use Rattle.words.proofs.Counts.{trailing-first, none-more, first-found, first-none}
 use Rattle.words.proofs.first_one.Statement.{statement}
 use Rattle.words.proofs.first_one.Tie as tie

@@ -7,7 +7,7 @@ use borrow.Author.Needs.{needs}
 use lib.ListN.{length, drop, length-take, length-drop}
 use Rattle.ring.specs.Table.{present}
 use Rattle.tables.proofs.Filled.{filled, filled-start, filled-more}
-use Rattle.words.specs.Words.{wordOf, crossed}
+use Rattle.words.specs.Inner.Words.{wordOf, crossed}
 use Rattle.words.proofs.Words.{words-end}
 use Rattle.words.proofs.Packing.{part-bits}
 use Rattle.words.proofs.Crossing.{part-crossed}

@@ -4,7 +4,7 @@ use Prim.Native.Nat.{_≤_, _+_, _^_}
 use native.Mathlib.Omega.{arith}
 use borrow.Author.Needs.{needs}
 use Rattle.ring.proofs.Transform.{stage}
-use Rattle.words.specs.Words.{wordsOf, bitAt}
+use Rattle.words.specs.Inner.Words.{wordsOf, bitAt}
 use Rattle.words.proofs.Words.{size-words}
 use Rattle.words.proofs.Transform.{stages-start, stages-next, stages-end}
 use Rattle.words.proofs.Turned.{machine-words}

@@ -8,7 +8,7 @@ use lib.ListN.{length, getD}
 use lib.Pow.{pow-mono}
 use Rattle.ring.specs.Letters.{assign}
 use Rattle.tables.proofs.Filled.{filled-start, filled-read}
-use Rattle.words.specs.Words.{bitAt}
+use Rattle.words.specs.Inner.Words.{bitAt}
 use Rattle.words.proofs.Holds.{wordsTo, words-more}
 use Rattle.words.proofs.Turned.{zero-holds}
 use Rattle.words.proofs.Words.{words-end}

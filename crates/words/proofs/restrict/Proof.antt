@@ -7,7 +7,7 @@ use lib.ListN.{length, getD}
 use Rattle.tables.proofs.Filled.{filled-start, filled-read}
 use Rattle.words.proofs.Words.{words-filled, size-words}
 use Rattle.ring.specs.Letters.{assign}
-use Rattle.words.specs.Words.{bitAt}
+use Rattle.words.specs.Inner.Words.{bitAt}
 use Rattle.words.proofs.Holds.{wordsTo, read-holds, word-holds, constant-holds, words-more}
 use Rattle.words.proofs.Turned.{replace-holds}
 use Rattle.words.proofs.restrict.Statement.{statement}

@@ -5,7 +5,7 @@ use native.Mathlib.Omega.{arith}
 use lib.Pow.{pow-pos}
 use borrow.Author.Needs.{needs}
 use Rattle.ring.specs.Table.{tabulate, table}
-use Rattle.words.specs.Words.{bitAt}
+use Rattle.words.specs.Inner.Words.{bitAt}
 use Rattle.words.proofs.Words.{size-words}
 use Rattle.words.proofs.Letters.{room}
 use Rattle.words.proofs.Packing.{large-size}

@@ -6,7 +6,7 @@ use borrow.Author.Needs.{needs}
 use lib.ListN.{length}
 use Rattle.ring.specs.Letters.{digit}
 use Rattle.tables.proofs.Filled.{filled, filled-start, filled-whole}
-use Rattle.words.specs.Words.{bitAt, crossed}
+use Rattle.words.specs.Inner.Words.{bitAt, crossed}
 use Rattle.words.proofs.Parts.{parts-more, part-length}
 use Rattle.words.proofs.Crossing.{word-listed}
 use Rattle.words.proofs.unpack_all.Statement.{statement}

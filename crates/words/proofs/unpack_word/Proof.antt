@@ -6,7 +6,7 @@ use borrow.Author.Needs.{needs}
 use lib.ListN.{length}
 use Rattle.ring.specs.Letters.{digit, bit}
 use Rattle.tables.proofs.Filled.{filled, filled-start, filled-whole}
-use Rattle.words.specs.Words.{crossed}
+use Rattle.words.specs.Inner.Words.{crossed}
 use Rattle.words.proofs.Parts.{parts-more, part-length}
 use Rattle.words.proofs.Crossing.{row-listed}
 use Rattle.words.proofs.unpack_word.Statement.{statement}

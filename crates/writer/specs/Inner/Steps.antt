@@ -9,7 +9,7 @@ use Rattle.ring.specs.Table.{IsTable}
 use Rattle.tables.specs.declared.Question.the-variants.{Letters, Route, Output}
 use Rattle.tables.specs.Questions.{Asked, asks, lettersFit, reads, bufferQuestions}
 use Rattle.tables.specs.Answered.{Reply, Answered, call, _into_}
-use Rattle.words.specs.Words.{wordsOf, bitAt}
+use Rattle.words.specs.Inner.Words.{wordsOf, bitAt}
 use Rattle.order.specs.Order.{order, monomials}
 use Rattle.order.specs.Inner.Listing.{tagged}
 use Rattle.solution.specs.Condition.{Condition, width}
