@@ -21,7 +21,8 @@ use Rattle.ring.specs.Polynomial.{Polynomial, value}
 use Rattle.ring.specs.Table.{IsTable, present, table, held, answerTable}
 use Rattle.ring.proofs.Bool.{bool-cases, never}
 use Rattle.ring.proofs.Lists.{listed-tabulate}
-use Rattle.ring.proofs.Table.{is-table, same-is-table, getD-tabulate, present-tabulate, present-table, held-answerTable, answerTable-cong, answers-length}
+use Rattle.ring.proofs.Table.{is-table, same-is-table, getD-tabulate, present-tabulate, present-table, held-answerTable, answerTable-cong}
+use Rattle.ring.proofs.Table.{answers-length}
 use Rattle.ring.proofs.Value.{value-cong, involution}
 use Rattle.tables.proofs.Parts.{answers-fit}
 use Rattle.words.specs.Inner.Words.{wordsOf, bitAt, answerWords}

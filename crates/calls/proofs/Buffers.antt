@@ -9,7 +9,8 @@ use lib.ListN.{length, take}
 use lib.Seq.{length-take-le}
 use Rattle.ring.specs.Table.{AreBits, IsTable}
 use Rattle.tables.specs.declared.Question.the-variants.{Letters}
-use Rattle.tables.specs.Questions.{Asked, asks, number, firstNo, lettersFit, Lent, reads, writes, roomQuestions, bitQuestions, bufferQuestions}
+use Rattle.tables.specs.Questions.{Asked, asks, number, firstNo, lettersFit, Lent, reads, writes, roomQuestions, bitQuestions}
+use Rattle.tables.specs.Questions.{bufferQuestions}
 use Rattle.tables.specs.Inner.Asking.{also}
 use Rattle.tables.proofs.FirstNo.{no-to, yes-to, yes-counts, also-none, asked-before, asked-behind}
 use Rattle.tables.proofs.Questions.{letters-small, unknowns-small, room-enough, held-bits}

@@ -11,10 +11,13 @@ use Rattle.tables.specs.Questions.{firstNo, lettersFit}
 use Rattle.tables.specs.Answered.{Reply, accepted, refused}
 use Rattle.order.specs.Order.{letters, before}
 use Rattle.solution.specs.Condition.{defaultOrder}
-use Rattle.solution.specs.Elimination.{nextCondition, remains, answerFrom, booleAnswers, smallestBelow, blocked, smallestBlocked, isZero, solvable, booleTable, solve}
+use Rattle.solution.specs.Elimination.{nextCondition, remains, answerFrom, booleAnswers, smallestBelow, blocked, smallestBlocked, isZero}
+use Rattle.solution.specs.Elimination.{solvable, booleTable, solve}
 use Rattle.entry.specs.Record.{fields, widths, size, kind, fromLowFirst, bytes, among, valueIn, valueOf, bodyFits, inBounds}
-use Rattle.entry.specs.Held.{next, untilEnd, firstRecords, records, hasMonomial, conditionIn, answersIn, unlessNone, heldCondition, heldVerdict}
-use Rattle.entry.specs.Questions.{routeFits, hasEnd, mayFollow, kindsFollow, kindsFit, allInBounds, standsBefore, inOrder, allInOrder, numbersFit, sameBytes, answersHold}
+use Rattle.entry.specs.Held.{next, untilEnd, firstRecords, records, hasMonomial, conditionIn, answersIn, unlessNone, heldCondition}
+use Rattle.entry.specs.Held.{heldVerdict}
+use Rattle.entry.specs.Questions.{routeFits, hasEnd, mayFollow, kindsFollow, kindsFit, allInBounds, standsBefore, inOrder, allInOrder}
+use Rattle.entry.specs.Questions.{numbersFit, sameBytes, answersHold}
 use Rattle.calls.specs.Questions.{entryQuestions, auditQuestions, routeRises, walkQuestions}
 use Rattle.calls.specs.Walk.{walkAtMost, walkBehind, walkReply}
 

@@ -18,7 +18,8 @@ use Rattle.entry.specs.Held.{routeOf, unknownsOf, givensOf}
 use Rattle.entry.specs.Entry.{entry, Archivable}
 use Rattle.entry.specs.Questions.{routeFits, answersHold}
 use Rattle.calls.specs.Text.{Accepted}
-use Rattle.calls.specs.Questions.{lentCondition, textQuestions, outputFits, writeQuestions, entryQuestions, readQuestions, auditQuestions, routeRises, walkQuestions}
+use Rattle.calls.specs.Questions.{lentCondition, textQuestions, outputFits, writeQuestions, entryQuestions, readQuestions}
+use Rattle.calls.specs.Questions.{auditQuestions, routeRises, walkQuestions}
 use Rattle.entry.proofs.Passes.{Passes}
 
 -- ---- a text is read exactly if it is accepted and the buffer has room

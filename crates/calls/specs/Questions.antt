@@ -9,7 +9,8 @@ use lib.Dec.{eqb, leb, ltb}
 use lib.ListN.{length, take}
 use Rattle.ring.specs.declared.State.{State}
 use Rattle.ring.specs.declared.Choice.{Choice}
-use Rattle.tables.specs.declared.Question.the-variants.{Letters, Route, TextLength, Signs, Declared, Grammar, Solution, Records, Kinds, Numbers, Afresh, Output, Rising, Range}
+use Rattle.tables.specs.declared.Question.the-variants.{Letters, Route, TextLength, Signs, Declared, Grammar, Solution, Records, Kinds}
+use Rattle.tables.specs.declared.Question.the-variants.{Numbers, Afresh, Output, Rising, Range}
 use Rattle.tables.specs.Questions.{Asked, asks, asksGiving, lettersFit, reads, writes, bufferQuestions, inRange}
 use Rattle.grammar.specs.Symbols.{allSigns, allDeclared}
 use Rattle.grammar.specs.Reader.{grammarReads}

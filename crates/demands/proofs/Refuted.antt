@@ -15,11 +15,13 @@ use Rattle.ring.specs.Lists.{listed}
 use Rattle.solution.specs.Letters.{Letter, HoldsGivens, place, Valuation, pointOf, valueOver}
 use Rattle.solution.specs.Substitution.{Substitution, letterAt, ownLetters, putIn, InstanceOf}
 use Rattle.solution.specs.Condition.{Condition, polynomial, conditionOf, defaultOrder}
-use Rattle.solution.specs.Elimination.{solved, nextCondition, remains, answerFrom, booleAnswers, particular, lowenheim, ownLowenheim, isZero, solvable, booleTable, solve}
+use Rattle.solution.specs.Elimination.{solved, nextCondition, remains, answerFrom, booleAnswers, particular, lowenheim, ownLowenheim}
+use Rattle.solution.specs.Elimination.{isZero, solvable, booleTable, solve}
 use Rattle.solution.specs.General.{SmallestBlocked, Solves}
 use Rattle.entry.specs.Record.{kind, size, fields, widths, valueOf, valueIn, fromLowFirst, among}
 use Rattle.solution.proofs.Letters.{value-putIn, own-holds}
-use Rattle.entry.specs.Held.{next, untilEnd, firstRecords, records, hasMonomial, conditionIn, answersIn, unlessNone, says, heldCondition, heldVerdict}
+use Rattle.entry.specs.Held.{next, untilEnd, firstRecords, records, hasMonomial, conditionIn, answersIn, unlessNone, says, heldCondition}
+use Rattle.entry.specs.Held.{heldVerdict}
 use Rattle.demands.specs.Demand3.{hasNone, Demand3}
 
 no-givens : (L : List Letter) → HoldsGivens 0 L

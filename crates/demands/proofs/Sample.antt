@@ -16,7 +16,8 @@ use Rattle.grammar.specs.Text.{textTable}
 use Rattle.grammar.proofs.Theorems.{table-derived}
 use Rattle.order.specs.Order.{letters, keep, below, groups, order, monomials}
 use Rattle.solution.specs.Condition.{conditionOf, defaultOrder}
-use Rattle.solution.specs.Elimination.{nextCondition, remains, answerFrom, booleAnswers, smallestBelow, blocked, smallestBlocked, isZero, solvable, booleTable, solve}
+use Rattle.solution.specs.Elimination.{nextCondition, remains, answerFrom, booleAnswers, smallestBelow, blocked, smallestBlocked, isZero}
+use Rattle.solution.specs.Elimination.{solvable, booleTable, solve}
 use Rattle.entry.specs.Record.{fields, lowFirst, bodyOf, bytes}
 use Rattle.entry.specs.Entry.{conditionRecords, answerRecords, verdictRecords, entryRecords, entry}
 use Rattle.demands.specs.Sample.{firstText, firstEntry, secondText, secondEntry, wideText, wideEntry}

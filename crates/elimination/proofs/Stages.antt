@@ -23,7 +23,8 @@ use Rattle.words.proofs.Words.{words-cong, at-known, at-words, size-words, leng
 use Rattle.solution.specs.Inner.ByPoints.{bothCases, remainsThrough, answeredThrough}
 use Rattle.solution.proofs.Elimination.{answered-kept, answered-lt}
 use Rattle.elimination.specs.Inner.Stages.{InLetters, noRepeats, stageWords, answerAt, slotWords, putWords, placeOf}
-use Rattle.elimination.proofs.AnyOrder.{Agree, first-in, rest-in, both-agree, remains-agree, answerAt-agree, no-first, no-rest, answered-more}
+use Rattle.elimination.proofs.AnyOrder.{Agree, first-in, rest-in, both-agree, remains-agree, answerAt-agree, no-first, no-rest}
+use Rattle.elimination.proofs.AnyOrder.{answered-more}
 
 -- the points of 6 + c letters
 pub points : (c : ℕ) → 64 * 2 ^ c ≡ 2 ^ (6 + c)

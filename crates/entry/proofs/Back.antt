@@ -15,7 +15,8 @@ use Rattle.order.specs.Order.{monomials}
 use Rattle.ring.proofs.Bool.{and-left, and-right, both, never}
 use Rattle.solution.specs.Condition.{Condition, width}
 use Rattle.solution.specs.Elimination.{Verdict, solved, none}
-use Rattle.entry.specs.Record.{Record, bytes, fields, widths, size, kind, lowFirst, bodyOf, startRecord, conditionRecord, answerRecord, endRecord, noneRecord, isEnd}
+use Rattle.entry.specs.Record.{Record, bytes, fields, widths, size, kind, lowFirst, bodyOf, startRecord, conditionRecord}
+use Rattle.entry.specs.Record.{answerRecord, endRecord, noneRecord, isEnd}
 use Rattle.entry.specs.Entry.{conditionRecords, answerRecords, verdictRecords, entryRecords, archivedRecords, entry}
 use Rattle.entry.specs.Held.{next, untilEnd, records}
 use Rattle.entry.proofs.Records.{records-next}

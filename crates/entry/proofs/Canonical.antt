@@ -22,9 +22,12 @@ use Rattle.order.specs.Order.{monomials}
 use Rattle.order.proofs.Order.{has-monomials}
 use Rattle.solution.specs.Condition.{Condition, width}
 use Rattle.solution.specs.Elimination.{Verdict, solved, none}
-use Rattle.entry.specs.Record.{Record, routeField, unknownsField, givensField, unknownField, maskField, stateField, fields, kind, among, valueIn, valueOf, isEnd, isNone, isMonomial, tableIn, bodyFits, inBounds, startRecord, endRecord, noneRecord}
+use Rattle.entry.specs.Record.{Record, routeField, unknownsField, givensField, unknownField, maskField, stateField, fields, kind}
+use Rattle.entry.specs.Record.{among, valueIn, valueOf, isEnd, isNone, isMonomial, tableIn, bodyFits, inBounds, startRecord}
+use Rattle.entry.specs.Record.{endRecord, noneRecord}
 use Rattle.entry.specs.Entry.{conditionRecords, verdictRecords, entryRecords}
-use Rattle.entry.specs.Held.{next, untilEnd, firstRecords, records, routeOf, unknownsOf, givensOf, hasMonomial, conditionIn, answersIn, unlessNone, heldCondition, heldVerdict}
+use Rattle.entry.specs.Held.{next, untilEnd, firstRecords, records, routeOf, unknownsOf, givensOf, hasMonomial, conditionIn}
+use Rattle.entry.specs.Held.{answersIn, unlessNone, heldCondition, heldVerdict}
 use Rattle.entry.specs.Questions.{followers, mayFollow, kindsFollow, kindsFit, numbersFit}
 use Rattle.entry.specs.Inner.Places.{placeOf, standsBehind, fitsBehind}
 use Rattle.entry.proofs.Made.{field-fits, every-kind, IsMade, AllMade, valuesIn, of-kind}
@@ -32,8 +35,10 @@ use Rattle.entry.proofs.Places.{numbers-by-places}
 use Rattle.entry.proofs.Back.{isInner, allInner, inner-not-end, end-is, body, entry-body, body-inner}
 use Rattle.entry.proofs.Verdicts.{VerdictFits, answers-fit}
 use Rattle.entry.proofs.EntryPasses.{entry-kinds, entry-places}
-use Rattle.entry.proofs.Held.{entry-route, entry-made, entry-monomials, verdict-no-condition, answers-monomials, solved-unless, none-unless}
-use Rattle.entry.proofs.Unique.{onlyMonomials, only-all, only-has, only-made, rising-unique, held-bounds, fits-bounds, fits-rest, fits-front}
+use Rattle.entry.proofs.Held.{entry-route, entry-made, entry-monomials, verdict-no-condition, answers-monomials, solved-unless}
+use Rattle.entry.proofs.Held.{none-unless}
+use Rattle.entry.proofs.Unique.{onlyMonomials, only-all, only-has, only-made, rising-unique, held-bounds, fits-bounds, fits-rest}
+use Rattle.entry.proofs.Unique.{fits-front}
 
 -- ---- nothing stands behind an end
 abbrev pub isEmpty : List Record → Bool

@@ -17,7 +17,8 @@ use Rattle.ring.proofs.Lists.{has-first, has-rest}
 use Rattle.order.proofs.Order.{rises-tail, rises-first, has-monomials, monomials-rise}
 use Rattle.solution.specs.Condition.{Condition, width}
 use Rattle.solution.specs.Elimination.{Verdict, solved, none}
-use Rattle.entry.specs.Record.{Record, routeField, fields, kind, among, isEnd, isMonomial, inBounds, startRecord, conditionRecord, answerRecord, endRecord, noneRecord}
+use Rattle.entry.specs.Record.{Record, routeField, fields, kind, among, isEnd, isMonomial, inBounds, startRecord, conditionRecord}
+use Rattle.entry.specs.Record.{answerRecord, endRecord, noneRecord}
 use Rattle.entry.specs.Entry.{conditionRecords, answerRecords, verdictRecords, entryRecords}
 use Rattle.entry.specs.Questions.{hasEnd, mayFollow, kindsFollow, kindsFit, numbersFit}
 use Rattle.entry.specs.Inner.Places.{place, standsBehind, fitsBehind}

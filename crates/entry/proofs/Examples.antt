@@ -3,7 +3,9 @@
 use mathlib.Core.Path.{_≡_, refl}
 use mathlib.Core.List.{List, [], _∷_}
 use Prim.Native.Nat.{ℕ}
-use Rattle.entry.specs.Record.{Record, fields, size, widths, kind, lowFirst, fromLowFirst, bodyOf, valueIn, valueOf, startRecord, conditionRecord, answerRecord, endRecord, noneRecord, unknownField, maskField, stateField, givensField, bytes}
+use Rattle.entry.specs.Record.{Record, fields, size, widths, kind, lowFirst, fromLowFirst, bodyOf, valueIn, valueOf, startRecord}
+use Rattle.entry.specs.Record.{conditionRecord, answerRecord, endRecord, noneRecord, unknownField, maskField, stateField}
+use Rattle.entry.specs.Record.{givensField, bytes}
 use Rattle.entry.specs.Held.{next, untilEnd, firstRecords, records}
 
 -- the start of route 7 with 2 unknowns and 8 givens, the monomials 1 and 258 of the condition, 258 for unknown 1, 'none' in state 3, the end

@@ -13,7 +13,9 @@ use borrow.Author.Tests.{eqb-true}
 use Rattle.ring.specs.Polynomial.{everyBelow}
 use Rattle.ring.specs.Lists.{has}
 use Rattle.ring.proofs.Bool.{or-cases, bool-cases, never}
-use Rattle.entry.specs.Record.{Record, Field, routeField, unknownsField, givensField, unknownField, maskField, stateField, layout, fields, width, widths, size, kind, fromLowFirst, sameField, among, valueIn, valueOf, fieldFits, bodyFits, inBounds}
+use Rattle.entry.specs.Record.{Record, Field, routeField, unknownsField, givensField, unknownField, maskField, stateField, layout}
+use Rattle.entry.specs.Record.{fields, width, widths, size, kind, fromLowFirst, sameField, among, valueIn, valueOf, fieldFits}
+use Rattle.entry.specs.Record.{bodyFits, inBounds}
 use Rattle.entry.proofs.Made.{every-kind}
 
 -- ---- bytes

@@ -18,9 +18,11 @@ use Rattle.order.specs.Order.{monomials}
 use Rattle.order.proofs.Order.{has-monomials}
 use Rattle.solution.specs.Condition.{Condition, width, defaultOrder}
 use Rattle.solution.specs.Elimination.{Verdict, solved, none}
-use Rattle.entry.specs.Record.{Record, routeField, unknownsField, givensField, maskField, stateField, fields, kind, among, valueOf, isNone, isMonomial, tableIn, startRecord, conditionRecord, answerRecord, endRecord, noneRecord}
+use Rattle.entry.specs.Record.{Record, routeField, unknownsField, givensField, maskField, stateField, fields, kind, among, valueOf}
+use Rattle.entry.specs.Record.{isNone, isMonomial, tableIn, startRecord, conditionRecord, answerRecord, endRecord, noneRecord}
 use Rattle.entry.specs.Entry.{conditionRecords, answerRecords, verdictRecords, entryRecords}
-use Rattle.entry.specs.Held.{routeOf, unknownsOf, givensOf, hasMonomial, conditionIn, answersIn, unlessNone, heldCondition, heldVerdict}
+use Rattle.entry.specs.Held.{routeOf, unknownsOf, givensOf, hasMonomial, conditionIn, answersIn, unlessNone, heldCondition}
+use Rattle.entry.specs.Held.{heldVerdict}
 use Rattle.entry.specs.Inner.Codes.{monomialRecord}
 use Rattle.entry.proofs.Made.{given, made-value, AllMade, all-made-append, made-is}
 use Rattle.entry.proofs.Monomials.{table-monomials, monomial-no-none, monomials-made}

@@ -14,7 +14,9 @@ use borrow.Author.Tests.{ltb-true, ltb-false, eqb-true}
 use Rattle.ring.specs.Polynomial.{everyBelow}
 use Rattle.ring.proofs.Bool.{and-left, and-right, bool-cases, never}
 use Rattle.ring.proofs.Every.{every-all}
-use Rattle.entry.specs.Record.{Record, Field, routeField, unknownsField, givensField, unknownField, maskField, stateField, layout, fields, width, widths, sizeWith, size, kind, lowFirst, fromLowFirst, bodyOf, recordOf, place, sameField, among, valueIn, valueOf, fieldFits, bodyFits, inBounds, AreBytes}
+use Rattle.entry.specs.Record.{Record, Field, routeField, unknownsField, givensField, unknownField, maskField, stateField, layout}
+use Rattle.entry.specs.Record.{fields, width, widths, sizeWith, size, kind, lowFirst, fromLowFirst, bodyOf, recordOf, place}
+use Rattle.entry.specs.Record.{sameField, among, valueIn, valueOf, fieldFits, bodyFits, inBounds, AreBytes}
 
 -- ---- numbers in bytes
 length-low : (w v : ℕ) → length (lowFirst w v) ≡ w

@@ -11,10 +11,12 @@ use borrow.Author.Tests.{ltb-true, lt-ltb, eqb-true}
 use Rattle.ring.specs.Polynomial.{everyBelow}
 use Rattle.ring.specs.Lists.{has}
 use Rattle.ring.proofs.Bool.{both, or-cases, bool-cases, never}
-use Rattle.entry.specs.Record.{Record, unknownField, maskField, fields, kind, among, valueIn, valueOf, isEnd, isNone, isMonomial, tableIn, inBounds}
+use Rattle.entry.specs.Record.{Record, unknownField, maskField, fields, kind, among, valueIn, valueOf, isEnd, isNone, isMonomial}
+use Rattle.entry.specs.Record.{tableIn, inBounds}
 use Rattle.entry.specs.Held.{hasMonomial}
 use Rattle.entry.specs.Inner.Codes.{monomialRecord}
-use Rattle.entry.proofs.Made.{given, allFit, made-value, made-fits, field-fits, every-kind, IsMade, AllMade, valuesIn, of-kind, made-is}
+use Rattle.entry.proofs.Made.{given, allFit, made-value, made-fits, field-fits, every-kind, IsMade, AllMade, valuesIn, of-kind}
+use Rattle.entry.proofs.Made.{made-is}
 
 -- ---- one that was made
 module _ (m : ℕ) where

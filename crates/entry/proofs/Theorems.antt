@@ -26,7 +26,8 @@ use Rattle.entry.proofs.Records.{records-made}
 use Rattle.entry.proofs.Back.{entry-records}
 use Rattle.entry.proofs.Verdicts.{solve-fits}
 use Rattle.entry.proofs.EntryPasses.{entry-has-end, entry-kinds, entry-numbers}
-use Rattle.entry.proofs.Held.{entry-route, entry-unknowns, entry-givens, condition-back, verdict-back, answers-held, solved-unless, none-unless}
+use Rattle.entry.proofs.Held.{entry-route, entry-unknowns, entry-givens, condition-back, verdict-back, answers-held, solved-unless}
+use Rattle.entry.proofs.Held.{none-unless}
 use Rattle.entry.proofs.Canonical.{records-end, canonical}
 use Rattle.entry.proofs.Bytes.{records-bytes}
 use Rattle.entry.proofs.Bound.{entry-most}

@@ -11,7 +11,8 @@ use Rattle.ring.specs.Table.{table, answerTable}
 use Rattle.solution.specs.Substitution.{Substitution}
 use Rattle.solution.specs.Condition.{Condition, conditionOf}
 use Rattle.solution.specs.Elimination.{Verdict, solved, none}
-use Rattle.entry.specs.Record.{Record, routeField, unknownsField, givensField, maskField, stateField, size, kind, valueOf, isEnd, isNone, isMonomial, tableIn}
+use Rattle.entry.specs.Record.{Record, routeField, unknownsField, givensField, maskField, stateField, size, kind, valueOf, isEnd}
+use Rattle.entry.specs.Record.{isNone, isMonomial, tableIn}
 
 -- the record that the bytes begin with, no bytes where there is no whole one
 unfoldable pub next : List ℕ → Record

@@ -17,7 +17,8 @@ use Rattle.ring.specs.Lists.{has}
 use Rattle.ring.proofs.Bool.{bool-iff, and-left, and-right, both, or-cases, bool-cases, never}
 use Rattle.ring.proofs.Lists.{has-append, has-cases, has-first, has-place, has-rest}
 use Rattle.order.specs.Order.{letters, before, keep, below, groups, order, monomials, rises}
-use Rattle.order.proofs.Lists.{keep-append, keep-none, keep-every, keep-all, length-below, below-none, below-last, ltb-suc, has-keep, has-below}
+use Rattle.order.proofs.Lists.{keep-append, keep-none, keep-every, keep-all, length-below, below-none, below-last, ltb-suc}
+use Rattle.order.proofs.Lists.{has-keep, has-below}
 use Rattle.order.proofs.Letters.{letters-most}
 use Rattle.order.proofs.Relation.{before-fewer, before-smaller, before-irreflexive, before-transitive}
 

@@ -125,7 +125,8 @@ pub fn list_monomials(
     out: &mut [u16],
     from: usize,
 ) -> usize
-    requires { ⌜ (n ≤ 10) × (tag + 1024 ≤ 65536) × (length (now words) ≡ 2 ^ (n - 6)) × (now masks ≡ order n) × (from + 2 ^ n ≤ length (now out)) ⌝ }
+    requires { ⌜ (n ≤ 10) × (tag + 1024 ≤ 65536) × (length (now words) ≡ 2 ^ (n - 6)) × (now masks ≡ order n)
+        × (from + 2 ^ n ≤ length (now out)) ⌝ }
     ensures { λ r. ⌜ Listed (now (out .entry)) from (tagged tag (monomials n (bitAt (now (words .entry))))) r (now (out .exit)) ⌝ }
 {
     let mut at = from;

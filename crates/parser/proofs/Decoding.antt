@@ -17,7 +17,8 @@ use Rattle.ring.specs.Polynomial.{everyBelow}
 use Rattle.ring.proofs.Bool.{and-left, and-right, same-bool}
 use Rattle.ring.proofs.Every.{every-all}
 use Rattle.ring.proofs.Lists.{length-listed}
-use Rattle.grammar.specs.Symbols.{space, foreign, isUnknown, isGiven, isSingle, symbol, symbols, isSign, every, allSigns, isDeclared, allDeclared}
+use Rattle.grammar.specs.Symbols.{space, foreign, isUnknown, isGiven, isSingle, symbol, symbols, isSign, every, allSigns, isDeclared}
+use Rattle.grammar.specs.Symbols.{allDeclared}
 use Rattle.parser.specs.Inner.Codes.{code, codes}
 use Rattle.parser.specs.Inner.Questions.{unspaced, isKnown, isLetterDeclared}
 

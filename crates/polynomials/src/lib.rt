@@ -29,7 +29,8 @@ fn multiply_with(
     first: &mut [u64],
     second: &mut [u64],
 )
-    requires { ⌜ (n ≤ 10) × IsTable n (now a) × IsTable n (now b) × (length (now out) ≡ 2 ^ n) × (length (now first) ≡ 2 ^ (n - 6)) × (length (now second) ≡ 2 ^ (n - 6)) ⌝ }
+    requires { ⌜ (n ≤ 10) × IsTable n (now a) × IsTable n (now b) × (length (now out) ≡ 2 ^ n) × (length (now first) ≡ 2 ^ (n - 6))
+        × (length (now second) ≡ 2 ^ (n - 6)) ⌝ }
     ensures { λ _. ⌜ now (out .exit) ≡ table n (product n (present (now (a .entry))) (present (now (b .entry)))) ⌝ }
 {
     words::take_values(n, a, first);
@@ -96,7 +97,8 @@ fn take_fours(word: u64, s: &[u64], t: &mut [u64])
 // Of each two words that differ in one letter, point by point the one that b chooses.
 fn choose(t: &mut [u64], b: u64, half: usize)
     requires { ⌜ half + half ≤ length (now t) ⌝ }
-    ensures { λ _. ⌜ now (t .exit) ≡ listed half (λ p. chosen b (getD (now (t .entry)) p 0) (getD (now (t .entry)) (p + half) 0)) ++ drop half (now (t .entry)) ⌝ }
+    ensures { λ _. ⌜ now (t .exit)
+        ≡ listed half (λ p. chosen b (getD (now (t .entry)) p 0) (getD (now (t .entry)) (p + half) 0)) ++ drop half (now (t .entry)) ⌝ }
 {
     for p in 0..half {
         let clear = t[p];
@@ -123,7 +125,8 @@ fn look_up_word(word: u64, parts: &[u64], k: usize, w: usize, t: &mut [u64], s: 
 // The six lowest letters replaced by the parts, all at once.
 fn look_up(f: &mut [u64], parts: &[u64], t: &mut [u64], s: &mut [u64])
     requires { ⌜ (length (now parts) ≡ 6 * length (now f)) × (length (now f) ≤ 16) × (length (now t) ≡ 16) × (length (now s) ≡ 16) ⌝ }
-    ensures { λ _. ⌜ now (f .exit) ≡ wordsOf (length (now (f .entry))) (λ p. bitAt (now (f .entry)) (64 * (p / 64) + pointWhere 6 (λ j. bitAt (now (parts .entry)) (j * (64 * length (now (f .entry))) + p)))) ⌝ }
+    ensures { λ _. ⌜ now (f .exit)
+        ≡ wordsOf (length (now (f .entry))) (λ p. bitAt (now (f .entry)) (64 * (p / 64) + pointWhere 6 (λ j. bitAt (now (parts .entry)) (j * (64 * length (now (f .entry))) + p)))) ⌝ }
 {
     let k = f.len();
     for w in 0..k {
@@ -170,9 +173,12 @@ fn substitute_with(
     t: &mut [u64],
     s: &mut [u64],
 )
-    requires { ⌜ (u ≤ 6) × (u + g ≤ 10) × IsTable (u + g) (now condition) × (length (now handed) ≡ u * 2 ^ (u + g)) × AreBits (now handed) × (length (now out) ≡ 2 ^ (u + g)) ⌝ }
-    requires { ⌜ (length (now f) ≡ 2 ^ (u + g - 6)) × (length (now parts) ≡ 6 * 2 ^ (u + g - 6)) × (length (now t) ≡ 16) × (length (now s) ≡ 16) ⌝ }
-    ensures { λ _. ⌜ now (out .exit) ≡ table (u + g) (substitute (u + g) (u + g) (present (now (condition .entry))) (forUnknowns u (held (u + g) (now (handed .entry))))) ⌝ }
+    requires { ⌜ (u ≤ 6) × (u + g ≤ 10) × IsTable (u + g) (now condition) × (length (now handed) ≡ u * 2 ^ (u + g)) × AreBits (now handed)
+        × (length (now out) ≡ 2 ^ (u + g)) ⌝ }
+    requires { ⌜ (length (now f) ≡ 2 ^ (u + g - 6)) × (length (now parts) ≡ 6 * 2 ^ (u + g - 6)) × (length (now t) ≡ 16)
+        × (length (now s) ≡ 16) ⌝ }
+    ensures { λ _. ⌜ now (out .exit)
+        ≡ table (u + g) (substitute (u + g) (u + g) (present (now (condition .entry))) (forUnknowns u (held (u + g) (now (handed .entry))))) ⌝ }
 {
     let n = u + g;
     words::take_values(n, condition, f);
@@ -183,8 +189,10 @@ fn substitute_with(
 
 // Handed polynomials put for the unknowns of a condition, all at once; the givens stay. The scratch words live here.
 pub fn substitute(u: usize, g: usize, condition: &[u8], handed: &[u8], out: &mut [u8])
-    requires { ⌜ (u ≤ 6) × (u + g ≤ 10) × IsTable (u + g) (now condition) × (length (now handed) ≡ u * 2 ^ (u + g)) × AreBits (now handed) × (length (now out) ≡ 2 ^ (u + g)) ⌝ }
-    ensures { λ _. ⌜ now (out .exit) ≡ table (u + g) (substitute (u + g) (u + g) (present (now (condition .entry))) (forUnknowns u (held (u + g) (now (handed .entry))))) ⌝ }
+    requires { ⌜ (u ≤ 6) × (u + g ≤ 10) × IsTable (u + g) (now condition) × (length (now handed) ≡ u * 2 ^ (u + g)) × AreBits (now handed)
+        × (length (now out) ≡ 2 ^ (u + g)) ⌝ }
+    ensures { λ _. ⌜ now (out .exit)
+        ≡ table (u + g) (substitute (u + g) (u + g) (present (now (condition .entry))) (forUnknowns u (held (u + g) (now (handed .entry))))) ⌝ }
 {
     let k = words::word_count(u + g);
     let all = 6 * k;

@@ -7,7 +7,8 @@ ghost use lib.ListN.{length};
 ghost use Rattle.tables.specs.Inner.Put.{Put};
 ghost use Rattle.tables.specs.Answered.{accepted};
 ghost use Rattle.entry.specs.Inner.Codes.{listedRecord};
-ghost use Rattle.printing.specs.Print.{lineFeed, decimal, digitByte, hexadecimal, recordLines, unreadableLine, refusedWord, refusedLine, replyLine};
+ghost use Rattle.printing.specs.Print.{lineFeed, decimal, digitByte, hexadecimal, recordLines, unreadableLine, refusedWord};
+ghost use Rattle.printing.specs.Print.{refusedLine, replyLine};
 
 fn put(out: &mut [u8], at: usize, bytes: &[u8]) -> usize
     requires { ⌜ at + length (now bytes) ≤ length (now out) ⌝ }

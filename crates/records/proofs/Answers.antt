@@ -28,7 +28,8 @@ use Rattle.calls.specs.declared.Verdict.the-variants.{Solved, None}
 use Rattle.records.specs.declared.Seen.{Seen}
 use Rattle.records.specs.declared.Gathered.{Gathered}
 use Rattle.records.specs.Inner.Headings.{lengthUsed, startOf, headingOf, said}
-use Rattle.records.specs.Inner.Gathering.{Whole, Bounds, saidFirst, seenRecord, seenAll, nothingSeen, gathered, saidBy, gatheredQuestions, surveyOf}
+use Rattle.records.specs.Inner.Gathering.{Whole, Bounds, saidFirst, seenRecord, seenAll, nothingSeen, gathered, saidBy}
+use Rattle.records.specs.Inner.Gathering.{gatheredQuestions, surveyOf}
 
 -- ---- question 11
 module _ (route U G : ℕ) where

@@ -19,10 +19,13 @@ use Rattle.tables.specs.Questions.{asks, firstNo}
 use Rattle.tables.specs.Inner.Asking.{also}
 use Rattle.tables.proofs.FirstNo.{also-none, ask-then}
 use Rattle.order.specs.Inner.Place.{rank}
-use Rattle.entry.specs.Record.{Record, routeField, unknownsField, givensField, unknownField, maskField, stateField, fields, widths, size, kind, among, valueOf, isEnd, isNone, isMonomial, tableIn, fieldFits, inBounds}
+use Rattle.entry.specs.Record.{Record, routeField, unknownsField, givensField, unknownField, maskField, stateField, fields, widths, size}
+use Rattle.entry.specs.Record.{kind, among, valueOf, isEnd, isNone, isMonomial, tableIn, fieldFits, inBounds}
 use Rattle.entry.specs.Questions.{routeFits, mayFollow}
 use Rattle.entry.specs.Inner.Places.{place, placeOf, standsBehind}
-use Rattle.entry.proofs.Fields.{start-route, start-unknowns, start-givens, condition-mask, answer-unknown, answer-mask, end-route, none-state, lacks, lacking, of-every, unbounded, in-bounds, condition-fits, answer-fits, none-fits, no-size}
+use Rattle.entry.proofs.Fields.{start-route, start-unknowns, start-givens, condition-mask, answer-unknown, answer-mask, end-route}
+use Rattle.entry.proofs.Fields.{none-state, lacks, lacking, of-every, unbounded, in-bounds, condition-fits, answer-fits, none-fits}
+use Rattle.entry.proofs.Fields.{no-size}
 use Rattle.entry.proofs.Places.{rank-small, place-monomial, place-other}
 use Rattle.calls.specs.declared.Verdict.the-variants.{None}
 use Rattle.records.specs.declared.Seen.{Seen}

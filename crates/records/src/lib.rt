@@ -11,7 +11,8 @@ ghost use Rattle.entry.specs.Record.{routeField, unknownsField, givensField, si
 ghost use Rattle.entry.specs.Held.{next, records};
 ghost use Rattle.entry.specs.Questions.{mayFollow};
 ghost use Rattle.records.specs.Inner.Headings.{startOf};
-ghost use Rattle.records.specs.Inner.Gathering.{Whole, Bounds, saidFirst, seenMonomial, seenRecord, gathered, saidBy, gatheredQuestions, surveyOf};
+ghost use Rattle.records.specs.Inner.Gathering.{Whole, Bounds, saidFirst, seenMonomial, seenRecord, gathered, saidBy};
+ghost use Rattle.records.specs.Inner.Gathering.{gatheredQuestions, surveyOf};
 use calls::Heading;
 use calls::Verdict;
 use ring::State;

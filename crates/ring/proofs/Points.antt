@@ -4,7 +4,8 @@ use mathlib.Core.Path.{_≡_, refl, sym, ap, ap₂, _∙_}
 use mathlib.Core.Logic.{_≢_}
 use mathlib.Core.Bool.{Bool, true, false}
 use Prim.Native.Nat.{ℕ, zero, suc, _+_, _*_, _/_, _%_, _^_, _-_, _<_, _≤_, max}
-use native.Mathlib.Nat.{div-add-mod', div-eq-of-lt, mod-lt, pow-suc, pow-succ', div-one, div-div-eq-div-mul, max-zero, mul-assoc, mul-add-div-right, add-comm}
+use native.Mathlib.Nat.{div-add-mod', div-eq-of-lt, mod-lt, pow-suc, pow-succ', div-one, div-div-eq-div-mul, max-zero, mul-assoc}
+use native.Mathlib.Nat.{mul-add-div-right, add-comm}
 use native.Mathlib.Omega.{arith}
 use lib.Dec.{eqb}
 use lib.Arith.{lt-one, digits-lt}

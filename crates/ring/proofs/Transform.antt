@@ -3,7 +3,8 @@
 use mathlib.Core.Path.{_≡_, sym, ap, ap₂, _∙_}
 use mathlib.Core.Bool.{Bool, true, false, not, _&&_, and-true, Bool·not-not}
 use Prim.Native.Nat.{ℕ, suc, _+_, _*_, _/_, _%_, _^_, _-_, _<_}
-use native.Mathlib.Nat.{pow-suc, pow-succ', mul-assoc, add-mul, zero-mul, one-mul, zero-add, sub-self, sub-zero, mod-eq-of-lt, div-one, mod-lt}
+use native.Mathlib.Nat.{pow-suc, pow-succ', mul-assoc, add-mul, zero-mul, one-mul, zero-add, sub-self, sub-zero, mod-eq-of-lt, div-one}
+use native.Mathlib.Nat.{mod-lt}
 use native.Mathlib.Omega.{arith}
 use lib.Arith.{mod-mul}
 use lib.Pow.{pow-pos, split, high, low as low-of}

@@ -102,7 +102,8 @@ fn print_piece(
     requires { ⌜ (length (now kept) ≡ keptLength) × («kept_count» ≤ keptLength) × (lineRoom ≤ length (now out)) ⌝ }
     ensures { λ r. ⌜ r .count ≤ keptLength ⌝ }
     ensures { λ r. ⌜ (r .failed ≡ false → r .going ≡ true) ⌝ }
-    ensures { λ r. ⌜ (r .failed ≡ false → Advances read «written_before» (carried «last_route» «kept_count» (now (kept .entry))) (now (piece .entry)) (r .read) (r .written) (carried (r .last) (r .count) (now (kept .exit)))) ⌝ }
+    ensures { λ r. ⌜ (r .failed ≡ false
+        → Advances read «written_before» (carried «last_route» «kept_count» (now (kept .entry))) (now (piece .entry)) (r .read) (r .written) (carried (r .last) (r .count) (now (kept .exit)))) ⌝ }
 {
     if usize::MAX - read < piece.len() {
         return stopped();
@@ -144,9 +145,11 @@ fn take_got(
     read: usize,
     written: usize,
 ) -> Progress
-    requires { ⌜ gotWithin got (length (now input)) × (length (now kept) ≡ keptLength) × (count ≤ keptLength) × (lineRoom ≤ length (now out)) ⌝ }
+    requires { ⌜ gotWithin got (length (now input)) × (length (now kept) ≡ keptLength) × (count ≤ keptLength)
+        × (lineRoom ≤ length (now out)) ⌝ }
     ensures { λ r. ⌜ r .count ≤ keptLength ⌝ }
-    ensures { λ r. ⌜ (r .failed ≡ false → Takes got (now (input .entry)) read written (carried last count (now (kept .entry))) (r .going) (r .read) (r .written) (carried (r .last) (r .count) (now (kept .exit)))) ⌝ }
+    ensures { λ r. ⌜ (r .failed ≡ false
+        → Takes got (now (input .entry)) read written (carried last count (now (kept .entry))) (r .going) (r .read) (r .written) (carried (r .last) (r .count) (now (kept .exit)))) ⌝ }
 {
     match got {
         Got::Bytes(n) => print_piece(&input[..n], kept, count, last, out, read, written),
@@ -177,7 +180,8 @@ fn read_piece(
 ) -> Progress
     requires { ⌜ (length (now kept) ≡ keptLength) × (count ≤ keptLength) × (lineRoom ≤ length (now out)) ⌝ }
     ensures { λ r. ⌜ r .count ≤ keptLength ⌝ }
-    ensures { λ r. ⌜ (r .failed ≡ false → Advances read written (carried last count (now (kept .entry))) (take (r .read - read) (now (input .exit))) (r .read) (r .written) (carried (r .last) (r .count) (now (kept .exit)))) ⌝ }
+    ensures { λ r. ⌜ (r .failed ≡ false
+        → Advances read written (carried last count (now (kept .entry))) (take (r .read - read) (now (input .exit))) (r .read) (r .written) (carried (r .last) (r .count) (now (kept .exit)))) ⌝ }
     ensures { λ r. ⌜ (r .failed ≡ false → r .going ≡ true → read < r .read) ⌝ }
 {
     let got = streams::read_some(STDIN_FILENO, input);

@@ -18,7 +18,8 @@ use Rattle.printing.specs.Print.{lineFeed, unreadableLine}
 use Rattle.sheet_lines.specs.declared.Line.the-variants.{Unreadable}
 use Rattle.sheet_lines.specs.Fields.{isReadable, readLine}
 use Rattle.sheet_lines.specs.Sheet.{printedFor, lastFor, printed, lastBehind, inFront, linesOf, printedLines, sheet}
-use Rattle.sheet_lines.specs.Pieces.{Carried, keptLength, carry, prints, carryAll, printsAll, printsLast, nothingCarried, joined, printsPieces}
+use Rattle.sheet_lines.specs.Pieces.{Carried, keptLength, carry, prints, carryAll, printsAll, printsLast, nothingCarried, joined}
+use Rattle.sheet_lines.specs.Pieces.{printsPieces}
 
 -- ---- one piece behind another
 pub carry-append : (c : Carried) (xs ys : List ℕ) → carryAll c (xs ++ ys) ≡ carryAll (carryAll c xs) ys

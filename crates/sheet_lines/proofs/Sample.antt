@@ -15,13 +15,15 @@ use Rattle.grammar.specs.Text.{textTable}
 use Rattle.calls.specs.Questions.{hasTextLength}
 use Rattle.order.specs.Order.{letters, keep, below, groups, order, monomials}
 use Rattle.solution.specs.Condition.{defaultOrder}
-use Rattle.solution.specs.Elimination.{nextCondition, remains, answerFrom, booleAnswers, smallestBelow, blocked, smallestBlocked, isZero, solvable, booleTable, solve}
+use Rattle.solution.specs.Elimination.{nextCondition, remains, answerFrom, booleAnswers, smallestBelow, blocked, smallestBlocked, isZero}
+use Rattle.solution.specs.Elimination.{solvable, booleTable, solve}
 use Rattle.entry.specs.Record.{fields as layoutFields, lowFirst, bodyOf}
 use Rattle.entry.specs.Entry.{conditionRecords, answerRecords, verdictRecords, entryRecords}
 use Rattle.entry.specs.Questions.{routeFits}
 use Rattle.printing.specs.Print.{digitByte, hexadecimal, recordLines}
 use Rattle.sheet_lines.specs.Fields.{isDigit, digitsAhead, numberBehind, hasLetters, isReadable, fields, readLine}
-use Rattle.sheet_lines.specs.Sheet.{lineQuestions, lineRefusal, answerLines, routeBehind, printedFor, lastFor, printed, lastBehind, inFront, linesOf, printedLines, sheet}
+use Rattle.sheet_lines.specs.Sheet.{lineQuestions, lineRefusal, answerLines, routeBehind, printedFor, lastFor, printed, lastBehind}
+use Rattle.sheet_lines.specs.Sheet.{inFront, linesOf, printedLines, sheet}
 
 -- `7 2 0 u+v`, then `8 1 1 a`
 unfoldable pub sample : List ℕ

@@ -23,7 +23,8 @@ use Rattle.solution.specs.General.{General, InstancesOfEachOther}
 use Rattle.solution.specs.Inner.ByPoints.{remainsThrough, answeredThrough}
 use Rattle.solution.proofs.Elimination.{solves, reproduces, answered-lt, answered-kept}
 use Rattle.solution.proofs.Values.{value-remains, value-answers, value-lowenheim}
-use Rattle.solution.proofs.Letters.{replacedValue, replacedValue-unknown, value-putIn, own-holds, ownPoint, value-own, valuation, ownPoint-valuation}
+use Rattle.solution.proofs.Letters.{replacedValue, replacedValue-unknown, value-putIn, own-holds, ownPoint, value-own, valuation}
+use Rattle.solution.proofs.Letters.{ownPoint-valuation}
 
 -- the point to which the answer a leads from p
 unfoldable pub led : ℕ → ℕ → Substitution → ℕ → ℕ

@@ -16,7 +16,8 @@ use Rattle.ring.proofs.Lists.{length-listed}
 use Rattle.ring.proofs.Points.{bit-zero, bit-suc, low-digit, half-digit, pointWhere-cong, pointWhere-bits}
 use Rattle.ring.proofs.Substitute.{value-letter, value-substitute}
 use Rattle.ring.proofs.Bool.{digit-lt}
-use Rattle.solution.specs.Letters.{Letter, unknown, given, other, sameLetter, holds, HoldsGivens, place, Valuation, pointOf, valueOver}
+use Rattle.solution.specs.Letters.{Letter, unknown, given, other, sameLetter, holds, HoldsGivens, place, Valuation, pointOf}
+use Rattle.solution.specs.Letters.{valueOver}
 use Rattle.solution.specs.Substitution.{Substitution, letterAt, ownLetters, putIn}
 
 pub sameLetter-true : (x l : Letter) → sameLetter x l ≡ true → x ≡ l

@@ -14,7 +14,8 @@ use Rattle.ring.proofs.Table.{held-answerTable}
 use Rattle.solution.specs.Letters.{Letter, HoldsGivens, Valuation, valueOver}
 use Rattle.solution.specs.Substitution.{Substitution, ownLetters, putIn, MakesZero}
 use Rattle.solution.specs.Condition.{Condition, width, polynomial, IsOrder}
-use Rattle.solution.specs.Elimination.{booleAnswers, particular, lowenheim, ownLowenheim, smallestBlocked, solvable, booleTable, lowenheimTable, solve}
+use Rattle.solution.specs.Elimination.{booleAnswers, particular, lowenheim, ownLowenheim, smallestBlocked, solvable, booleTable}
+use Rattle.solution.specs.Elimination.{lowenheimTable, solve}
 use Rattle.solution.specs.General.{SmallestBlocked, General, InstancesOfEachOther, RightVerdict, inPolynomials}
 use Rattle.solution.proofs.Letters.{own-holds, same-without-unknowns}
 use Rattle.solution.proofs.General.{each-other, lowenheim-general, particular-zero, leads-reproductive}

@@ -10,7 +10,8 @@ use Rattle.ring.specs.Polynomial.{Polynomial, constant}
 use Rattle.ring.specs.Table.{held, answerTable}
 use Rattle.solution.specs.Substitution.{Substitution, putIn}
 use Rattle.solution.specs.Condition.{Condition, width, polynomial, IsOrder}
-use Rattle.solution.specs.Elimination.{booleAnswers, ownLowenheim, smallestBlocked, solvable, Verdict, solved, none, booleTable, solve}
+use Rattle.solution.specs.Elimination.{booleAnswers, ownLowenheim, smallestBlocked, solvable, Verdict, solved, none, booleTable}
+use Rattle.solution.specs.Elimination.{solve}
 use Rattle.solution.specs.General.{SmallestBlocked, General, RightVerdict, inPolynomials}
 use Rattle.solution.proofs.Blocked.{zero-values, remains-blocked, blocked-none, smallest-blocked}
 use Rattle.solution.proofs.General.{Leads, leads-same, general, each-other, boole-leads, lowenheim-leads, particular-zero}

@@ -9,7 +9,8 @@ use native.Mathlib.Omega.{arith}
 use lib.ListN.{length, drop}
 use Rattle.tables.specs.declared.Question.{Question}
 use Rattle.tables.specs.Questions.{Asked, asksGiving, number, firstNo}
-use Rattle.tables.specs.Answered.{Reply, accepted, refused, reply, after, Answered, answered, Buffer, _into_, call, firstBuffer, secondBuffer}
+use Rattle.tables.specs.Answered.{Reply, accepted, refused, reply, after, Answered, answered, Buffer, _into_, call, firstBuffer}
+use Rattle.tables.specs.Answered.{secondBuffer}
 use Rattle.tables.proofs.FirstNo.{number-some, no-to, first-counts, then-further}
 
 -- ---- what a call gives

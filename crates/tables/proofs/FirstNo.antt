@@ -9,7 +9,8 @@ use lib.Dec.{ltb}
 use borrow.Author.Tests.{ltb-true}
 use Rattle.ring.proofs.Bool.{and-left, and-right}
 use Rattle.tables.specs.declared.Question.{Question}
-use Rattle.tables.specs.declared.Question.the-variants.{Letters, Route, TextLength, Room, Signs, Declared, Grammar, Bits, Solution, Records, Kinds, Numbers, Afresh, Output, Rising, Range}
+use Rattle.tables.specs.declared.Question.the-variants.{Letters, Route, TextLength, Room, Signs, Declared, Grammar, Bits, Solution}
+use Rattle.tables.specs.declared.Question.the-variants.{Records, Kinds, Numbers, Afresh, Output, Rising, Range}
 use Rattle.tables.specs.Questions.{Asked, asks, asksGiving, number, firstNo}
 use Rattle.tables.specs.Inner.Asking.{also}
 

@@ -10,7 +10,8 @@ use lib.ListN.{length, take}
 use Rattle.ring.specs.declared.State.{State}
 use Rattle.ring.specs.declared.Choice.{Choice}
 use Rattle.tables.specs.declared.Question.{Question}
-use Rattle.tables.specs.declared.Question.the-variants.{Letters, Route, TextLength, Room, Signs, Declared, Grammar, Bits, Solution, Records, Kinds, Numbers, Afresh, Output, Rising, Range}
+use Rattle.tables.specs.declared.Question.the-variants.{Letters, Route, TextLength, Room, Signs, Declared, Grammar, Bits, Solution}
+use Rattle.tables.specs.declared.Question.the-variants.{Records, Kinds, Numbers, Afresh, Output, Rising, Range}
 
 -- document 01's number of each question
 abbrev pub number : Question → ℕ

@@ -10,7 +10,8 @@ ghost use Rattle.ring.specs.Lists.{listed};
 ghost use Rattle.ring.specs.Letters.{digit, bit, assign};
 ghost use Rattle.ring.specs.Polynomial.{_⊕_, count, value};
 ghost use Rattle.ring.specs.Table.{AreBits, IsTable, present, tabulate, table};
-ghost use Rattle.words.specs.Inner.Words.{wordOf, wordsOf, bitAt, First, lowLetters, stepped, steppedBelow, xorRun, turned, crossed, eightOf};
+ghost use Rattle.words.specs.Inner.Words.{wordOf, wordsOf, bitAt, First, lowLetters, stepped, steppedBelow, xorRun, turned, crossed};
+ghost use Rattle.words.specs.Inner.Words.{eightOf};
 
 // The number of words of n letters.
 pub fn word_count(n: usize) -> usize
@@ -476,7 +477,8 @@ pub fn put_zero(words: &mut [u64], x: usize)
 // The product of the two cases of letter x.
 pub fn both_cases(f: &[u64], x: usize, c: usize, out: &mut [u64])
     requires { ⌜ (x < 6 + c) × (c ≤ 4) × (length (now f) ≡ 2 ^ c) × (length (now out) ≡ 2 ^ c) ⌝ }
-    ensures { λ _. ⌜ now (out .exit) ≡ wordsOf (2 ^ c) (λ p. bitAt (now (f .entry)) (assign p x true) && bitAt (now (f .entry)) (assign p x false)) ⌝ }
+    ensures { λ _. ⌜ now (out .exit)
+        ≡ wordsOf (2 ^ c) (λ p. bitAt (now (f .entry)) (assign p x true) && bitAt (now (f .entry)) (assign p x false)) ⌝ }
 {
     turn(f, x, c, out);
     multiply_into(out, f);
@@ -515,7 +517,8 @@ pub fn replace_in(a: &mut [u64], x: usize, slot: &[u64], c: usize)
 // Löwenheim's formula at every point: x + f*(x + b).
 pub fn mix(f: &[u64], x: usize, b: &[u64], out: &mut [u64])
     requires { ⌜ (x < 10) × (length (now f) ≡ length (now out)) × (length (now b) ≡ length (now out)) ⌝ }
-    ensures { λ _. ⌜ now (out .exit) ≡ wordsOf (length (now (out .entry))) (λ p. bit p x ⊕ (bitAt (now (f .entry)) p && (bit p x ⊕ bitAt (now (b .entry)) p))) ⌝ }
+    ensures { λ _. ⌜ now (out .exit)
+        ≡ wordsOf (length (now (out .entry))) (λ p. bit p x ⊕ (bitAt (now (f .entry)) p && (bit p x ⊕ bitAt (now (b .entry)) p))) ⌝ }
 {
     for i in 0..out.len() {
         let letter = letter_word(x, i);

@@ -21,7 +21,8 @@ ghost use Rattle.entry.specs.Record.{bytes};
 ghost use Rattle.entry.specs.Inner.Codes.{listedRecord};
 ghost use Rattle.entry.specs.Entry.{entry};
 ghost use Rattle.calls.specs.Entries.{writeCall, written};
-ghost use Rattle.writer.specs.Inner.Steps.{answerCodes, countOf, toldOf, sizeOf, entryFrom, Lists, Listable, Ready, Sized, conditionQuestions, handOut};
+ghost use Rattle.writer.specs.Inner.Steps.{answerCodes, countOf, toldOf, sizeOf, entryFrom, Lists, Listable, Ready, Sized};
+ghost use Rattle.writer.specs.Inner.Steps.{conditionQuestions, handOut};
 
 // What listing an entry finds: how many monomials the condition has, and how many it has with its answers; or, where there is no solution,
 // how many the condition has, and the state.

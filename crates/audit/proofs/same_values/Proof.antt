@@ -7,7 +7,8 @@ use borrow.Author.Needs.{needs}
 use Rattle.tables.proofs.Questions.{failed, passed}
 use Rattle.words.proofs.Words.{size-words}
 use Rattle.words.proofs.Parts.{part-fits, part-length}
-use Rattle.audit.proofs.Same.{held-length, part-is-table, part-small, words-small, Agreed, agreed-start, agreed-next, agreed-differ, agreed-end}
+use Rattle.audit.proofs.Same.{held-length, part-is-table, part-small, words-small, Agreed, agreed-start, agreed-next, agreed-differ}
+use Rattle.audit.proofs.Same.{agreed-end}
 use Rattle.audit.proofs.same_values.Statement.{statement}
 use Rattle.audit.proofs.same_values.Tie as tie
 

@@ -6,7 +6,8 @@ use Prim.Native.Nat.{_≤_, _^_}
 use borrow.Author.Needs.{needs}
 use lib.ListN.{length}
 use lib.Pow.{pow-mono}
-use Rattle.elimination.proofs.Stages.{rest-length, rest-letters, rest-once, slot-room, length-stages, rest-stages, answers-none, answers-more, answered-size}
+use Rattle.elimination.proofs.Stages.{rest-length, rest-letters, rest-once, slot-room, length-stages, rest-stages, answers-none}
+use Rattle.elimination.proofs.Stages.{answers-more, answered-size}
 use Prim.Native.Nat.{ℕ, _<_}
 use borrow.Fn.Kinds.{In}
 use borrow.Fn.PlainCycle.{Measures, is, falls, and}

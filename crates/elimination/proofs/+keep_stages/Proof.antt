@@ -9,7 +9,8 @@ use lib.Pow.{pow-mono}
 use lib.Seq.{length-take-le}
 use Rattle.words.proofs.Turned.{machine-words}
 use Rattle.words.proofs.Words.{size-words}
-use Rattle.elimination.proofs.Stages.{rest-length, rest-letters, first-letter, slot-room, front-room, front-rest, stages-none, stages-empty, remains-more, stages-more}
+use Rattle.elimination.proofs.Stages.{rest-length, rest-letters, first-letter, slot-room, front-room, front-rest, stages-none}
+use Rattle.elimination.proofs.Stages.{stages-empty, remains-more, stages-more}
 use Prim.Native.Nat.{ℕ, _<_}
 use borrow.Fn.Kinds.{In}
 use borrow.Fn.PlainCycle.{Measures, is, falls, and}

@@ -4,7 +4,8 @@ use Prim.Native.Nat.{ℕ, _^_}
 use native.Mathlib.Omega.{arith}
 use borrow.Author.Needs.{needs}
 use Rattle.words.proofs.Words.{size-words}
-use Rattle.elimination.proofs.States.{order-letters, same-power, same-slots, own-stages, state-remains, slots-answered, remains-ignores}
+use Rattle.elimination.proofs.States.{order-letters, same-power, same-slots, own-stages, state-remains, slots-answered}
+use Rattle.elimination.proofs.States.{remains-ignores}
 use Rattle.elimination.proofs.solve_slots.Statement.{statement}
 use Rattle.elimination.proofs.solve_slots.Tie as tie
 

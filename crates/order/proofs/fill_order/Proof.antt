@@ -10,7 +10,8 @@ use lib.Pow.{pow-mono}
 use Rattle.ring.specs.Lists.{listed}
 use Rattle.ring.proofs.Lists.{getD-listed}
 use Rattle.order.specs.Inner.Place.{choose, AreCounts}
-use Rattle.order.proofs.Steps.{nth-below, Filled, filled-start, number-inside, at-inside, room-left, filled-mask, filled-group, filled-end}
+use Rattle.order.proofs.Steps.{nth-below, Filled, filled-start, number-inside, at-inside, room-left, filled-mask, filled-group}
+use Rattle.order.proofs.Steps.{filled-end}
 use Rattle.order.proofs.fill_order.Statement.{statement}
 use Rattle.order.proofs.fill_order.Tie as tie
 

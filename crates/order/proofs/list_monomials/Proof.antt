@@ -9,7 +9,8 @@ use Rattle.ring.specs.Letters.{digit}
 use lib.ListN.{length}
 use Rattle.words.specs.Inner.Words.{bitAt}
 use Rattle.order.proofs.Order.{length-order}
-use Rattle.order.proofs.Listing.{Listing, listing-start, listing-room, listing-more, listing-end, listed-monomials, mask-place, mask-in-words}
+use Rattle.order.proofs.Listing.{Listing, listing-start, listing-room, listing-more, listing-end, listed-monomials, mask-place}
+use Rattle.order.proofs.Listing.{mask-in-words}
 use Rattle.order.proofs.list_monomials.Statement.{statement}
 use Rattle.order.proofs.list_monomials.Tie as tie
 

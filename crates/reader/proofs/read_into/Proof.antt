@@ -4,7 +4,8 @@ use native.Mathlib.Omega.{arith}
 use borrow.Author.Needs.{needs}
 use Prim.Native.Nat.{_*_, _≤_}
 use lib.ListN.{length}
-use Rattle.reader.proofs.Buffers.{heading-small, heading-fits, size-small, part-long, again-long, again-fits, again-size, read-short, condition-fits, answers-fits, read-done}
+use Rattle.reader.proofs.Buffers.{heading-small, heading-fits, size-small, part-long, again-long, again-fits, again-size}
+use Rattle.reader.proofs.Buffers.{read-short, condition-fits, answers-fits, read-done}
 use Rattle.reader.proofs.read_into.Statement.{statement}
 use Rattle.reader.proofs.read_into.Tie as tie
 

@@ -2,7 +2,8 @@
 -- Assumes nothing.
 use native.Mathlib.Omega.{arith}
 use borrow.Author.Needs.{needs}
-use Rattle.records.proofs.OneRecord.{long-2, long-3, long-4, long-5, see-condition, see-answer, see-end, see-none, see-other, mask-below, answer-below}
+use Rattle.records.proofs.OneRecord.{long-2, long-3, long-4, long-5, see-condition, see-answer, see-end, see-none, see-other}
+use Rattle.records.proofs.OneRecord.{mask-below, answer-below}
 use Rattle.records.proofs.see.Statement.{statement}
 use Rattle.records.proofs.see.Tie as tie
 

@@ -18,9 +18,11 @@ use prog.Wp.{Heap, Env, Calls, Loops, WpFn, Tables}
 use ghost.Atoms.{Atoms, sem}
 use contract.Monad.{Fun}
 use contract.Running.{givenOf, tables, tablesOf}
-use types.Kit.{Given, ‵, raw, _⊛_, some, later, Sq, runs, atRet, _$_, _∵_, !, qed, by, move, keep, drop, use1, split, join, pick, fsplit, fjoin, fpick, fpack, feqI, suffices, frame, await, done}
+use types.Kit.{Given, ‵, raw, _⊛_, some, later, Sq, runs, atRet, _$_, _∵_, !, qed, by, move, keep, drop, use1, split, join, pick, fsplit}
+use types.Kit.{fjoin, fpick, fpack, feqI, suffices, frame, await, done}
 use types.Tokens.{lft-new, lft-end, lent-back}
-use types.Run.{look, init, forget, stop, from, load, lit, unit-lit, no-more, and-then, of-opd, addr, assigns, land, returns, enter, alloc1, alloc0, params1, pass0, free1, free0}
+use types.Run.{look, init, forget, stop, from, load, lit, unit-lit, no-more, and-then, of-opd, addr, assigns, land, returns, enter, alloc1}
+use types.Run.{alloc0, params1, pass0, free1, free0}
 use types.Part.{agg}
 use types.SemTy.{Body}
 use sound.WpLaws.{FmC, fmOf, WpFn-mono}

@@ -1,6 +1,7 @@
 -- The two cases of a listing, each part with the room that the entry's length leaves it. Assumes nothing.
 use borrow.Author.Needs.{needs}
-use Rattle.writer.proofs.Parts.{solved-part, solved-front, solved-end, solved-put, none-part, none-front, none-behind, none-end, none-put}
+use Rattle.writer.proofs.Parts.{solved-part, solved-front, solved-end, solved-put, none-part, none-front, none-behind, none-end}
+use Rattle.writer.proofs.Parts.{none-put}
 use Rattle.writer.proofs.compose.Statement.{statement}
 use Rattle.writer.proofs.compose.Tie as tie
 
