@@ -88,7 +88,7 @@ passed-archivable bs e =
     record {
       letters = p .letters;
       of-route = p .route;
-      of-order = refl;
+      plain = refl;
       of-table = is-table (unknownsOf (records bs) + givensOf (records bs)) (conditionIn (records bs));
     }
 

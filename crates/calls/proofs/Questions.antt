@@ -1,6 +1,6 @@
 -- What it tells that a call is not refused, each of its questions being answered yes; and what is enough for it.
 -- Assumes nothing.
-use mathlib.Core.Path.{_≡_, refl, sym, _∙_}
+use mathlib.Core.Path.{_≡_, refl, sym, ap, _∙_}
 use mathlib.Core.Bool.{true}
 use mathlib.Core.List.{List, [], _∷_}
 use mathlib.Core.Logic.{_↔_}
@@ -12,7 +12,7 @@ use Rattle.tables.specs.Questions.{asks, firstNo, lettersFit, hasRoom, holdsBit
 use Rattle.tables.proofs.Bits.{bits-are}
 use Rattle.tables.proofs.FirstNo.{EachYes, each-yes, none-no, asked-before, asked-behind, then-further}
 use Rattle.tables.proofs.Questions.{lent-table}
-use Rattle.solution.specs.Condition.{Condition, width, defaultOrder}
+use Rattle.solution.specs.Condition.{Condition, width, conditionOf}
 use Rattle.entry.specs.Record.{Record}
 use Rattle.entry.specs.Held.{routeOf, unknownsOf, givensOf}
 use Rattle.entry.specs.Entry.{entry, Archivable}
@@ -66,14 +66,14 @@ module _ (route U G : ℕ) (condition : List ℕ) (room : ℕ) where
       record {
         letters = w .letters;
         of-route = w .of-route;
-        of-order = refl;
+        plain = refl;
         of-table = lent-table (U + G) _ condition refl (w .long) (w .bits);
       }
 
 -- a buffer with the table of c at its front holds c
-pub lent-is : (c : Condition) (condition : List ℕ) → c .order ≡ defaultOrder (c .U) → take (2 ^ width c) condition ≡ c .table
+pub lent-is : (c : Condition) (condition : List ℕ) → c ≡ conditionOf (c .U) (c .G) (c .table) → take (2 ^ width c) condition ≡ c .table
     → lentCondition (c .U) (c .G) condition ≡ c
-lent-is c condition o front = rw (front, ← o)
+lent-is c condition plain front = ap (conditionOf (c .U) (c .G)) front ∙ sym plain
 
 -- .. and c is written if the output has room for its entry
 pub written-if-room : (route : ℕ) (c : Condition) (condition : List ℕ) (room : ℕ) → Archivable route c
@@ -87,7 +87,7 @@ written-if-room route c condition room a front long fits =
       of-route = a .of-route;
       long = le-leb _ _ long;
       bits = rw front (bits-are (c .table) (a .of-table .bits));
-      output = rw (lent-is c condition (a .of-order) front) fits;
+      output = rw (lent-is c condition (a .plain) front) fits;
     })
 
 -- ---- reading, audit and walk

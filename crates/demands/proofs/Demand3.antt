@@ -111,4 +111,4 @@ pub demand-3-of-text : (U G route : ℕ) (text behind : List ℕ) → Accepted U
     → Demand3 (conditionOf U G (textTable U G text)) (entry route (conditionOf U G (textTable U G text)) ++ behind)
 demand-3-of-text U G route text behind accepted fits =
     demand-3 route (conditionOf U G (textTable U G text)) behind
-    (record { letters = accepted .letters; of-route = fits; of-order = refl; of-table = text-is-table U G text })
+    (record { letters = accepted .letters; of-route = fits; plain = refl; of-table = text-is-table U G text })

@@ -106,5 +106,5 @@ module _ (U G : ℕ) (text lent : List ℕ) (z : firstNo (textQuestions U G text
   written-if-room route out route-fits fits =
       let accepted = done-exactly U G text (length lent) .0 z .0 in
       let a : Archivable route (conditionOf U G (textTable U G text)) =
-      record { letters = accepted .letters; of-route = route-fits; of-order = refl; of-table = text-is-table U G text } in
+      record { letters = accepted .letters; of-route = route-fits; plain = refl; of-table = text-is-table U G text } in
       asked.written-if-room route (conditionOf U G (textTable U G text)) (textRead U G text lent) (length out) a front-of front-room fits

@@ -37,7 +37,7 @@ archived text r reads holds =
     let c : Condition = r .condition in
     let accepted = done-exactly (c .U) (c .G) text (length (c .table)) .0 (reads .read) .0 in
     let fits : Archivable 1 (conditionOf (c .U) (c .G) (textTable (c .U) (c .G) text)) =
-    record { letters = accepted .letters; of-route = refl; of-order = refl; of-table = text-is-table (c .U) (c .G) text } in
+    record { letters = accepted .letters; of-route = refl; plain = refl; of-table = text-is-table (c .U) (c .G) text } in
     let back = reads-back 1 c [] (rw (reads .table) at fits) in
     record {
       read = reads .read;

@@ -16,7 +16,7 @@ use Rattle.ring.proofs.Value.{value-cong}
 use Rattle.ring.proofs.Table.{is-table, same-table, present-tabulate, table-cong, answerTable-cong}
 use Rattle.order.specs.Order.{monomials}
 use Rattle.order.proofs.Order.{has-monomials}
-use Rattle.solution.specs.Condition.{Condition, width, defaultOrder}
+use Rattle.solution.specs.Condition.{Condition, width, conditionOf}
 use Rattle.solution.specs.Elimination.{Verdict, solved, none}
 use Rattle.entry.specs.Record.{Record, routeField, unknownsField, givensField, maskField, stateField, fields, kind, among, valueOf}
 use Rattle.entry.specs.Record.{isNone, isMonomial, tableIn, startRecord, conditionRecord, answerRecord, endRecord, noneRecord}
@@ -144,9 +144,11 @@ module _ (route : ℕ) (c : Condition) (v : Verdict (List ℕ)) where
       ∙ same-table (width c) _ (c .table) (is-table (width c) (present (c .table))) is
       (λ p l. value-cong (width c) _ _ p (λ m h. present-tabulate (2 ^ width c) (present (c .table)) m h))
 
-  pub condition-back : c .order ≡ defaultOrder (c .U) → IsTable (width c) (c .table) → heldCondition (entryRecords route c v) ≡ c
+  pub condition-back : c ≡ conditionOf (c .U) (c .G) (c .table) → IsTable (width c) (c .table) → heldCondition (entryRecords route c v) ≡ c
   unfolding heldCondition
-  condition-back o is = rw (entry-unknowns, entry-givens, table-back is, ← o)
+  condition-back plain is =
+      let same : heldCondition (entryRecords route c v) ≡ conditionOf (c .U) (c .G) (c .table) = rw (entry-unknowns, entry-givens, table-back is) in
+      same ∙ sym plain
 
 -- each answer's
 pub answers-held : (route : ℕ) (c : Condition) (a : List ℕ) (j m : ℕ) → j < c .U → m < 2 ^ width c

@@ -13,7 +13,7 @@ use Rattle.ring.proofs.Table.{held-answerTable}
 use Rattle.ring.proofs.Bool.{and-left, and-right, both, never}
 use Rattle.tables.specs.Questions.{lettersFit}
 use Rattle.tables.proofs.Questions.{letters-small, unknowns-small}
-use Rattle.solution.specs.Condition.{Condition, width, polynomial, IsOrder}
+use Rattle.solution.specs.Condition.{Condition, width, polynomial, defaultOrder, IsOrder}
 use Rattle.solution.specs.Elimination.{Verdict, solved, none, solve, solvable, booleAnswers, booleTable, smallestBlocked}
 use Rattle.solution.specs.General.{RightVerdict}
 use Rattle.solution.proofs.Orders.{default-order}
@@ -64,7 +64,9 @@ pub record ReadsBack (route : ℕ) (c : Condition) (rs : List Record) : Type 0 w
 
 -- the order of a condition that has an entry
 pub archived-order : (route : ℕ) (c : Condition) → Archivable route c → IsOrder (c .U) (c .order)
-archived-order route c a = rw (a .of-order) (default-order (c .U))
+archived-order route c a =
+    let o : c .order ≡ defaultOrder (c .U) = ap (λ (x : Condition). x .order) (a .plain) in
+    rw o (default-order (c .U))
 
 written : (route : ℕ) (c : Condition) → Archivable route c → ReadsBack route c (archivedRecords route c)
 unfolding entry
@@ -83,7 +85,7 @@ written route c a =
       of-route = r;
       of-unknowns = u;
       of-givens = g;
-      condition = condition-back route c (solve c) (a .of-order) (a .of-table);
+      condition = condition-back route c (solve c) (a .plain) (a .of-table);
       verdict = verdict-back route c (solve c) (solve-fits c (archived-order route c a));
       used = refl;
     }

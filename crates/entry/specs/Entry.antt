@@ -8,7 +8,7 @@ use Prim.Native.Nat.{ℕ, zero, suc}
 use Rattle.ring.specs.Table.{IsTable, present, held}
 use Rattle.tables.specs.Questions.{lettersFit}
 use Rattle.order.specs.Order.{monomials}
-use Rattle.solution.specs.Condition.{Condition, width, defaultOrder}
+use Rattle.solution.specs.Condition.{Condition, width, conditionOf}
 use Rattle.solution.specs.Elimination.{Verdict, solved, none, solve}
 use Rattle.entry.specs.Record.{Record, startRecord, conditionRecord, answerRecord, endRecord, noneRecord, bytes}
 use Rattle.entry.specs.Questions.{routeFits}
@@ -44,6 +44,6 @@ entry route c = bytes (archivedRecords route c)
 pub record Archivable (route : ℕ) (c : Condition) : Type 0 where
   pub letters : lettersFit (c .U) (c .G) ≡ true
   pub of-route : routeFits route ≡ true
-  -- 'Unknown 0 goes first, then 1, and so on'
-  pub of-order : c .order ≡ defaultOrder (c .U)
+  -- 'Unknown 0 goes first, then 1, and so on': an entry says nothing of another order
+  pub plain : c ≡ conditionOf (c .U) (c .G) (c .table)
   pub of-table : IsTable (width c) (c .table)
