@@ -50,9 +50,14 @@ pub fn value<B: Block>(
     let table = &table[..letters.table_length()];
     ask_bits(table)?;
     ask(16, state.0 < letters.states() && choice.0 < letters.choices())?;
+    // a block of 64 masks at a time, so that a mask is a byte and the loop one of whole vectors
     let absent = !letters.point(state, choice);
-    let counted = table.iter().zip(0u16..).map(|(byte, mask)| byte & (mask & absent == 0) as u8);
-    Ok(counted.fold(0, |odd, one| odd ^ one))
+    let odd = |block: &[u8]| {
+        let counted = block.iter().zip(0u8..).map(|(byte, mask)| byte & (mask & absent as u8 == 0) as u8);
+        counted.fold(0, |odd, one| odd ^ one)
+    };
+    let blocks = table.chunks(64).zip((0u16..).step_by(64));
+    Ok(blocks.filter(|(_, high)| high & absent == 0).fold(0, |sum, (block, _)| sum ^ odd(block)))
 }
 
 /// The sum of two tables. Questions 1, 4, 8.

@@ -4,6 +4,17 @@ use super::block::{operands, Block, Operands, LOW_LETTERS, MOST_BLOCKS, OPERAND_
 
 static OPERANDS: Operands<u64> = operands!(u64);
 
+/// The word with letters 0 to 2 and 3 to 5 exchanged: bit 8 * i + j goes to 8 * j + i. Eight bytes of a
+/// table are then one shifted load or store.
+#[inline(always)]
+fn cross(mut word: u64) -> u64 {
+    for (shift, mask) in [(7, 0x00aa_00aa_00aa_00aa), (14, 0x0000_cccc_0000_cccc), (28, 0xf0f0_f0f0)] {
+        let moved = (word ^ word >> shift) & mask;
+        word ^= moved ^ moved << shift;
+    }
+    word
+}
+
 impl Block for u64 {
     const ZERO: u64 = 0;
     const ONE: u64 = !0;
@@ -32,29 +43,25 @@ impl Block for u64 {
     }
 
     fn pack(bytes: &[u8]) -> u64 {
-        let mut word = 0;
         let eights = bytes.chunks_exact(8);
+        let mut crossed = 0;
         for (i, &byte) in eights.remainder().iter().enumerate() {
-            word |= (byte as u64) << i;
+            crossed |= (byte as u64) << (8 * i);
         }
         for (i, eight) in eights.enumerate() {
-            let eight = u64::from_le_bytes(eight.try_into().expect("eight bytes"));
-            word |= eight.wrapping_mul(0x0102_0408_1020_4080) >> 56 << (8 * i);
+            crossed |= u64::from_le_bytes(eight.try_into().expect("eight bytes")) << i;
         }
-        word
+        cross(crossed)
     }
 
     fn unpack(self, bytes: &mut [u8]) {
-        let mut word = self;
+        let crossed = cross(self);
         let mut eights = bytes.chunks_exact_mut(8);
-        for eight in &mut eights {
-            let spread = (word & 255) * 0x0101_0101_0101_0101 & 0x8040_2010_0804_0201;
-            let ones = (spread + 0x7f7f_7f7f_7f7f_7f7f) >> 7 & 0x0101_0101_0101_0101;
-            eight.copy_from_slice(&ones.to_le_bytes());
-            word >>= 8;
+        for (i, eight) in (&mut eights).enumerate() {
+            eight.copy_from_slice(&(crossed >> i & 0x0101_0101_0101_0101).to_le_bytes());
         }
         for (i, byte) in eights.into_remainder().iter_mut().enumerate() {
-            *byte = (word >> i & 1) as u8;
+            *byte = (crossed >> (8 * i) & 1) as u8;
         }
     }
 
