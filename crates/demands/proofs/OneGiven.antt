@@ -27,7 +27,7 @@ use Rattle.solution.specs.Elimination.{none, solvable, blocked, smallestBlocked
 use Rattle.solution.specs.General.{Blocked}
 use Rattle.solution.specs.Substitution.{ownLetters}
 use Rattle.solution.proofs.Letters.{own-holds}
-use Rattle.solution.proofs.Orders.{default-order}
+use Rattle.solution.proofs.Order.{default-order}
 use Rattle.solution.proofs.Smallest.{first-found}
 use Rattle.solution.proofs.Blocked.{no-true, blocked-none, is-blocked}
 use Rattle.solution.proofs.Theorems.{solvable-exactly}

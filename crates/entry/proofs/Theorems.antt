@@ -16,7 +16,7 @@ use Rattle.tables.proofs.Questions.{letters-small, unknowns-small}
 use Rattle.solution.specs.Condition.{Condition, width, polynomial, defaultOrder, IsOrder}
 use Rattle.solution.specs.Elimination.{Verdict, solved, none, solve, solvable, booleAnswers, booleTable, smallestBlocked}
 use Rattle.solution.specs.General.{RightVerdict}
-use Rattle.solution.proofs.Orders.{default-order}
+use Rattle.solution.proofs.Order.{default-order}
 use Rattle.solution.proofs.Verdict.{AreBooles, right-solved, right-none}
 use Rattle.entry.specs.Record.{Record, AreBytes, bytes}
 use Rattle.entry.specs.Entry.{entryRecords, archivedRecords, entry, Archivable}

@@ -27,7 +27,7 @@ use Rattle.solution.specs.Elimination.{booleTable, particularTable, lowenheimTa
 use Rattle.solution.specs.Inner.ByPoints.{remainsThrough, answeredThrough}
 use Rattle.solution.proofs.General.{in-order, remains-values}
 use Rattle.solution.proofs.Blocked.{zero-values, blocked-remains, remains-blocked, is-blocked}
-use Rattle.solution.proofs.Orders.{default-order}
+use Rattle.solution.proofs.Order.{default-order}
 use Rattle.solution.proofs.Smallest.{smallest-cong, smallest-is, smallest-none}
 use Rattle.elimination.specs.Inner.Stages.{InLetters, ListsEach, noRepeats}
 use Rattle.elimination.proofs.AnyOrder.{Agree, remains-agree, answered-agree}
