@@ -10,6 +10,8 @@ pub mod Bound
 pub mod Codes
 pub mod Held
 pub mod EntryPasses
+pub mod SameBytes
+pub mod OrderRecord
 pub mod Unique
 pub mod Canonical
 pub mod Passes
