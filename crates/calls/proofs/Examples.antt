@@ -6,18 +6,20 @@ use Prim.Native.Nat.{ℕ}
 use Rattle.ring.specs.Letters.{bit, point}
 use Rattle.ring.specs.Polynomial.{count, odd, within, value, constant, letter, sum, product, restrict, monomial, substitute, everyBelow}
 use Rattle.ring.specs.Table.{present, tabulate, table, answerTable}
-use Rattle.ring.specs.Lists.{listed, has}
+use Rattle.ring.specs.Lists.{listed, has, times}
 use Rattle.tables.specs.Questions.{firstNo, lettersFit}
 use Rattle.tables.specs.Answered.{Reply, accepted, refused}
 use Rattle.order.specs.Order.{letters, before}
 use Rattle.solution.specs.Condition.{defaultOrder}
+use Rattle.solution.specs.Order.{orderBytes, orderFits}
 use Rattle.solution.specs.Elimination.{nextCondition, remains, answerFrom, booleAnswers, smallestBelow, blocked, smallestBlocked, isZero}
 use Rattle.solution.specs.Elimination.{solvable, booleTable, solve}
-use Rattle.entry.specs.Record.{fields, widths, size, kind, fromLowFirst, bytes, among, valueIn, valueOf, bodyFits, inBounds}
+use Rattle.entry.specs.Record.{fields, widths, size, kind, fromLowFirst, bytes, among, valueIn, valueOf, bodyFits, sameBytes}
+use Rattle.entry.specs.Record.{isDefault, isNeeded, inBounds}
 use Rattle.entry.specs.Held.{next, untilEnd, firstRecords, records, hasMonomial, conditionIn, answersIn, unlessNone, heldCondition}
-use Rattle.entry.specs.Held.{heldVerdict}
+use Rattle.entry.specs.Held.{orderIn, heldVerdict}
 use Rattle.entry.specs.Questions.{routeFits, hasEnd, mayFollow, kindsFollow, kindsFit, allInBounds, standsBefore, inOrder, allInOrder}
-use Rattle.entry.specs.Questions.{numbersFit, sameBytes, answersHold}
+use Rattle.entry.specs.Questions.{numbersFit, answersHold}
 use Rattle.calls.specs.Questions.{entryQuestions, auditQuestions, routeRises, walkQuestions}
 use Rattle.calls.specs.Walk.{walkAtMost, walkBehind, walkReply}
 
@@ -72,6 +74,6 @@ walks =
     ∷ []
 
 pub walks-hold : AllHold walks
-unfolding walkReply walkBehind walkAtMost walkQuestions routeRises firstNo lettersFit auditQuestions entryQuestions answersHold sameBytes numbersFit allInOrder inOrder standsBefore allInBounds inBounds bodyFits kindsFit kindsFollow mayFollow has hasEnd routeFits records firstRecords untilEnd next kind size fields widths valueOf valueIn fromLowFirst among bytes hasMonomial conditionIn answersIn unlessNone heldCondition heldVerdict letters before table tabulate answerTable present solve booleTable solvable isZero everyBelow remains nextCondition product restrict odd count bit defaultOrder listed booleAnswers answerFrom sum letter constant substitute monomial smallestBlocked smallestBelow blocked point value within
+unfolding times orderBytes orderFits orderIn isDefault isNeeded walkReply walkBehind walkAtMost walkQuestions routeRises firstNo lettersFit auditQuestions entryQuestions answersHold sameBytes numbersFit allInOrder inOrder standsBefore allInBounds inBounds bodyFits kindsFit kindsFollow mayFollow has hasEnd routeFits records firstRecords untilEnd next kind size fields widths valueOf valueIn fromLowFirst among bytes hasMonomial conditionIn answersIn unlessNone heldCondition heldVerdict letters before table tabulate answerTable present solve booleTable solvable isZero everyBelow remains nextCondition product restrict odd count bit defaultOrder listed booleAnswers answerFrom sum letter constant substitute monomial smallestBlocked smallestBelow blocked point value within
 walks-hold = refl also refl also refl also refl also refl also refl also refl also refl also refl also refl also refl also refl also refl
     also refl also refl also end
