@@ -3,7 +3,7 @@
 use mathlib.Core.Path.{_≡_, refl, sym, ap, ap₂, _∙_}
 use mathlib.Core.Bool.{Bool, true, false, _||_, cond, or-false}
 use mathlib.Core.List.{List, [], _∷_, _++_}
-use mathlib.Core.Logic.{_⊎_, inl, inr}
+use mathlib.Core.Logic.{_⊎_, inl, inr, _↔_}
 use Prim.Native.Nat.{ℕ, _+_, _≤_}
 use native.Mathlib.Omega.{arith}
 use lib.Dec.{eqb}
@@ -13,16 +13,16 @@ use Rattle.ring.specs.Table.{IsTable}
 use Rattle.ring.specs.Lists.{listed, has}
 use Rattle.ring.proofs.Bool.{and-left, and-right, both, bool-cases, never}
 use Rattle.ring.proofs.Lists.{has-append}
-use Rattle.solution.specs.Condition.{Condition, width, ListsEach}
+use Rattle.solution.specs.Condition.{Condition, width, defaultOrder, conditionOf, ListsEach}
 use Rattle.solution.specs.Order.{orderBytes, defaultBytes}
 use Rattle.solution.specs.Elimination.{Verdict}
-use Rattle.solution.proofs.Order.{take-orderBytes}
+use Rattle.solution.proofs.Order.{default-each, take-orderBytes}
 use Rattle.entry.specs.Record.{Record, fields, kind, lowFirst, bodyOf, among, isEnd, isNone, isOrder, isMonomial, isDefault, isNeeded}
 use Rattle.entry.specs.Record.{inBounds, orderRecord, endRecord}
 use Rattle.entry.specs.Entry.{orderRecords, conditionRecords, verdictRecords, entryRecords}
-use Rattle.entry.specs.Held.{first, unknownsOf, orderIn, heldCondition}
+use Rattle.entry.specs.Held.{first, second, unknownsOf, orderIn, heldCondition}
 use Rattle.entry.specs.Questions.{mayFollow, kindsFollow}
-use Rattle.entry.proofs.SameBytes.{bytes-same}
+use Rattle.entry.proofs.SameBytes.{bytes-same, same-bytes}
 use Rattle.entry.proofs.EntryPasses.{told-kinds}
 use Rattle.entry.proofs.Held.{entry-unknowns, entry-givens, table-back}
 
@@ -34,6 +34,11 @@ order-body order = refl
 pub order-is : (order : List ℕ) → isOrder (orderRecord order) ≡ true
 unfolding kind
 order-is order = refl
+
+-- 'It is left out for the order 0, 1, 2 and so on'
+pub default-left-out : (U G : ℕ) (t : List ℕ) → orderRecords (conditionOf U G t) ≡ []
+unfolding orderRecords isDefault
+default-left-out U G t = rw (same-bytes (defaultBytes U))
 
 -- ---- behind the start: a kind 6 if there is one, and the records behind it
 unfoldable pub orderPart : List Record → List Record
@@ -121,6 +126,28 @@ module _ (route : ℕ) (c : Condition) (v : Verdict (List ℕ)) where
       go : (b : Bool) → behindOrder (cond b [] (orderRecord (c .order) ∷ []) ++ toldRecords) ≡ toldRecords
       go true = behind-none toldRecords told-no-order
       go false = rw (order-is (c .order))
+
+  -- 'It is left out for the order 0, 1, 2 and so on', and for no other
+  pub no-record-exactly : c .U ≤ 6 → ListsEach (c .U) (c .order)
+      → (isOrder (second (entryRecords route c v)) ≡ false) ↔ (c .order ≡ defaultOrder (c .U))
+  unfolding entryRecords orderRecords toldRecords isDefault
+  no-record-exactly few each = (
+    λ n. default-of (isDefault (c .U) (orderBytes (c .order))) refl n,
+    λ e. none-of (isDefault (c .U) (orderBytes (c .order)))
+        (ap (λ (o : List ℕ). isDefault (c .U) (orderBytes o)) e ∙ same-bytes (defaultBytes (c .U))),
+  )
+    where
+      none-of : (b : Bool) → b ≡ true → isOrder (first (cond b [] (orderRecord (c .order) ∷ []) ++ toldRecords)) ≡ false
+      none-of true e = told-no-order
+      none-of false e = never e refl
+
+      default-of : (b : Bool) → isDefault (c .U) (orderBytes (c .order)) ≡ b
+          → isOrder (first (cond b [] (orderRecord (c .order) ∷ []) ++ toldRecords)) ≡ false → c .order ≡ defaultOrder (c .U)
+      default-of true e n =
+          sym (take-orderBytes (c .U) (c .order) few each)
+          ∙ ap (take (c .U)) (bytes-same _ _ e)
+          ∙ take-orderBytes (c .U) (defaultOrder (c .U)) few (default-each (c .U))
+      default-of false e n = never (order-is (c .order)) n
 
   -- it holds its order
   pub order-back : orderIn (entryRecords route c v) ≡ orderBytes (c .order)

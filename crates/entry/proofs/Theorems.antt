@@ -5,6 +5,7 @@
 use mathlib.Core.Path.{_≡_, refl, sym, ap, ap₂, _∙_}
 use mathlib.Core.Bool.{Bool, true, false, cond}
 use mathlib.Core.List.{List, [], _∷_, _++_}
+use mathlib.Core.Logic.{_↔_}
 use Prim.Native.Nat.{ℕ, _+_, _≤_}
 use lib.Dec.{eqb}
 use lib.ListN.{length, take}
@@ -13,15 +14,15 @@ use Rattle.ring.proofs.Table.{held-answerTable}
 use Rattle.ring.proofs.Bool.{and-left, and-right, both, never}
 use Rattle.tables.specs.Questions.{lettersFit}
 use Rattle.tables.proofs.Questions.{letters-small, unknowns-small}
-use Rattle.solution.specs.Condition.{Condition, width, polynomial, IsOrder}
+use Rattle.solution.specs.Condition.{Condition, width, polynomial, defaultOrder, IsOrder}
 use Rattle.solution.specs.Order.{orderBytes}
 use Rattle.solution.specs.Elimination.{Verdict, solved, none, solve, solvable, booleAnswers, booleTable, smallestBlocked}
 use Rattle.solution.specs.General.{RightVerdict}
 use Rattle.solution.proofs.Order.{each-order, bytes-fit}
 use Rattle.solution.proofs.Verdict.{AreBooles, right-solved, right-none}
-use Rattle.entry.specs.Record.{Record, AreBytes, sameBytes, bytes}
+use Rattle.entry.specs.Record.{Record, isOrder, AreBytes, sameBytes, bytes}
 use Rattle.entry.specs.Entry.{entryRecords, archivedRecords, entry, Archivable}
-use Rattle.entry.specs.Held.{records, routeOf, unknownsOf, givensOf, orderIn, answersIn, says, heldCondition, heldVerdict}
+use Rattle.entry.specs.Held.{records, second, routeOf, unknownsOf, givensOf, orderIn, answersIn, says, heldCondition, heldVerdict}
 use Rattle.entry.specs.Questions.{sameVerdict, answersHold}
 use Rattle.entry.proofs.Records.{records-made}
 use Rattle.entry.proofs.Back.{entry-records}
@@ -30,7 +31,7 @@ use Rattle.entry.proofs.EntryPasses.{entry-has-end, entry-kinds, entry-
 use Rattle.entry.proofs.Held.{entry-route, entry-unknowns, entry-givens, verdict-back, answers-held, solved-unless}
 use Rattle.entry.proofs.Held.{none-unless}
 use Rattle.entry.proofs.SameBytes.{bytes-same, same-bytes}
-use Rattle.entry.proofs.OrderRecord.{order-back, condition-back}
+use Rattle.entry.proofs.OrderRecord.{no-record-exactly, order-back, condition-back}
 use Rattle.entry.proofs.Canonical.{records-end, canonical}
 use Rattle.entry.proofs.Bytes.{records-bytes}
 use Rattle.entry.proofs.Bound.{entry-most}
@@ -100,6 +101,19 @@ written route c a =
 -- the answers, and the length used
 pub reads-back : (route : ℕ) (c : Condition) (behind : List ℕ) → Archivable route c → ReadsBack route c (records (entry route c ++ behind))
 reads-back route c behind a = rw (entry-records route c behind) (written route c a)
+
+-- the entry without a kind 6 is the one for the order 0, 1, 2 and so on
+pub no-order-exactly : (route : ℕ) (c : Condition) → Archivable route c
+    → (isOrder (second (archivedRecords route c)) ≡ false) ↔ (c .order ≡ defaultOrder (c .U))
+no-order-exactly route c a = no-record-exactly route c (solve c) (unknowns-small (c .U) (c .G) (a .letters)) (a .of-order)
+
+-- one entry is of one route and one condition, with one order
+pub one-form : (route : ℕ) (c : Condition) (other-route : ℕ) (d : Condition) → Archivable route c → Archivable other-route d
+    → entry route c ≡ entry other-route d → (route ≡ other-route) × (c ≡ d)
+one-form route c other-route d a b e =
+    let x : ReadsBack route c (records (entry route c ++ [])) = reads-back route c [] a in
+    let y : ReadsBack other-route d (records (entry route c ++ [])) = rw e (reads-back other-route d [] b) in
+    (sym (x .of-route) ∙ y .of-route, sym (x .condition) ∙ y .condition)
 
 -- bytes that pass questions 10, 11, 1, 2, 12 and 17 are, as far as they are used, the bytes of the entry of what they hold
 pub accepted-canonical : (bs : List ℕ) → AreBytes bs → Passes (records bs)

@@ -9,7 +9,7 @@ use lib.ListN.{length, take, drop}
 use Rattle.ring.specs.Polynomial.{Polynomial}
 use Rattle.ring.specs.Table.{table, answerTable}
 use Rattle.solution.specs.Substitution.{Substitution}
-use Rattle.solution.specs.Condition.{Condition}
+use Rattle.solution.specs.Condition.{Condition, ordered}
 use Rattle.solution.specs.Order.{defaultBytes}
 use Rattle.solution.specs.Elimination.{Verdict, solved, none}
 use Rattle.entry.specs.Record.{Record, routeField, unknownsField, givensField, maskField, stateField, size, kind, valueOf, isEnd}
@@ -82,12 +82,7 @@ says rs = unlessNone (answersIn rs) rs
 -- the same in tables: the condition, and the answers or 'none' and the state
 unfoldable pub heldCondition : List Record → Condition
 heldCondition rs =
-    record {
-      U = unknownsOf rs;
-      G = givensOf rs;
-      order = take (unknownsOf rs) (orderIn rs);
-      table = table (unknownsOf rs + givensOf rs) (conditionIn rs);
-    }
+    ordered (unknownsOf rs) (givensOf rs) (take (unknownsOf rs) (orderIn rs)) (table (unknownsOf rs + givensOf rs) (conditionIn rs))
 
 unfoldable pub heldVerdict : List Record → Verdict (List ℕ)
 heldVerdict rs = unlessNone (answerTable (unknownsOf rs) (unknownsOf rs + givensOf rs) (answersIn rs)) rs

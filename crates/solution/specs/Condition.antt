@@ -24,13 +24,17 @@ width c = c .U + c .G
 abbrev pub polynomial : Condition → Polynomial
 polynomial c = present (c .table)
 
+-- the condition with the table t, its unknowns in this order
+abbrev pub ordered : ℕ → ℕ → List ℕ → List ℕ → Condition
+ordered U G order t = record { U = U; G = G; order = order; table = t }
+
 -- 'Unknown 0 goes first, then 1, and so on'
 unfoldable pub defaultOrder : ℕ → List ℕ
 defaultOrder U = listed U (λ j. j)
 
 -- the condition with the table t, its unknowns in that order
 abbrev pub conditionOf : ℕ → ℕ → List ℕ → Condition
-conditionOf U G t = record { U = U; G = G; order = defaultOrder U; table = t }
+conditionOf U G t = ordered U G (defaultOrder U) t
 
 -- the order lists the unknowns: every one of them, and nothing else
 abbrev pub IsOrder : ℕ → List ℕ → Type 0

@@ -8,7 +8,7 @@ use lib.Dec.{eqb}
 use lib.ListN.{length, take, getD}
 use Rattle.ring.specs.Polynomial.{everyBelow}
 use Rattle.ring.specs.Lists.{listed, times}
-use Rattle.solution.specs.Condition.{Condition, defaultOrder}
+use Rattle.solution.specs.Condition.{Condition, ordered, defaultOrder}
 
 -- 'the unknown numbers in order, then 255 in unused places': the six bytes of an order
 unfoldable pub orderBytes : List ℕ → List ℕ
@@ -26,4 +26,4 @@ orderFits U bytes =
 
 -- the condition in a lent buffer, read as far as question 4's length, its unknowns in the order of lent bytes
 abbrev pub lentCondition : ℕ → ℕ → List ℕ → List ℕ → Condition
-lentCondition U G bytes buffer = record { U = U; G = G; order = take U bytes; table = take (2 ^ (U + G)) buffer }
+lentCondition U G bytes buffer = ordered U G (take U bytes) (take (2 ^ (U + G)) buffer)
