@@ -25,8 +25,8 @@ times-first : (x i : ℕ) (s : List ℕ) → i < length s → times x (drop i s)
 unfolding times
 times-first x i s l = rw (add-one, drop-cons s i 0)
 
-module _ (x i count : ℕ) (s : List ℕ) {b : ℕ} (l : i < length s) (so-far : count + times x (drop i s) ≡ times x s) (read : b ≡ getD s i 0)
-    where
+module _ (x i count : ℕ) (s : List ℕ) {b : ℕ} (l : i < length s) (so-far : count + times x (drop i s) ≡ times x s)
+    (read : b ≡ getD s i 0) where
   pub counted-one : x ≡ b → count + 1 + times x (drop (i + 1) s) ≡ times x s
   counted-one e = omega (arith, (rw (eq-eqb x (getD s i 0) (e ∙ read)) at (times-first x i s l)))
 
@@ -63,18 +63,19 @@ many-refused U bytes many = go (orderFits U bytes) refl
     go true e = absurd (omega (arith, fits-length U bytes e, fits-six U bytes e, length-take U bytes))
     go false e = refl
 
-module _ (U : ℕ) (bytes : List ℕ) (six : length bytes ≡ 6) {each : Bool} (asked : each ≡ everyBelow U (λ x. eqb (times x (take U bytes)) 1))
-    where
+module _ (U : ℕ) (bytes : List ℕ) (six : length bytes ≡ 6) {each : Bool}
+    (asked : each ≡ everyBelow U (λ x. eqb (times x (take U bytes)) 1)) where
   pub each-refused : each ≡ false → false ≡ orderFits U bytes
   unfolding orderFits
   each-refused no-to = rw (six, ← asked, no-to)
 
-  pub rest-asked : U ≤ 6 → each ≡ true → {r : Bool}
-      → r ≡ everyBelow (length (take (6 - U) (drop U bytes))) (λ i. eqb (getD (take (6 - U) (drop U bytes)) i 0) 255) → r ≡ orderFits U bytes
+  abbrev rest : List ℕ
+  rest = take (6 - U) (drop U bytes)
+
+  pub rest-asked : U ≤ 6 → each ≡ true → {r : Bool} → r ≡ everyBelow (length rest) (λ i. eqb (getD rest i 0) 255) → r ≡ orderFits U bytes
   unfolding orderFits
   rest-asked few yes-each e =
-      let size : length (take (6 - U) (drop U bytes)) ≡ 6 - U =
-      omega (arith, length-take (6 - U) (drop U bytes), length-drop U bytes) in
+      let size : length rest ≡ 6 - U = omega (arith, length-take (6 - U) (drop U bytes), length-drop U bytes) in
       e ∙ rw (six, ← asked, yes-each, size)
       (every-cong (6 - U) _ _
       (λ i l. ap (λ (y : ℕ). eqb y 255) (getD-take (6 - U) (drop U bytes) i 0 l ∙ getD-drop U bytes i 0)))
