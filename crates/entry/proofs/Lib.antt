@@ -1,3 +1,4 @@
+pub mod Same
 pub mod Made
 pub mod Fields
 pub mod Records

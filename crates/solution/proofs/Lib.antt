@@ -5,6 +5,7 @@ pub mod General
 pub mod Smallest
 pub mod Blocked
 pub mod Order
+pub mod OrderAsked
 pub mod Verdict
 pub mod Theorems
 pub mod Written
