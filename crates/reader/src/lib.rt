@@ -1,9 +1,9 @@
 // Reading an archive entry into tables. `read_entry` is the public call of the library.
 // `fill_tables` is for the audit: what it requires, such callers meet.
 ghost use mathlib.Core.Path.{_≡_};
-ghost use mathlib.Core.List.{[], _∷_};
-ghost use Prim.Native.Nat.{_+_, _*_, _^_};
-ghost use lib.ListN.{length, set};
+ghost use mathlib.Core.List.{List, [], _∷_};
+ghost use Prim.Native.Nat.{ℕ, _+_, _*_, _^_, _≤_};
+ghost use lib.ListN.{length, drop, set};
 ghost use Rattle.ring.specs.Table.{table, answerTable};
 ghost use Rattle.tables.specs.Questions.{firstNo, writes, bufferQuestions};
 ghost use Rattle.tables.specs.Answered.{answered};
@@ -11,7 +11,7 @@ ghost use Rattle.entry.specs.Held.{records, conditionIn, answersIn, heldVerdict
 ghost use Rattle.records.specs.Inner.Headings.{headingOf, said};
 ghost use Rattle.calls.specs.Questions.{entryQuestions};
 ghost use Rattle.calls.specs.Entries.{reading, readCall};
-ghost use Rattle.reader.specs.Inner.Filling.{putMonomial, filled, zeros, roomFor, Lending, Fitting};
+ghost use Rattle.reader.specs.Inner.Filling.{putMonomial, filled, zeros, roomFor, Lending, Fitting, Filling};
 use calls::Heading;
 use calls::Read;
 use calls::Verdict;
@@ -50,7 +50,37 @@ fn put_monomial(r: &[u8], u: usize, g: usize, k: usize, condition: &mut [u8], an
     }
 }
 
-// The monomials of an accepted entry into cleared tables. Answers for which there is no room are left out.
+// The monomials in the records of kind 2 that stand one behind another; answers the place behind them.
+fn put_conditions(s: &[u8], from: usize, u: usize, g: usize, condition: &mut [u8]) -> usize
+    requires { ⌜ (from ≤ length (now s)) × Fitting u g (records (drop from (now s))) ⌝ }
+    ensures { λ r. ⌜ Filling (putMonomial 0 (2 ^ (u + g))) (now (s .entry)) u g (now (condition .entry)) from (now (condition .exit)) r ⌝ }
+    ensures { λ r. ⌜ ((t : List ℕ) → Filling (putMonomial 1 (2 ^ (u + g))) (now (s .entry)) u g t from t r) ⌝ }
+{
+    let mut at = from;
+    while records::is_there(s, at, 2, 3) {
+        put_one(condition, records::mask_of(s[at + 1], s[at + 2]));
+        at += 3;
+    }
+    at
+}
+
+// The same for kind 3 and answer tables of k bytes.
+fn put_answers(s: &[u8], from: usize, u: usize, g: usize, k: usize, answers: &mut [u8]) -> usize
+    requires { ⌜ (from ≤ length (now s)) × Fitting u g (records (drop from (now s))) × (k ≡ 2 ^ (u + g)) ⌝ }
+    ensures { λ r. ⌜ Filling (putMonomial 1 (2 ^ (u + g))) (now (s .entry)) u g (now (answers .entry)) from (now (answers .exit)) r ⌝ }
+    ensures { λ r. ⌜ ((t : List ℕ) → length t ≡ k → Filling (putMonomial 0 (2 ^ (u + g))) (now (s .entry)) u g t from t r) ⌝ }
+{
+    let mut at = from;
+    while records::is_there(s, at, 3, 4) {
+        let m = records::mask_of(s[at + 2], s[at + 3]);
+        put_one(answers, records::wide(s[at + 1]) * k + m);
+        at += 4;
+    }
+    at
+}
+
+// The monomials of an accepted entry into cleared tables. Answers for which there is no room are left out. Most records are monomials of
+// one table behind another: a loop for each of the two kinds goes over them.
 fn fill(s: &[u8], u: usize, g: usize, condition: &mut [u8], answers: &mut [u8])
     requires { ⌜ Fitting u g (records (now s)) × (length (now condition) ≡ 2 ^ (u + g)) ⌝ }
     ensures { λ _. ⌜ now (condition .exit) ≡ filled (putMonomial 0 (2 ^ (u + g))) (records (now (s .entry))) (now (condition .entry)) ⌝ }
@@ -68,7 +98,8 @@ fn fill(s: &[u8], u: usize, g: usize, condition: &mut [u8], answers: &mut [u8])
         if s[at] == 4 {
             return;
         }
-        at = behind;
+        let answers_at = put_conditions(s, behind, u, g, condition);
+        at = put_answers(s, answers_at, u, g, k, answers);
     }
 }
 

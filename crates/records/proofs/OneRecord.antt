@@ -20,7 +20,7 @@ use Rattle.tables.specs.Inner.Asking.{also}
 use Rattle.tables.proofs.FirstNo.{also-none, ask-then}
 use Rattle.order.specs.Inner.Place.{rank}
 use Rattle.entry.specs.Record.{Record, routeField, unknownsField, givensField, unknownField, maskField, stateField, fields, widths, size}
-use Rattle.entry.specs.Record.{kind, among, valueOf, isEnd, isNone, isMonomial, tableIn, fieldFits, inBounds}
+use Rattle.entry.specs.Record.{kind, among, valueOf, isEnd, isNone, isMonomial, inBounds}
 use Rattle.entry.specs.Questions.{routeFits, mayFollow}
 use Rattle.entry.specs.Inner.Places.{place, placeOf, standsBehind}
 use Rattle.entry.proofs.Fields.{start-route, start-unknowns, start-givens, condition-mask, answer-unknown, answer-mask, end-route}
@@ -193,18 +193,16 @@ module _ (x : Seen) (k i m : ℕ) (fits : Bool) {follows : Bool} (ef : follows �
   unfolding seenMonomial
   monomial-out h e = e ∙ rw (ef, not-true fits h)
 
-  pub monomial-in : {n : ℕ} → not fits ≡ false → n ≡ rank 10 m
-      → y ≡ record {
-        kind = k;
-        place = 16384 * i + n + 1;
-        kinds = x .kinds && follows;
-        numbers = x .numbers && ltb (x .place)
-            (16384 * i + n + 1);
-        none = x .none;
-      }
+  pub monomial-in : {p : ℕ} → not fits ≡ false → p ≡ place i m
+      → y ≡ record { kind = k; place = p; kinds = x .kinds && follows; numbers = x .numbers && ltb (x .place) p; none = x .none }
       → y ≡ seenMonomial x k i m fits
-  unfolding seenMonomial place
-  monomial-in {n} h en e = e ∙ rw (ef, not-false fits h, en, add-one)
+  unfolding seenMonomial
+  monomial-in h ep e = e ∙ rw (ef, not-false fits h, ep)
+
+-- the place, from the rank
+pub place-is : (i m : ℕ) {n : ℕ} → n ≡ rank 10 m → 16384 * i + n + 1 ≡ place i m
+unfolding place
+place-is i m en = rw (en, add-one)
 
 behind-place : (q i m : ℕ) → standsBehind q (place i m) ≡ ltb q (place i m)
 unfolding standsBehind place
