@@ -1,13 +1,13 @@
 // Reading an archive entry into tables. `read_entry` is the public call of the library.
 // `fill_tables` is for the audit: what it requires, such callers meet.
 ghost use mathlib.Core.Path.{_≡_};
-ghost use mathlib.Core.List.{List, [], _∷_};
+ghost use mathlib.Core.List.{List, [], _∷_, _++_};
 ghost use Prim.Native.Nat.{ℕ, _+_, _*_, _^_, _≤_};
 ghost use lib.ListN.{length, drop, set};
 ghost use Rattle.ring.specs.Table.{table, answerTable};
 ghost use Rattle.tables.specs.Questions.{firstNo, writes, bufferQuestions};
 ghost use Rattle.tables.specs.Answered.{answered};
-ghost use Rattle.entry.specs.Held.{records, conditionIn, answersIn, heldVerdict};
+ghost use Rattle.entry.specs.Held.{records, orderIn, conditionIn, answersIn, heldVerdict};
 ghost use Rattle.records.specs.Inner.Headings.{headingOf, said};
 ghost use Rattle.calls.specs.Questions.{entryQuestions};
 ghost use Rattle.calls.specs.Entries.{reading, readCall};
@@ -132,18 +132,34 @@ fn room_refusal(k: usize, condition: usize, size: usize, answers: usize) -> u8
     tables::ask(q, Question::Room, tables::has_room(size, answers))
 }
 
-// Question 4, and the buffers of an entry that passes the questions before it.
+// An array of this type has six bytes.
+fn count_bytes(order: [u8; 6]) -> usize
+    ensures { λ r. ⌜ (r ≡ 6) × (length order ≡ 6) ⌝ }
+{
+    6
+}
+
+fn put_order(order: [u8; 6], out: &mut [u8; 6])
+    ensures { λ _. ⌜ now (out .exit) ≡ order ++ drop (length order) (now (out .entry)) ⌝ }
+{
+    let six = count_bytes(*out);
+    *out = order;
+}
+
+// Question 4, and the buffers of an entry that passes the questions before it; `held` is its order.
 fn read_into(
     s: &[u8],
     h: Heading,
     verdict: Verdict,
+    held: [u8; 6],
+    order: &mut [u8; 6],
     condition: &mut [u8],
     answers: &mut [u8],
 ) -> Read
     requires { ⌜ (firstNo (entryQuestions (records (now s))) ≡ 0) × (h ≡ headingOf (records (now s)))
-        × (verdict ≡ said (heldVerdict (records (now s)))) ⌝ }
-    ensures { λ r. ⌜ answered (reading r) (now (condition .exit) ∷ now (answers .exit) ∷ [])
-        ≡ readCall (now (s .entry)) (now (condition .entry)) (now (answers .entry)) ⌝ }
+        × (verdict ≡ said (heldVerdict (records (now s)))) × (held ≡ orderIn (records (now s))) ⌝ }
+    ensures { λ r. ⌜ answered (reading r) (now (order .exit) ∷ now (condition .exit) ∷ now (answers .exit) ∷ [])
+        ≡ readCall (now (s .entry)) (now (order .entry)) (now (condition .entry)) (now (answers .entry)) ⌝ }
 {
     let u = h.unknowns;
     let g = h.givens;
@@ -158,13 +174,19 @@ fn read_into(
     clear(&mut condition[..k]);
     clear(&mut answers[..room]);
     fill(s, u, g, &mut condition[..k], &mut answers[..room]);
+    put_order(held, order);
     Read::Entry(h, verdict)
 }
 
-// Reads the entry that the bytes begin with: fills the condition table and, if it is solved, the answer tables.
-pub fn read_entry(bytes: &[u8], condition: &mut [u8], answers: &mut [u8]) -> Read
-    ensures { λ r. ⌜ answered (reading r) (now (condition .exit) ∷ now (answers .exit) ∷ [])
-        ≡ readCall (now (bytes .entry)) (now (condition .entry)) (now (answers .entry)) ⌝ }
+// Reads the entry that the bytes begin with: fills the order, the condition table and, if it is solved, the answer tables.
+pub fn read_entry(
+    bytes: &[u8],
+    order: &mut [u8; 6],
+    condition: &mut [u8],
+    answers: &mut [u8],
+) -> Read
+    ensures { λ r. ⌜ answered (reading r) (now (order .exit) ∷ now (condition .exit) ∷ now (answers .exit) ∷ [])
+        ≡ readCall (now (bytes .entry)) (now (order .entry)) (now (condition .entry)) (now (answers .entry)) ⌝ }
 {
     let survey = records::survey_entry(bytes);
     if survey.refusal != 0 {
@@ -172,5 +194,6 @@ pub fn read_entry(bytes: &[u8], condition: &mut [u8], answers: &mut [u8]) -> Rea
     }
     let heading = survey.heading;
     let verdict = survey.verdict;
-    read_into(bytes, heading, verdict, condition, answers)
+    let held = survey.order;
+    read_into(bytes, heading, verdict, held, order, condition, answers)
 }

@@ -12,7 +12,7 @@ ghost use Rattle.entry.specs.Record.{routeField, unknownsField, givensField, si
 ghost use Rattle.entry.specs.Held.{next, records};
 ghost use Rattle.entry.specs.Questions.{mayFollow};
 ghost use Rattle.entry.specs.Inner.Places.{place};
-ghost use Rattle.records.specs.Inner.Headings.{startOf};
+ghost use Rattle.records.specs.Inner.Headings.{startOf, orderBehind};
 ghost use Rattle.records.specs.Inner.Gathering.{Whole, Bounds, saidFirst, seenMonomial, seenRecord, gathered, saidBy};
 ghost use Rattle.records.specs.Inner.Gathering.{Further, placed, gatheredQuestions, surveyOf};
 use calls::Heading;
@@ -20,11 +20,12 @@ use calls::Verdict;
 use ring::State;
 use tables::Question;
 
-// What going over an entry gives: the first no of 10, 11, 1, 2 and 12, or 0, and what the entry says.
+// What going over an entry gives: the first no of 10, 11, 1, 2, 12 and 17, or 0, and what the entry says.
 pub struct Survey {
     pub refusal: u8,
     pub heading: Heading,
     pub verdict: Verdict,
+    pub order: [u8; 6],
 }
 
 // What has been seen of the records up to a place.
@@ -64,13 +65,13 @@ pub fn mask_of(low: u8, high: u8) -> usize
 }
 
 // 'one byte of kind, then a body whose length the kind fixes': the sizes of the kinds, 0 where there is no such kind.
-const SIZES: [usize; 6] = [0, 4, 3, 4, 2, 2];
+const SIZES: [usize; 7] = [0, 4, 3, 4, 2, 2, 7];
 
 fn size_of(kind: u8) -> usize
     ensures { λ n. ⌜ n ≡ size kind ⌝ }
 {
     let k = wide(kind);
-    if k < 6 {
+    if k < 7 {
         return SIZES[k];
     }
     0
@@ -158,10 +159,14 @@ fn may_follow(p: u8, k: u8) -> bool
 {
     match p {
         0 => k == 1,
-        1 => either(k == 2, either(k == 3, either(k == 4, k == 5))),
+        1 => either(
+            k == 2,
+            either(k == 3, either(k == 4, either(k == 5, k == 6))),
+        ),
         2 => either(k == 2, either(k == 3, either(k == 4, k == 5))),
         3 => either(k == 3, k == 4),
         5 => k == 4,
+        6 => either(k == 2, either(k == 3, either(k == 4, k == 5))),
         _ => false,
     }
 }
@@ -222,6 +227,14 @@ fn see_monomial(seen: Seen, k: u8, i: usize, m: usize, fits: bool, counts: &[u8;
     seen_next(seen, k, p, follows, rises, none)
 }
 
+// The bytes of an order, from its record.
+fn order_in(r: &[u8]) -> [u8; 6]
+    requires { ⌜ length (now r) ≡ 7 ⌝ }
+    ensures { λ o. ⌜ o ≡ drop 1 (now (r .entry)) ⌝ }
+{
+    [r[1], r[2], r[3], r[4], r[5], r[6]]
+}
+
 // What has been seen with one more record.
 fn see(
     seen: Seen,
@@ -256,6 +269,11 @@ fn see(
             let follows = may_follow(seen.kind, 5);
             let said = said_first(none, r[1]);
             seen_next(seen, 5, 0, follows, wide(r[1]) < states, said)
+        }
+        6 => {
+            let follows = may_follow(seen.kind, 6);
+            let is_default = entry::is_default(u, order_in(r));
+            seen_next(seen, 6, 0, follows, !is_default, none)
         }
         _ => {
             let follows = may_follow(seen.kind, k);
@@ -414,15 +432,16 @@ fn gather(s: &[u8], route: u8, u: usize, g: usize, masks: usize, states: usize) 
     gathered_at(0, seen)
 }
 
-// The first no of 10, 11, 1, 2 and 12, or 0; `fits` answers 1.
-fn refusal_of(gathered: Gathered, fits: bool, route: u8) -> u8
-    ensures { λ r. ⌜ r ≡ firstNo (gatheredQuestions gathered fits route) ⌝ }
+// The first no of 10, 11, 1, 2, 12 and 17, or 0; `fits` answers 1, `ordered` 17.
+fn refusal_of(gathered: Gathered, fits: bool, route: u8, ordered: bool) -> u8
+    ensures { λ r. ⌜ r ≡ firstNo (gatheredQuestions gathered fits route ordered) ⌝ }
 {
     let q = tables::ask(0, Question::Records, 0 < gathered.used);
     let q = tables::ask(q, Question::Kinds, gathered.kinds);
     let q = tables::ask(q, Question::Letters, fits);
     let q = tables::ask(q, Question::Route, entry::route_fits(wide(route)));
-    tables::ask(q, Question::Numbers, gathered.numbers)
+    let q = tables::ask(q, Question::Numbers, gathered.numbers);
+    tables::ask(q, Question::Order, ordered)
 }
 
 fn verdict_of(none: usize) -> Verdict
@@ -460,6 +479,28 @@ fn start_of(s: &[u8]) -> Heading
     }
 }
 
+// The order's bytes: those of a kind 6 that stands second, or the order 0, 1, 2, ..
+fn order_of(s: &[u8], u: usize) -> [u8; 6]
+    ensures { λ o. ⌜ o ≡ orderBehind u (records (now (s .entry))) ⌝ }
+{
+    let n = size_at(s, 0);
+    if n == 0 {
+        return solution::default_order(u);
+    }
+    if s[0] == 4 {
+        return solution::default_order(u);
+    }
+    let m = size_at(s, n);
+    if m == 0 {
+        return solution::default_order(u);
+    }
+    if s[n] != 6 {
+        return solution::default_order(u);
+    }
+    let end = n + m;
+    order_in(&s[n..end])
+}
+
 // Goes over the entry that the bytes begin with.
 pub fn survey_entry(s: &[u8]) -> Survey
     ensures { λ r. ⌜ r ≡ surveyOf (records (now (s .entry))) ⌝ }
@@ -472,7 +513,9 @@ pub fn survey_entry(s: &[u8]) -> Survey
     let u = fitting(fits, unknowns);
     let g = fitting(fits, givens);
     let gathered = gather(s, route, u, g, tables::pow2(u + g), tables::pow2(g));
-    let refusal = refusal_of(gathered, fits, route);
+    let order = order_of(s, unknowns);
+    let ordered = solution::order_fits(unknowns, order);
+    let refusal = refusal_of(gathered, fits, route, ordered);
     let used = gathered.used;
     let heading = Heading {
         route,
@@ -485,5 +528,6 @@ pub fn survey_entry(s: &[u8]) -> Survey
         refusal,
         heading,
         verdict,
+        order,
     }
 }

@@ -6,10 +6,10 @@ use mathlib.Core.List.{List, [], _∷_}
 use Prim.Native.Nat.{ℕ, zero, suc, _+_, _^_, _≤_}
 use lib.Dec.{eqb, ltb}
 use lib.ListN.{length, drop}
-use Rattle.tables.specs.declared.Question.the-variants.{Letters, Route, Records, Kinds, Numbers}
+use Rattle.tables.specs.declared.Question.the-variants.{Letters, Route, Records, Kinds, Numbers, Order}
 use Rattle.tables.specs.Questions.{Asked, asks, firstNo}
 use Rattle.entry.specs.Record.{Record, routeField, stateField, size, kind, valueOf, isEnd, isNone, inBounds}
-use Rattle.entry.specs.Held.{records, heldVerdict}
+use Rattle.entry.specs.Held.{records, orderIn, heldVerdict}
 use Rattle.entry.specs.Questions.{routeFits, mayFollow}
 use Rattle.entry.specs.Inner.Places.{place, placeOf, standsBehind}
 use Rattle.calls.specs.Questions.{entryQuestions}
@@ -97,16 +97,18 @@ abbrev pub saidBy : ℕ → Verdict
 saidBy zero = Solved
 saidBy (suc state) = None (record { 0 = state })
 
--- 10, 11, 1, 2, 12 by what has been gathered; `fits` answers 1
-abbrev pub gatheredQuestions : Gathered → Bool → ℕ → List Asked
-gatheredQuestions x fits route =
+-- 10, 11, 1, 2, 12, 17 by what has been gathered; `fits` answers 1, `inOrder` 17
+abbrev pub gatheredQuestions : Gathered → Bool → ℕ → Bool → List Asked
+gatheredQuestions x fits route inOrder =
     asks Records (ltb 0 (x .used))
     ∷ asks Kinds (x .kinds)
     ∷ asks Letters fits
     ∷ asks Route (routeFits route)
     ∷ asks Numbers (x .numbers)
+    ∷ asks Order inOrder
     ∷ []
 
--- what going over the entry gives: the first no of 10, 11, 1, 2 and 12, or 0, and what the entry says
+-- what going over the entry gives: the first no of 10, 11, 1, 2, 12 and 17, or 0, and what the entry says
 abbrev pub surveyOf : List Record → Survey
-surveyOf rs = record { refusal = firstNo (entryQuestions rs); heading = headingOf rs; verdict = said (heldVerdict rs) }
+surveyOf rs =
+    record { refusal = firstNo (entryQuestions rs); heading = headingOf rs; verdict = said (heldVerdict rs); order = orderIn rs }
