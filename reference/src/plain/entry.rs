@@ -172,7 +172,7 @@ fn examine(bytes: &[u8]) -> Result<Examined<'_>, Refusal> {
         let before = std::mem::replace(&mut kind, rest.first().copied().unwrap_or(0));
         match *rest {
             [2, low, high, ..] => {
-                ordered &= before == 2 || before == 1 || before == 6;
+                ordered &= before == 1 || before == 2;
                 let mask = u16::from_le_bytes([low, high]) as u64;
                 let place = place_of(0, mask);
                 fits &= mask < masks && place > last;
@@ -196,12 +196,14 @@ fn examine(bytes: &[u8]) -> Result<Examined<'_>, Refusal> {
                 length += 4;
             }
             [6, a, b, c, d, e, f, ..] => {
-                ordered &= before == 1;
+                ordered &= before == 1 && order.is_none();
                 order = Some(Order([a, b, c, d, e, f]));
+                // what may follow kind 1 may follow it, but for another kind 6
+                kind = 1;
                 length += 7;
             }
             [5, state, ..] => {
-                ordered &= before == 2 || before == 1 || before == 6;
+                ordered &= before == 1 || before == 2;
                 fits &= (state as u64) < states;
                 contents = Contents::None(State(state as u64));
                 length += 2;
