@@ -1,5 +1,6 @@
 -- The headlines on writing, reading and audit: what `write_entry` leaves in the output reads back, passes the audit and says what is right
--- of the condition, whatever stood behind it; and bytes that pass the audit are exactly those that the writer makes for their condition.
+-- of the condition, whatever stood behind it; and bytes that pass the audit are exactly those that the writer makes for their
+-- condition and order.
 -- Assumes nothing.
 use mathlib.Core.Path.{_≡_, refl, sym, ap, _∙_}
 use mathlib.Core.Bool.{true}
@@ -14,43 +15,45 @@ use Rattle.tables.specs.Questions.{firstNo}
 use Rattle.tables.specs.Answered.{Reply, accepted, reply, after, Answered, answered, call, firstBuffer}
 use Rattle.tables.proofs.Answered.{reply-accepted, call-gives, accepted-is, call-done-none}
 use Rattle.solution.specs.Condition.{Condition, width}
+use Rattle.solution.specs.Order.{orderBytes, lentCondition}
+use Rattle.solution.proofs.Order.{fits-each}
 use Rattle.solution.specs.Elimination.{none, solve}
 use Rattle.solution.specs.General.{RightVerdict}
 use Rattle.entry.specs.Record.{Record, AreBytes, bytes}
 use Rattle.entry.specs.Entry.{entry, Archivable}
-use Rattle.entry.specs.Held.{records, routeOf, unknownsOf, givensOf, conditionIn, says, heldCondition, heldVerdict}
+use Rattle.entry.specs.Held.{records, routeOf, unknownsOf, givensOf, orderIn, conditionIn, says, heldCondition, heldVerdict}
 use Rattle.entry.specs.Questions.{answersHold}
 use Rattle.entry.proofs.Passes.{Passes}
 use Rattle.entry.proofs.Theorems.{ReadsBack, reads-back, archived-order, audited-entry, entry-holds, entry-right}
-use Rattle.calls.specs.Questions.{lentCondition, writeQuestions, readQuestions, auditQuestions}
+use Rattle.calls.specs.Questions.{writeQuestions, readQuestions, auditQuestions}
 use Rattle.calls.specs.Entries.{writeCall, stateOf, answersOf, readValues, auditCall, BeginsWithEntry}
 use Rattle.calls.proofs.Questions.{written-exactly, writable-archivable, read-exactly, audit-exactly}
 
 -- ---- what was written
-module _ (route U G : ℕ) (condition out : List ℕ) (z : firstNo (writeQuestions route U G condition (length out)) ≡ 0) where
-  archivable : Archivable route (lentCondition U G condition)
-  archivable = writable-archivable route U G condition (length out) (written-exactly route U G condition (length out) .0 z)
+module _ (route U G : ℕ) (order condition out : List ℕ) (z : firstNo (writeQuestions route U G order condition (length out)) ≡ 0) where
+  archivable : Archivable route (lentCondition U G order condition)
+  archivable = writable-archivable route U G order condition (length out) (written-exactly route U G order condition (length out) .0 z)
 
   -- the output after the call
-  pub output-is : firstBuffer (writeCall route U G condition out)
-      ≡ entry route (lentCondition U G condition) ++ drop (length (entry route (lentCondition U G condition))) out
+  pub output-is : firstBuffer (writeCall route U G order condition out)
+      ≡ entry route (lentCondition U G order condition) ++ drop (length (entry route (lentCondition U G order condition))) out
   unfolding call after
   output-is = rw z
 
-  -- demand 2: the route, U, G, the condition, solved or 'none' and the state, the answers and the length come back
-  pub written-reads-back : ReadsBack route (lentCondition U G condition) (records (firstBuffer (writeCall route U G condition out)))
-  written-reads-back = rw output-is (reads-back route (lentCondition U G condition) _ archivable)
+  -- demand 2: the route, U, G, the order, the condition, solved or 'none' and the state, the answers and the length come back
+  pub written-reads-back : ReadsBack route (lentCondition U G order condition) (records (firstBuffer (writeCall route U G order condition out)))
+  written-reads-back = rw output-is (reads-back route (lentCondition U G order condition) _ archivable)
 
   -- it passes the audit
-  pub written-audited : firstNo (auditQuestions (records (firstBuffer (writeCall route U G condition out)))) ≡ 0
+  pub written-audited : firstNo (auditQuestions (records (firstBuffer (writeCall route U G order condition out)))) ≡ 0
   written-audited =
-      audit-exactly (records (firstBuffer (writeCall route U G condition out))) .1
-      (written-reads-back .passes, rw output-is (entry-holds route (lentCondition U G condition) _ archivable))
+      audit-exactly (records (firstBuffer (writeCall route U G order condition out))) .1
+      (written-reads-back .passes, rw output-is (entry-holds route (lentCondition U G order condition) _ archivable))
 
   -- demand 3: what its kind 3 and kind 5 records say of the condition is right
-  pub written-right : RightVerdict (lentCondition U G condition) (says (records (firstBuffer (writeCall route U G condition out))))
+  pub written-right : RightVerdict (lentCondition U G order condition) (says (records (firstBuffer (writeCall route U G order condition out))))
   written-right = rw output-is
-      (entry-right route (lentCondition U G condition) _ (archived-order route (lentCondition U G condition) archivable))
+      (entry-right route (lentCondition U G order condition) _ (archived-order route (lentCondition U G order condition) archivable))
 
 -- ---- reading bytes in which a written entry is found, as `reads-back` finds it whatever stands behind it
 module _ {route : ℕ} {c : Condition} (bs : List ℕ) (r : ReadsBack route c (records bs)) where
@@ -65,7 +68,10 @@ module _ {route : ℕ} {c : Condition} (bs : List ℕ) (r : ReadsBack route c (r
   unfolding readValues
   values-back = rw (r .of-route, r .of-unknowns, r .of-givens, r .used, r .verdict)
 
-  -- the condition and the answers are those that were written
+  -- the order, the condition and the answers are those that were written
+  pub order-back : orderIn (records bs) ≡ orderBytes (c .order)
+  order-back = r .of-order
+
   pub condition-back : heldCondition (records bs) .table ≡ c .table
   condition-back = ap (λ (x : Condition). x .table) (r .condition)
 
@@ -88,7 +94,7 @@ passed-archivable bs e =
     record {
       letters = p .letters;
       of-route = p .route;
-      plain = refl;
+      of-order = fits-each (unknownsOf (records bs)) (orderIn (records bs)) (p .order);
       of-table = is-table (unknownsOf (records bs) + givensOf (records bs)) (conditionIn (records bs));
     }
 

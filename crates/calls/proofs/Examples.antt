@@ -1,4 +1,5 @@
--- Walks over the volume of document 01's sample sheet, whole, from other places and damaged, by computation.
+-- Walks over the volume of document 01's sample sheet, whole, from other places and damaged, and over entries with an order, right and wrong, by
+-- computation.
 -- Assumes nothing.
 use mathlib.Core.Path.{_≡_, refl}
 use mathlib.Core.List.{List, [], _∷_, _++_}
@@ -6,18 +7,20 @@ use Prim.Native.Nat.{ℕ}
 use Rattle.ring.specs.Letters.{bit, point}
 use Rattle.ring.specs.Polynomial.{count, odd, within, value, constant, letter, sum, product, restrict, monomial, substitute, everyBelow}
 use Rattle.ring.specs.Table.{present, tabulate, table, answerTable}
-use Rattle.ring.specs.Lists.{listed, has}
+use Rattle.ring.specs.Lists.{listed, has, times}
 use Rattle.tables.specs.Questions.{firstNo, lettersFit}
 use Rattle.tables.specs.Answered.{Reply, accepted, refused}
 use Rattle.order.specs.Order.{letters, before}
 use Rattle.solution.specs.Condition.{defaultOrder}
+use Rattle.solution.specs.Order.{orderBytes, orderFits}
 use Rattle.solution.specs.Elimination.{nextCondition, remains, answerFrom, booleAnswers, smallestBelow, blocked, smallestBlocked, isZero}
 use Rattle.solution.specs.Elimination.{solvable, booleTable, solve}
-use Rattle.entry.specs.Record.{fields, widths, size, kind, fromLowFirst, bytes, among, valueIn, valueOf, bodyFits, inBounds}
+use Rattle.entry.specs.Record.{fields, widths, size, kind, fromLowFirst, bytes, among, valueIn, valueOf, bodyFits, sameBytes}
+use Rattle.entry.specs.Record.{isDefault, isNeeded, inBounds}
 use Rattle.entry.specs.Held.{next, untilEnd, firstRecords, records, hasMonomial, conditionIn, answersIn, unlessNone, heldCondition}
-use Rattle.entry.specs.Held.{heldVerdict}
+use Rattle.entry.specs.Held.{orderIn, heldVerdict}
 use Rattle.entry.specs.Questions.{routeFits, hasEnd, mayFollow, kindsFollow, kindsFit, allInBounds, standsBefore, inOrder, allInOrder}
-use Rattle.entry.specs.Questions.{numbersFit, sameBytes, answersHold}
+use Rattle.entry.specs.Questions.{numbersFit, answersHold}
 use Rattle.calls.specs.Questions.{entryQuestions, auditQuestions, routeRises, walkQuestions}
 use Rattle.calls.specs.Walk.{walkAtMost, walkBehind, walkReply}
 
@@ -35,6 +38,15 @@ noneEntry route state = 1 ∷ route ∷ 1 ∷ 1 ∷ 2 ∷ 2 ∷ 0 ∷ 5 ∷ stat
 -- the first with one monomial more in the answer for u
 abbrev pub moreEntry : ℕ → List ℕ
 moreEntry route = 1 ∷ route ∷ 2 ∷ 0 ∷ 2 ∷ 1 ∷ 0 ∷ 2 ∷ 2 ∷ 0 ∷ 3 ∷ 0 ∷ 1 ∷ 0 ∷ 3 ∷ 0 ∷ 2 ∷ 0 ∷ 3 ∷ 1 ∷ 2 ∷ 0 ∷ 4 ∷ route ∷ []
+
+-- `u*v` with some records between the start and its monomial, and the answers u = u and v = v + u*v of v first
+abbrev pub orderedEntry : List ℕ → List ℕ
+orderedEntry between =
+    1 ∷ 9 ∷ 2 ∷ 0 ∷ (between ++ (2 ∷ 3 ∷ 0 ∷ 3 ∷ 0 ∷ 1 ∷ 0 ∷ 3 ∷ 1 ∷ 2 ∷ 0 ∷ 3 ∷ 1 ∷ 3 ∷ 0 ∷ 4 ∷ 9 ∷ []))
+
+-- a kind 6 with these two in front
+abbrev pub orderOf : ℕ → ℕ → List ℕ
+orderOf x y = 6 ∷ x ∷ y ∷ 255 ∷ 255 ∷ 255 ∷ 255 ∷ []
 
 -- some bytes, a place in them, and what the walk from there answers
 pub record Row : Type 0 where
@@ -69,9 +81,21 @@ walks =
     ∷ record { volume = solvedEntry 8 ++ noneEntry 8 1; place = 0; answer = refused 15 (1 ∷ []) }
     ∷ record { volume = solvedEntry 8 ++ noneEntry 8 0; place = 0; answer = refused 13 (1 ∷ []) }
     ∷ record { volume = solvedEntry 8 ++ noneEntry 7 1; place = 20; answer = accepted (1 ∷ []) }
+    -- v first; the answers are not those of u first, without a kind 6, and a kind 6 must be left out for u first
+    ∷ record { volume = orderedEntry (orderOf 1 0); place = 0; answer = accepted (1 ∷ []) }
+    ∷ record { volume = orderedEntry []; place = 0; answer = refused 13 (0 ∷ []) }
+    ∷ record { volume = orderedEntry (orderOf 0 1); place = 0; answer = refused 12 (0 ∷ []) }
+    -- an unknown twice, 255 in the middle, a number that is no unknown's
+    ∷ record { volume = orderedEntry (orderOf 1 1); place = 0; answer = refused 17 (0 ∷ []) }
+    ∷ record { volume = orderedEntry (6 ∷ 1 ∷ 255 ∷ 0 ∷ 255 ∷ 255 ∷ 255 ∷ []); place = 0; answer = refused 17 (0 ∷ []) }
+    ∷ record { volume = orderedEntry (orderOf 1 2); place = 0; answer = refused 17 (0 ∷ []) }
+    -- twice, behind a monomial, cut short
+    ∷ record { volume = orderedEntry (orderOf 1 0 ++ orderOf 1 0); place = 0; answer = refused 11 (0 ∷ []) }
+    ∷ record { volume = orderedEntry (2 ∷ 0 ∷ 0 ∷ orderOf 1 0); place = 0; answer = refused 11 (0 ∷ []) }
+    ∷ record { volume = 1 ∷ 9 ∷ 2 ∷ 0 ∷ 6 ∷ 1 ∷ 0 ∷ 255 ∷ 255 ∷ 255 ∷ []; place = 0; answer = refused 10 (0 ∷ []) }
     ∷ []
 
 pub walks-hold : AllHold walks
-unfolding walkReply walkBehind walkAtMost walkQuestions routeRises firstNo lettersFit auditQuestions entryQuestions answersHold sameBytes numbersFit allInOrder inOrder standsBefore allInBounds inBounds bodyFits kindsFit kindsFollow mayFollow has hasEnd routeFits records firstRecords untilEnd next kind size fields widths valueOf valueIn fromLowFirst among bytes hasMonomial conditionIn answersIn unlessNone heldCondition heldVerdict letters before table tabulate answerTable present solve booleTable solvable isZero everyBelow remains nextCondition product restrict odd count bit defaultOrder listed booleAnswers answerFrom sum letter constant substitute monomial smallestBlocked smallestBelow blocked point value within
+unfolding times orderBytes orderFits orderIn isDefault isNeeded walkReply walkBehind walkAtMost walkQuestions routeRises firstNo lettersFit auditQuestions entryQuestions answersHold sameBytes numbersFit allInOrder inOrder standsBefore allInBounds inBounds bodyFits kindsFit kindsFollow mayFollow has hasEnd routeFits records firstRecords untilEnd next kind size fields widths valueOf valueIn fromLowFirst among bytes hasMonomial conditionIn answersIn unlessNone heldCondition heldVerdict letters before table tabulate answerTable present solve booleTable solvable isZero everyBelow remains nextCondition product restrict odd count bit defaultOrder listed booleAnswers answerFrom sum letter constant substitute monomial smallestBlocked smallestBelow blocked point value within
 walks-hold = refl also refl also refl also refl also refl also refl also refl also refl also refl also refl also refl also refl also refl
-    also refl also refl also end
+    also refl also refl also refl also refl also refl also refl also refl also refl also refl also refl also refl also end

@@ -11,14 +11,16 @@ use Rattle.tables.specs.declared.Question.the-variants.{Afresh, Rising}
 use Rattle.tables.specs.Questions.{asks, firstNo, lettersFit, hasRoom, holdsBits, writes, roomQuestions, bitQuestions, bufferQuestions}
 use Rattle.tables.proofs.Bits.{bits-are}
 use Rattle.tables.proofs.FirstNo.{EachYes, each-yes, none-no, asked-before, asked-behind, then-further}
-use Rattle.tables.proofs.Questions.{lent-table}
-use Rattle.solution.specs.Condition.{Condition, width, conditionOf}
+use Rattle.tables.proofs.Questions.{lent-table, unknowns-small}
+use Rattle.solution.specs.Condition.{Condition, width, ListsEach}
+use Rattle.solution.specs.Order.{orderBytes, orderFits, lentCondition}
+use Rattle.solution.proofs.Order.{fits-each, take-orderBytes, bytes-fit}
 use Rattle.entry.specs.Record.{Record}
 use Rattle.entry.specs.Held.{routeOf, unknownsOf, givensOf}
 use Rattle.entry.specs.Entry.{entry, Archivable}
 use Rattle.entry.specs.Questions.{routeFits, answersHold}
 use Rattle.calls.specs.Text.{Accepted}
-use Rattle.calls.specs.Questions.{lentCondition, textQuestions, outputFits, writeQuestions, entryQuestions, readQuestions}
+use Rattle.calls.specs.Questions.{textQuestions, outputFits, writeQuestions, entryQuestions, readQuestions}
 use Rattle.calls.specs.Questions.{auditQuestions, routeRises, walkQuestions}
 use Rattle.entry.proofs.Passes.{Passes}
 
@@ -37,71 +39,75 @@ module _ (U G : ℕ) (text : List ℕ) (room : ℕ) where
   done-exactly = (λ z. text-yes (each-yes (textQuestions U G text room) z), λ a. none-no (textQuestions U G text room) (yes-text a))
 
 -- ---- writing: what its questions ask
-pub record Writable (route U G : ℕ) (condition : List ℕ) (room : ℕ) : Type 0 where
+pub record Writable (route U G : ℕ) (order condition : List ℕ) (room : ℕ) : Type 0 where
   pub letters : lettersFit U G ≡ true
   pub of-route : routeFits route ≡ true
+  pub of-order : orderFits U order ≡ true
   pub long : hasRoom (2 ^ (U + G)) (length condition) ≡ true
   pub bits : holdsBits (2 ^ (U + G)) condition ≡ true
-  pub output : length (entry route (lentCondition U G condition)) ≤ room
+  pub output : length (entry route (lentCondition U G order condition)) ≤ room
 
-module _ (route U G : ℕ) (condition : List ℕ) (room : ℕ) where
-  write-yes : EachYes (writeQuestions route U G condition room) → Writable route U G condition room
+module _ (route U G : ℕ) (order condition : List ℕ) (room : ℕ) where
+  write-yes : EachYes (writeQuestions route U G order condition room) → Writable route U G order condition room
   unfolding writeQuestions bufferQuestions roomQuestions bitQuestions outputFits
-  write-yes (letters, (fits, (long, (bits, (output, _))))) =
-      record { letters = letters; of-route = fits; long = long; bits = bits; output = leb-true _ _ output }
+  write-yes (letters, (fits, (ordered, (long, (bits, (output, _)))))) =
+      record { letters = letters; of-route = fits; of-order = ordered; long = long; bits = bits; output = leb-true _ _ output }
 
-  yes-write : Writable route U G condition room → EachYes (writeQuestions route U G condition room)
+  yes-write : Writable route U G order condition room → EachYes (writeQuestions route U G order condition room)
   unfolding writeQuestions bufferQuestions roomQuestions bitQuestions outputFits
-  yes-write w = (w .letters, (w .of-route, (w .long, (w .bits, (le-leb _ _ (w .output), tt)))))
+  yes-write w = (w .letters, (w .of-route, (w .of-order, (w .long, (w .bits, (le-leb _ _ (w .output), tt))))))
 
-  pub written-exactly : (firstNo (writeQuestions route U G condition room) ≡ 0) ↔ Writable route U G condition room
+  pub written-exactly : (firstNo (writeQuestions route U G order condition room) ≡ 0) ↔ Writable route U G order condition room
   written-exactly = (
-    λ z. write-yes (each-yes (writeQuestions route U G condition room) z),
-    λ w. none-no (writeQuestions route U G condition room) (yes-write w),
+    λ z. write-yes (each-yes (writeQuestions route U G order condition room) z),
+    λ w. none-no (writeQuestions route U G order condition room) (yes-write w),
   )
 
   -- what can be written has an entry
-  pub writable-archivable : Writable route U G condition room → Archivable route (lentCondition U G condition)
+  pub writable-archivable : Writable route U G order condition room → Archivable route (lentCondition U G order condition)
   writable-archivable w =
       record {
         letters = w .letters;
         of-route = w .of-route;
-        plain = refl;
+        of-order = fits-each U order (w .of-order);
         of-table = lent-table (U + G) _ condition refl (w .long) (w .bits);
       }
 
--- a buffer with the table of c at its front holds c
-pub lent-is : (c : Condition) (condition : List ℕ) → c ≡ conditionOf (c .U) (c .G) (c .table) → take (2 ^ width c) condition ≡ c .table
-    → lentCondition (c .U) (c .G) condition ≡ c
-lent-is c condition plain front = ap (conditionOf (c .U) (c .G)) front ∙ sym plain
+-- the bytes of the order of c, and a buffer with the table of c at its front, hold c
+pub lent-is : (c : Condition) (condition : List ℕ) → c .U ≤ 6 → ListsEach (c .U) (c .order) → take (2 ^ width c) condition ≡ c .table
+    → lentCondition (c .U) (c .G) (orderBytes (c .order)) condition ≡ c
+lent-is c condition few each front = rw (take-orderBytes (c .U) (c .order) few each, front)
 
 -- .. and c is written if the output has room for its entry
 pub written-if-room : (route : ℕ) (c : Condition) (condition : List ℕ) (room : ℕ) → Archivable route c
     → take (2 ^ width c) condition ≡ c .table
-    → 2 ^ width c ≤ length condition → length (entry route c) ≤ room → firstNo (writeQuestions route (c .U) (c .G) condition room) ≡ 0
+    → 2 ^ width c ≤ length condition → length (entry route c) ≤ room
+    → firstNo (writeQuestions route (c .U) (c .G) (orderBytes (c .order)) condition room) ≡ 0
 unfolding holdsBits hasRoom
 written-if-room route c condition room a front long fits =
-    written-exactly route (c .U) (c .G) condition room .1
+    let few : c .U ≤ 6 = unknowns-small (c .U) (c .G) (a .letters) in
+    written-exactly route (c .U) (c .G) (orderBytes (c .order)) condition room .1
     (record {
       letters = a .letters;
       of-route = a .of-route;
+      of-order = bytes-fit (c .U) (c .order) few (a .of-order);
       long = le-leb _ _ long;
       bits = rw front (bits-are (c .table) (a .of-table .bits));
-      output = rw (lent-is c condition (a .plain) front) fits;
+      output = rw (lent-is c condition few (a .of-order) front) fits;
     })
 
 -- ---- reading, audit and walk
 module _ (rs : List Record) where
   entry-yes : EachYes (entryQuestions rs) → Passes rs
   unfolding entryQuestions
-  entry-yes (whole, (kinds, (letters, (fits, (numbers, _))))) =
-      record { whole = whole; kinds = kinds; letters = letters; route = fits; numbers = numbers }
+  entry-yes (whole, (kinds, (letters, (fits, (numbers, (ordered, _)))))) =
+      record { whole = whole; kinds = kinds; letters = letters; route = fits; numbers = numbers; order = ordered }
 
   yes-entry : Passes rs → EachYes (entryQuestions rs)
   unfolding entryQuestions
-  yes-entry p = (p .whole, (p .kinds, (p .letters, (p .route, (p .numbers, tt)))))
+  yes-entry p = (p .whole, (p .kinds, (p .letters, (p .route, (p .numbers, (p .order, tt))))))
 
-  -- 10, 11, 1, 2 and 12
+  -- 10, 11, 1, 2, 12 and 17
   pub passes-exactly : (firstNo (entryQuestions rs) ≡ 0) ↔ Passes rs
   passes-exactly = (λ z. entry-yes (each-yes (entryQuestions rs) z), λ p. none-no (entryQuestions rs) (yes-entry p))
 

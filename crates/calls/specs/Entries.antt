@@ -6,9 +6,10 @@ use Prim.Native.Nat.{ℕ}
 use lib.ListN.{length}
 use Rattle.tables.specs.Answered.{Reply, accepted, refused, Answered, call, _into_}
 use Rattle.solution.specs.Condition.{Condition}
+use Rattle.solution.specs.Order.{lentCondition}
 use Rattle.solution.specs.Elimination.{solved, none, solve, Verdict as Said}
 use Rattle.entry.specs.Record.{Record, bytes}
-use Rattle.entry.specs.Held.{records, routeOf, unknownsOf, givensOf, heldCondition, heldVerdict}
+use Rattle.entry.specs.Held.{records, routeOf, unknownsOf, givensOf, orderIn, heldCondition, heldVerdict}
 use Rattle.entry.specs.Entry.{entry, Archivable}
 use Rattle.calls.specs.declared.Verdict.{Verdict}
 use Rattle.calls.specs.declared.Verdict.the-variants.{Solved, None}
@@ -16,17 +17,17 @@ use Rattle.calls.specs.declared.Written.{Written}
 use Rattle.calls.specs.declared.Written.the-variants as written-variants
 use Rattle.calls.specs.declared.Read.{Read}
 use Rattle.calls.specs.declared.Read.the-variants.{Entry, Refused}
-use Rattle.calls.specs.Questions.{lentCondition, writeQuestions, readQuestions, auditQuestions}
+use Rattle.calls.specs.Questions.{writeQuestions, readQuestions, auditQuestions}
 
 -- ---- writing: 'the writer is lent the condition table and the output only, solves the condition itself and gives the entry's length'
 -- the entry of a lent condition
-abbrev pub lentEntry : ℕ → ℕ → ℕ → List ℕ → List ℕ
-lentEntry route U G condition = entry route (lentCondition U G condition)
+abbrev pub lentEntry : ℕ → ℕ → ℕ → List ℕ → List ℕ → List ℕ
+lentEntry route U G order condition = entry route (lentCondition U G order condition)
 
-abbrev pub writeCall : ℕ → ℕ → ℕ → List ℕ → List ℕ → Answered Reply
-writeCall route U G condition out =
-    call (writeQuestions route U G condition (length out)) (length (lentEntry route U G condition) ∷ [])
-    (lentEntry route U G condition into out ∷ [])
+abbrev pub writeCall : ℕ → ℕ → ℕ → List ℕ → List ℕ → List ℕ → Answered Reply
+writeCall route U G order condition out =
+    call (writeQuestions route U G order condition (length out)) (length (lentEntry route U G order condition) ∷ [])
+    (lentEntry route U G order condition into out ∷ [])
 
 -- this paper's number and values for each case of `Written`: the entry's length
 abbrev pub written : Written → Reply
@@ -34,7 +35,8 @@ written (written-variants.Done size) = accepted (size ∷ [])
 written (written-variants.Refused number) = refused number []
 
 -- ---- reading: it 'stops after kind 4 and gives the route, U, G, whether the entry is solved or 'none' and in which state, and the length used;
--- it fills the condition table and, if solved, the answer tables; a 'none' entry leaves the answer buffer untouched'
+-- it fills the condition table and, if solved, the answer tables; a 'none' entry leaves the answer buffer untouched'. 'Reading gives' the order,
+-- into six bytes that are lent for it
 -- the state of a verdict that says 'none'
 abbrev pub stateOf : {A : Type 0} → Said A → List ℕ
 stateOf (solved a) = []
@@ -49,10 +51,13 @@ answersOf (none state) = []
 unfoldable pub readValues : List Record → List ℕ
 readValues rs = routeOf rs ∷ unknownsOf rs ∷ givensOf rs ∷ length (bytes rs) ∷ stateOf (heldVerdict rs)
 
-abbrev pub readCall : List ℕ → List ℕ → List ℕ → Answered Reply
-readCall bs condition answers =
+abbrev pub readCall : List ℕ → List ℕ → List ℕ → List ℕ → Answered Reply
+readCall bs order condition answers =
     call (readQuestions (records bs) (length condition) (length answers)) (readValues (records bs))
-    (heldCondition (records bs) .table into condition ∷ answersOf (heldVerdict (records bs)) into answers ∷ [])
+    (orderIn (records bs) into order
+    ∷ heldCondition (records bs) .table into condition
+    ∷ answersOf (heldVerdict (records bs)) into answers
+    ∷ [])
 
 -- the state, if the entry says 'none'
 abbrev pub stateSaid : Verdict → List ℕ

@@ -1,4 +1,5 @@
--- The questions that each call puts, in their order (document 01, 'The questions, and the number if the answer is no'): 'The first no counts'.
+-- The questions that each call puts, in their order (document 01, 'The questions, and the number if the answer is no'; document 02, C-11): 'The
+-- first no counts'.
 -- U unknowns and G givens, n = U + G; a table has 2 ^ n bytes, an answer or handed buffer U of them. A buffer that is only written comes as its
 -- number of bytes.
 -- Assumes nothing.
@@ -6,18 +7,19 @@ use mathlib.Core.Bool.{Bool, _&&_, _||_}
 use mathlib.Core.List.{List, [], _∷_, _++_}
 use Prim.Native.Nat.{ℕ, _+_, _*_, _^_}
 use lib.Dec.{eqb, leb, ltb}
-use lib.ListN.{length, take}
+use lib.ListN.{length}
 use Rattle.ring.specs.declared.State.{State}
 use Rattle.ring.specs.declared.Choice.{Choice}
 use Rattle.tables.specs.declared.Question.the-variants.{Letters, Route, TextLength, Signs, Declared, Grammar, Solution, Records, Kinds}
-use Rattle.tables.specs.declared.Question.the-variants.{Numbers, Afresh, Output, Rising, Range}
+use Rattle.tables.specs.declared.Question.the-variants.{Numbers, Afresh, Output, Rising, Range, Order}
 use Rattle.tables.specs.Questions.{Asked, asks, asksGiving, lettersFit, reads, writes, bufferQuestions, inRange}
 use Rattle.grammar.specs.Symbols.{allSigns, allDeclared}
 use Rattle.grammar.specs.Reader.{grammarReads}
-use Rattle.solution.specs.Condition.{Condition, width, polynomial, conditionOf}
+use Rattle.solution.specs.Condition.{Condition, width, polynomial}
+use Rattle.solution.specs.Order.{orderFits, lentCondition}
 use Rattle.solution.specs.Elimination.{solvable, smallestBlocked}
 use Rattle.entry.specs.Record.{Record}
-use Rattle.entry.specs.Held.{routeOf, unknownsOf, givensOf}
+use Rattle.entry.specs.Held.{routeOf, unknownsOf, givensOf, orderIn}
 use Rattle.entry.specs.Entry.{entry}
 use Rattle.entry.specs.Questions.{routeFits, hasEnd, kindsFit, numbersFit, answersHold}
 
@@ -52,21 +54,18 @@ textQuestions U G text room =
     ∷ (bufferQuestions (writes (2 ^ (U + G)) room ∷ [])
     ++ (asks Signs (allSigns text) ∷ asks Declared (allDeclared U G text) ∷ asks Grammar (grammarReads text) ∷ []))
 
--- the condition in a lent buffer, read as far as question 4's length
-abbrev pub lentCondition : ℕ → ℕ → List ℕ → Condition
-lentCondition U G buffer = conditionOf U G (take (2 ^ (U + G)) buffer)
-
 -- '9. Has the condition a solution? (a no also gives the state)': the smallest in which every choice gives the condition the value 1
 abbrev pub asksSolution : Condition → Asked
 asksSolution c =
     asksGiving Solution (solvable (width c) (polynomial c) (c .order)) (smallestBlocked (c .U) (c .G) (polynomial c) .0 ∷ [])
 
--- 'Boole, particular solution, own Löwenheim: 1, 4, 8, 9'
-unfoldable pub solvingQuestions : ℕ → ℕ → List ℕ → ℕ → List Asked
-solvingQuestions U G condition room =
+-- 'Boole, particular solution, own Löwenheim: 1, 4, 8, 9', and '17 .. after 2, else 1'
+unfoldable pub solvingQuestions : ℕ → ℕ → List ℕ → List ℕ → ℕ → List Asked
+solvingQuestions U G order condition room =
     asks Letters (lettersFit U G)
+    ∷ asks Order (orderFits U order)
     ∷ (bufferQuestions (reads (2 ^ (U + G)) condition ∷ writes (U * 2 ^ (U + G)) room ∷ [])
-    ++ (asksSolution (lentCondition U G condition) ∷ []))
+    ++ (asksSolution (lentCondition U G order condition) ∷ []))
 
 -- 'Handed Löwenheim: 1, 4, 8, the result going to an answer buffer of its own'
 unfoldable pub handedQuestions : ℕ → ℕ → List ℕ → List ℕ → ℕ → List Asked
@@ -78,15 +77,16 @@ handedQuestions U G condition handed room =
 unfoldable pub outputFits : List ℕ → ℕ → Bool
 outputFits made room = leb (length made) room
 
--- 'Writing: 1, 2, 4, 8, 14'
-unfoldable pub writeQuestions : ℕ → ℕ → ℕ → List ℕ → ℕ → List Asked
-writeQuestions route U G condition room =
+-- 'Writing: 1, 2, 4, 8, 14', and '17 .. after 2'
+unfoldable pub writeQuestions : ℕ → ℕ → ℕ → List ℕ → List ℕ → ℕ → List Asked
+writeQuestions route U G order condition room =
     asks Letters (lettersFit U G)
     ∷ asks Route (routeFits route)
+    ∷ asks Order (orderFits U order)
     ∷ (bufferQuestions (reads (2 ^ (U + G)) condition ∷ [])
-    ++ (asks Output (outputFits (entry route (lentCondition U G condition)) room) ∷ []))
+    ++ (asks Output (outputFits (entry route (lentCondition U G order condition)) room) ∷ []))
 
--- 10, 11, 1, 2, 12: what reading and audit put to the records of an entry
+-- 10, 11, 1, 2, 12, 17: what reading and audit put to the records of an entry; 17 comes 'after all of 12 when reading'
 unfoldable pub entryQuestions : List Record → List Asked
 entryQuestions rs =
     asks Records (hasEnd rs)
@@ -94,16 +94,17 @@ entryQuestions rs =
     ∷ asks Letters (lettersFit (unknownsOf rs) (givensOf rs))
     ∷ asks Route (routeFits (routeOf rs))
     ∷ asks Numbers (numbersFit rs)
+    ∷ asks Order (orderFits (unknownsOf rs) (orderIn rs))
     ∷ []
 
--- 'Reading: 10, 11, 1, 2, 12, 4'
+-- 'Reading: 10, 11, 1, 2, 12, 4', 17 before 4
 unfoldable pub readQuestions : List Record → ℕ → ℕ → List Asked
 readQuestions rs room answerRoom =
     entryQuestions rs
     ++ bufferQuestions
     (writes (2 ^ (unknownsOf rs + givensOf rs)) room ∷ writes (unknownsOf rs * 2 ^ (unknownsOf rs + givensOf rs)) answerRoom ∷ [])
 
--- 'Audit: 10, 11, 1, 2, 12, 13'
+-- 'Audit: 10, 11, 1, 2, 12, 13', 17 before 13
 unfoldable pub auditQuestions : List Record → List Asked
 auditQuestions rs = entryQuestions rs ++ (asks Afresh (answersHold rs) ∷ [])
 

@@ -6,11 +6,12 @@ use lib.ListN.{length}
 use Rattle.ring.specs.Table.{present, held, answerTable}
 use Rattle.tables.specs.Answered.{Reply, accepted, refused, Answered, call, _into_}
 use Rattle.solution.specs.Condition.{Condition}
+use Rattle.solution.specs.Order.{lentCondition}
 use Rattle.solution.specs.Elimination.{lowenheim, booleTable, particularTable, lowenheimTable}
 use Rattle.calls.specs.declared.Verdict.the-variants.{Solved, None}
 use Rattle.calls.specs.declared.Solving.{Solving}
 use Rattle.calls.specs.declared.Solving.the-variants.{Said, Refused}
-use Rattle.calls.specs.Questions.{lentCondition, solvingQuestions, handedQuestions}
+use Rattle.calls.specs.Questions.{solvingQuestions, handedQuestions}
 
 -- this paper's number and values for each case of `Solving`: question 9 'also gives the state'
 abbrev pub solving : Solving → Reply
@@ -19,18 +20,18 @@ solving (Said (None state)) = refused 9 (state .0 ∷ [])
 solving (Refused number) = refused number []
 
 -- a call that solves a condition and fills the answer buffer with one of its answer tables
-abbrev pub solvingCall : (Condition → List ℕ) → ℕ → ℕ → List ℕ → List ℕ → Answered Reply
-solvingCall answerTables U G condition answers =
-    call (solvingQuestions U G condition (length answers)) [] (answerTables (lentCondition U G condition) into answers ∷ [])
+abbrev pub solvingCall : (Condition → List ℕ) → ℕ → ℕ → List ℕ → List ℕ → List ℕ → Answered Reply
+solvingCall answerTables U G order condition answers =
+    call (solvingQuestions U G order condition (length answers)) [] (answerTables (lentCondition U G order condition) into answers ∷ [])
 
 -- Boole's answers, the particular solution, and the engine's own Löwenheim answers
-abbrev pub booleCall : ℕ → ℕ → List ℕ → List ℕ → Answered Reply
+abbrev pub booleCall : ℕ → ℕ → List ℕ → List ℕ → List ℕ → Answered Reply
 booleCall = solvingCall booleTable
 
-abbrev pub particularCall : ℕ → ℕ → List ℕ → List ℕ → Answered Reply
+abbrev pub particularCall : ℕ → ℕ → List ℕ → List ℕ → List ℕ → Answered Reply
 particularCall = solvingCall particularTable
 
-abbrev pub lowenheimCall : ℕ → ℕ → List ℕ → List ℕ → Answered Reply
+abbrev pub lowenheimCall : ℕ → ℕ → List ℕ → List ℕ → List ℕ → Answered Reply
 lowenheimCall = solvingCall lowenheimTable
 
 -- x + f*(x + b of x) for each unknown x, 'without a test that they solve f'

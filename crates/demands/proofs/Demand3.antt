@@ -1,5 +1,5 @@
--- THE THEOREM: demand 3 holds of the bytes that are archived for every condition that has an entry, every route and every list of letters, and
--- so for every accepted text. The bytes are `entry route c`; that the calls hand these over is `over-the-calls`.
+-- THE THEOREM: demand 3 holds of the bytes that are archived for every condition that has an entry, with any order of its unknowns, every route
+-- and every list of letters, and so for every accepted text. The bytes are `entry route c`; that the calls hand these over is `over-the-calls`.
 -- What the entry's records say is right (`entry-right`), and a written entry reads back (`reads-back`); both are put into the demand's own words here.
 -- Assumes nothing.
 use mathlib.Core.Path.{_≡_, refl, sym, ap, _∙_}
@@ -9,13 +9,16 @@ use mathlib.Core.List.{List, [], _∷_, _++_}
 use Prim.Native.Nat.{ℕ, _+_, _<_}
 use native.Mathlib.Omega.{arith}
 use lib.Dec.{ltb}
+use lib.ListN.{take}
 use borrow.Author.Tests.{ltb-true}
 use Rattle.ring.specs.declared.State.{State}
 use Rattle.ring.specs.Polynomial.{Polynomial, value}
 use Rattle.ring.proofs.Points.{pointWhere-cong}
 use Rattle.solution.specs.Letters.{Letter, HoldsGivens, Valuation, valueOver}
 use Rattle.solution.specs.Substitution.{Substitution, letterAt, ownLetters, MakesZero}
-use Rattle.solution.specs.Condition.{Condition, polynomial, conditionOf}
+use Rattle.solution.specs.Condition.{Condition, polynomial, ordered}
+use Rattle.solution.specs.Order.{orderFits}
+use Rattle.solution.proofs.Order.{fits-each}
 use Rattle.solution.specs.Elimination.{solved, none, solve}
 use Rattle.solution.specs.General.{Solves, RightVerdict}
 use Rattle.solution.proofs.Letters.{replacedValue, value-putIn, own-holds}
@@ -30,7 +33,7 @@ use Rattle.calls.proofs.Text.{text-is-table}
 use Rattle.demands.specs.Demand3.{hasNone, Demand3}
 
 -- records with kind 5 say 'none' and its state, those without it hold answers
-says-none : {A : Type 0} (a : A) (rs : List Record) → hasNone rs ≡ true → (state : State) × (unlessNone a rs ≡ none state)
+pub says-none : {A : Type 0} (a : A) (rs : List Record) → hasNone rs ≡ true → (state : State) × (unlessNone a rs ≡ none state)
 unfolding hasNone unlessNone
 says-none a [] h = let z : _≡_ {A = ℕ} 0 1 = cc in absurd (omega arith)
 says-none a (r ∷ rs) h = go (isNone r) (says-none a rs) h
@@ -40,7 +43,7 @@ says-none a (r ∷ rs) h = go (isNone r) (says-none a rs) h
     go true ih e = (record { 0 = valueOf stateField r }, refl)
     go false ih e = ih e
 
-says-solved : {A : Type 0} (a : A) (rs : List Record) → hasNone rs ≡ false → unlessNone a rs ≡ solved a
+pub says-solved : {A : Type 0} (a : A) (rs : List Record) → hasNone rs ≡ false → unlessNone a rs ≡ solved a
 unfolding hasNone unlessNone
 says-solved a [] h = refl
 says-solved a (r ∷ rs) h = go (isNone r) (says-solved a rs) h
@@ -106,9 +109,9 @@ demand-3 route c behind fits =
     let back : ReadsBack route c (records (entry route c ++ behind)) = reads-back route c behind fits in
     right-demand c (entry route c ++ behind) (entry-right route c behind (archived-order route c fits)) (back .condition) (back .verdict)
 
--- .. and so of every accepted text: 'the condition is the table that it is read into'
-pub demand-3-of-text : (U G route : ℕ) (text behind : List ℕ) → Accepted U G text → routeFits route ≡ true
-    → Demand3 (conditionOf U G (textTable U G text)) (entry route (conditionOf U G (textTable U G text)) ++ behind)
-demand-3-of-text U G route text behind accepted fits =
-    demand-3 route (conditionOf U G (textTable U G text)) behind
-    (record { letters = accepted .letters; of-route = fits; plain = refl; of-table = text-is-table U G text })
+-- .. and so of every accepted text and every order that passes question 17: 'the condition is the table that it is read into'
+pub demand-3-of-text : (U G route : ℕ) (text order behind : List ℕ) → Accepted U G text → routeFits route ≡ true → orderFits U order ≡ true
+    → Demand3 (ordered U G (take U order) (textTable U G text)) (entry route (ordered U G (take U order) (textTable U G text)) ++ behind)
+demand-3-of-text U G route text order behind accepted fits order-fits =
+    demand-3 route (ordered U G (take U order) (textTable U G text)) behind
+    (record { letters = accepted .letters; of-route = fits; of-order = fits-each U order order-fits; of-table = text-is-table U G text })

@@ -27,12 +27,13 @@ use Rattle.solution.specs.Elimination.{none, solvable, blocked, smallestBlocked
 use Rattle.solution.specs.General.{Blocked}
 use Rattle.solution.specs.Substitution.{ownLetters}
 use Rattle.solution.proofs.Letters.{own-holds}
-use Rattle.solution.proofs.Orders.{default-order}
+use Rattle.solution.proofs.Order.{default-order}
 use Rattle.solution.proofs.Smallest.{first-found}
 use Rattle.solution.proofs.Blocked.{no-true, blocked-none, is-blocked}
 use Rattle.solution.proofs.Theorems.{solvable-exactly}
 use Rattle.entry.specs.Record.{startRecord, conditionRecord, endRecord, noneRecord, bytes}
 use Rattle.entry.specs.Entry.{conditionRecords, verdictRecords, entryRecords, entry}
+use Rattle.entry.proofs.OrderRecord.{default-left-out}
 
 -- the table of the i-th given among U unknowns and G givens
 abbrev pub oneGiven : ℕ → ℕ → ℕ → List ℕ
@@ -86,4 +87,4 @@ module _ (U G i : ℕ) (h : i < G) where
   pub given-entry : (route : ℕ) → entry route (conditionOf U G (oneGiven U G i))
       ≡ bytes (startRecord route U G ∷ conditionRecord (2 ^ (U + i)) ∷ noneRecord (2 ^ i) ∷ endRecord route ∷ [])
   unfolding entry entryRecords conditionRecords verdictRecords
-  given-entry route = rw (verdict-given, monomials-given)
+  given-entry route = rw (default-left-out U G (oneGiven U G i), verdict-given, monomials-given)

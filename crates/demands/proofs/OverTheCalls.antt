@@ -12,74 +12,81 @@ use Rattle.tables.specs.Questions.{firstNo}
 use Rattle.tables.specs.Answered.{Reply, accepted, after, Answered, answered, call, _into_}
 use Rattle.tables.proofs.Answered.{reply-accepted}
 use Rattle.grammar.specs.Text.{textTable}
-use Rattle.solution.specs.Condition.{Condition, width, conditionOf}
+use Rattle.solution.specs.Condition.{Condition, width, ordered}
+use Rattle.solution.specs.Order.{orderBytes, orderFits, lentCondition}
+use Rattle.solution.proofs.Order.{length-orderBytes, fits-each, fits-bytes}
 use Rattle.solution.specs.Elimination.{solve}
 use Rattle.solution.specs.General.{RightVerdict}
 use Rattle.entry.specs.Entry.{entry, Archivable}
 use Rattle.entry.specs.Held.{records, says}
 use Rattle.entry.specs.Questions.{routeFits}
 use Rattle.entry.proofs.Theorems.{ReadsBack}
-use Rattle.calls.specs.Questions.{lentCondition, textQuestions, writeQuestions, readQuestions}
+use Rattle.calls.specs.Questions.{textQuestions, writeQuestions, readQuestions}
 use Rattle.calls.specs.Entries.{writeCall, readCall, readValues, stateOf, answersOf}
 use Rattle.calls.proofs.Text.{text-is-table}
-use Rattle.calls.proofs.Questions.{done-exactly, lent-is}
+use Rattle.calls.proofs.Questions.{done-exactly}
 use Rattle.calls.proofs.Questions as asked
-use Rattle.calls.proofs.Entries.{written-reads-back, written-right, only-room, values-back, condition-back, answers-back}
+use Rattle.calls.proofs.Entries.{written-reads-back, written-right, only-room, values-back, order-back, condition-back}
+use Rattle.calls.proofs.Entries.{answers-back}
 use Rattle.demands.specs.OverTheCalls.{textRead, entryWritten, GivesBack, OverTheCalls}
 use Rattle.demands.proofs.Demand3.{right-demand}
 
--- what a call does that is not refused, with one buffer and with two
+-- what a call does that is not refused, with one buffer and with three
 done-one : (questions : _) (values answer lent : List ℕ) → firstNo questions ≡ 0
     → call questions values (answer into lent ∷ []) ≡ answered (accepted values) ((answer ++ drop (length answer) lent) ∷ [])
 unfolding call after
 done-one questions values answer lent z = rw (z, ← reply-accepted questions values z)
 
-done-two : (questions : _) (values answer lent answer₂ lent₂ : List ℕ) → firstNo questions ≡ 0
-    → call questions values (answer into lent ∷ answer₂ into lent₂ ∷ [])
-    ≡ answered (accepted values) ((answer ++ drop (length answer) lent) ∷ (answer₂ ++ drop (length answer₂) lent₂) ∷ [])
+done-three : (questions : _) (values answer lent answer₂ lent₂ answer₃ lent₃ : List ℕ) → firstNo questions ≡ 0
+    → call questions values (answer into lent ∷ answer₂ into lent₂ ∷ answer₃ into lent₃ ∷ [])
+    ≡ answered (accepted values)
+    ((answer ++ drop (length answer) lent) ∷ (answer₂ ++ drop (length answer₂) lent₂) ∷ (answer₃ ++ drop (length answer₃) lent₃) ∷ [])
 unfolding call after
-done-two questions values answer lent answer₂ lent₂ z = rw (z, ← reply-accepted questions values z)
+done-three questions values answer lent answer₂ lent₂ answer₃ lent₃ z = rw (z, ← reply-accepted questions values z)
 
 -- an entry that reads back does so through `read_entry`
-module _ (route : ℕ) (c : Condition) (e condition answers : List ℕ) (back : ReadsBack route c (records e))
+module _ (route : ℕ) (c : Condition) (e order condition answers : List ℕ) (back : ReadsBack route c (records e))
     (z : firstNo (readQuestions (records e) (length condition) (length answers)) ≡ 0) where
-  given-back : readCall e condition answers
+  given-back : readCall e order condition answers
       ≡ answered (accepted (route ∷ c .U ∷ c .G ∷ length (entry route c) ∷ stateOf (solve c)))
-      ((c .table ++ drop (length (c .table)) condition) ∷ (answersOf (solve c) ++ drop (length (answersOf (solve c))) answers) ∷ [])
+      ((orderBytes (c .order) ++ drop 6 order)
+      ∷ (c .table ++ drop (length (c .table)) condition)
+      ∷ (answersOf (solve c) ++ drop (length (answersOf (solve c))) answers)
+      ∷ [])
   given-back =
-      done-two (readQuestions (records e) (length condition) (length answers)) _ _ condition _ answers z
-      ∙ rw (values-back e back, condition-back e back, answers-back e back)
+      done-three (readQuestions (records e) (length condition) (length answers)) _ _ order _ condition _ answers z
+      ∙ rw (values-back e back, order-back e back, condition-back e back, answers-back e back, length-orderBytes (c .order))
 
-  pub read : GivesBack route c e condition answers
+  pub read : GivesBack route c e order condition answers
   read = record { same-answers = λ tables s. given-back ∙ rw s; same-state = λ state s. given-back ∙ rw s }
 
 -- what holds of a condition holds of one that is the same
 carry : (P : Condition → Type 0) {x y : Condition} → x ≡ y → P x → P y
 carry P e p = rw e at p
 
--- a condition buffer with the table of c at its front is archived as c
-module _ (route : ℕ) (c : Condition) (condition out : List ℕ) (holds : lentCondition (c .U) (c .G) condition ≡ c)
-    (z : firstNo (writeQuestions route (c .U) (c .G) condition (length out)) ≡ 0) where
-  back : ReadsBack route c (records (entryWritten route (c .U) (c .G) condition out))
+-- an order and a condition buffer that hold c are archived as c
+module _ (route : ℕ) (c : Condition) (order condition out : List ℕ) (holds : lentCondition (c .U) (c .G) order condition ≡ c)
+    (z : firstNo (writeQuestions route (c .U) (c .G) order condition (length out)) ≡ 0) where
+  back : ReadsBack route c (records (entryWritten route (c .U) (c .G) order condition out))
   back =
-      carry (λ x. ReadsBack route x (records (entryWritten route (c .U) (c .G) condition out))) holds
-      (written-reads-back route (c .U) (c .G) condition out z)
+      carry (λ x. ReadsBack route x (records (entryWritten route (c .U) (c .G) order condition out))) holds
+      (written-reads-back route (c .U) (c .G) order condition out z)
 
-  right : RightVerdict c (says (records (entryWritten route (c .U) (c .G) condition out)))
+  right : RightVerdict c (says (records (entryWritten route (c .U) (c .G) order condition out)))
   right =
-      carry (λ x. RightVerdict x (says (records (entryWritten route (c .U) (c .G) condition out)))) holds
-      (written-right route (c .U) (c .G) condition out z)
+      carry (λ x. RightVerdict x (says (records (entryWritten route (c .U) (c .G) order condition out)))) holds
+      (written-right route (c .U) (c .G) order condition out z)
 
-  pub archives : OverTheCalls route c condition out
+  pub archives : OverTheCalls route c order condition out
   archives =
       record {
         demand = right-demand c _ right (back .condition) (back .verdict);
         entry-written =
-            done-one (writeQuestions route (c .U) (c .G) condition (length out)) _ _ out z
+            done-one (writeQuestions route (c .U) (c .G) order condition (length out)) _ _ out z
             ∙ ap (λ (x : Condition). answered (accepted (length (entry route x) ∷ []))
             ((entry route x ++ drop (length (entry route x)) out) ∷ [])) holds;
         read-if-room = only-room _ back;
-        reads-back = λ condition₂ answers₂ z₂. read route c _ condition₂ answers₂ back z₂;
+        reads-back = λ order₂ condition₂ answers₂ z₂. read route c _ order₂ condition₂ answers₂ back z₂;
       }
 
 -- the text's table is at the front of the buffer that it was read into
@@ -92,19 +99,24 @@ module _ (U G : ℕ) (text lent : List ℕ) (z : firstNo (textQuestions U G text
   unfolding call after
   front-room = rw (z, length-append) (omega (arith, text-is-table U G text .size))
 
-  -- demand 3, from the text and the lent buffers to what is read back, by the calls' contracts
-  pub over-the-calls : (route : ℕ) (out : List ℕ) → firstNo (writeQuestions route U G (textRead U G text lent) (length out)) ≡ 0
-      → OverTheCalls route (conditionOf U G (textTable U G text)) (textRead U G text lent) out
-  over-the-calls route out written =
-      archives route (conditionOf U G (textTable U G text)) (textRead U G text lent) out
-      (lent-is (conditionOf U G (textTable U G text)) (textRead U G text lent) refl front-of) written
+  module _ (order : List ℕ) where
+    -- the text's condition in the order that is given
+    abbrev condition : Condition
+    condition = ordered U G (take U order) (textTable U G text)
 
-  -- and writing is refused for another route than 1 to 250 or too short an output alone, so that every accepted text can be archived
-  pub written-if-room : (route : ℕ) (out : List ℕ) → routeFits route ≡ true
-      → length (entry route (conditionOf U G (textTable U G text))) ≤ length out
-      → firstNo (writeQuestions route U G (textRead U G text lent) (length out)) ≡ 0
-  written-if-room route out route-fits fits =
-      let accepted = done-exactly U G text (length lent) .0 z .0 in
-      let a : Archivable route (conditionOf U G (textTable U G text)) =
-      record { letters = accepted .letters; of-route = route-fits; plain = refl; of-table = text-is-table U G text } in
-      asked.written-if-room route (conditionOf U G (textTable U G text)) (textRead U G text lent) (length out) a front-of front-room fits
+    -- demand 3, from the text, the order and the lent buffers to what is read back, by the calls' contracts
+    pub over-the-calls : (route : ℕ) (out : List ℕ) → firstNo (writeQuestions route U G order (textRead U G text lent) (length out)) ≡ 0
+        → OverTheCalls route (ordered U G (take U order) (textTable U G text)) order (textRead U G text lent) out
+    over-the-calls route out written = archives route condition order (textRead U G text lent) out (ap (ordered U G (take U order)) front-of) written
+
+    -- and writing is refused for another route than 1 to 250, an order that is none or too short an output alone, so that every accepted text can
+    -- be archived in every order
+    pub written-if-room : (route : ℕ) (out : List ℕ) → routeFits route ≡ true → orderFits U order ≡ true
+        → length (entry route (ordered U G (take U order) (textTable U G text))) ≤ length out
+        → firstNo (writeQuestions route U G order (textRead U G text lent) (length out)) ≡ 0
+    written-if-room route out route-fits order-fits fits =
+        let accepted = done-exactly U G text (length lent) .0 z .0 in
+        let a : Archivable route condition =
+        record { letters = accepted .letters; of-route = route-fits; of-order = fits-each U order order-fits; of-table = text-is-table U G text } in
+        ap (λ (bytes : List ℕ). firstNo (writeQuestions route U G bytes (textRead U G text lent) (length out))) (fits-bytes U order order-fits)
+        ∙ asked.written-if-room route condition (textRead U G text lent) (length out) a front-of front-room fits

@@ -8,20 +8,22 @@ use mathlib.Core.Bool.{true, false, true≢false}
 use mathlib.Core.List.{List, [], _∷_}
 use Prim.Native.Nat.{ℕ, zero, suc, _<_}
 use native.Mathlib.Omega.{arith}
+use lib.ListN.{getD}
 use Rattle.ring.specs.Letters.{bit, point, pointWhere}
 use Rattle.ring.specs.Polynomial.{count, odd, within, value, constant, letter, sum, product, restrict, monomial, substitute, everyBelow}
 use Rattle.ring.specs.Table.{present, tabulate, table, answerTable}
 use Rattle.ring.specs.Lists.{listed}
 use Rattle.solution.specs.Letters.{Letter, HoldsGivens, place, Valuation, pointOf, valueOver}
 use Rattle.solution.specs.Substitution.{Substitution, letterAt, ownLetters, putIn, InstanceOf}
-use Rattle.solution.specs.Condition.{Condition, polynomial, conditionOf, defaultOrder}
+use Rattle.solution.specs.Condition.{Condition, polynomial, ordered, conditionOf, defaultOrder}
+use Rattle.solution.specs.Order.{orderBytes}
 use Rattle.solution.specs.Elimination.{solved, nextCondition, remains, answerFrom, booleAnswers, particular, lowenheim, ownLowenheim}
 use Rattle.solution.specs.Elimination.{isZero, solvable, booleTable, solve}
 use Rattle.solution.specs.General.{SmallestBlocked, Solves}
 use Rattle.entry.specs.Record.{kind, size, fields, widths, valueOf, valueIn, fromLowFirst, among}
 use Rattle.solution.proofs.Letters.{value-putIn, own-holds}
 use Rattle.entry.specs.Held.{next, untilEnd, firstRecords, records, hasMonomial, conditionIn, answersIn, unlessNone, says, heldCondition}
-use Rattle.entry.specs.Held.{heldVerdict}
+use Rattle.entry.specs.Held.{orderIn, heldVerdict}
 use Rattle.demands.specs.Demand3.{hasNone, Demand3}
 
 no-givens : (L : List Letter) → HoldsGivens 0 L
@@ -56,6 +58,10 @@ u+v = conditionOf 2 0 (0 ∷ 1 ∷ 1 ∷ 0 ∷ [])
 -- (2,0) `u*v`
 abbrev u*v : Condition
 u*v = conditionOf 2 0 (0 ∷ 0 ∷ 0 ∷ 1 ∷ [])
+
+-- (2,0) `u*v`, v first
+abbrev u*v-v-first : Condition
+u*v-v-first = ordered 2 0 (1 ∷ 0 ∷ []) (0 ∷ 0 ∷ 0 ∷ 1 ∷ [])
 
 -- ---- solutions left out
 
@@ -311,3 +317,37 @@ condition-more-archived =
 pub condition-more-refuted : Demand3 u+v condition-more-archived → ⊥
 unfolding records firstRecords next untilEnd kind size fields widths valueOf valueIn fromLowFirst among heldCondition conditionIn hasMonomial table tabulate present
 condition-more-refuted h = true≢false (ap (λ (c : Condition). polynomial c 3) (h .condition-read))
+
+-- ---- the order
+
+-- the order ignored: for u*v, v first, the answers of u first, u = u + u*v and v = v (holds-booles)
+abbrev order-ignored-archived : List ℕ
+order-ignored-archived =
+    1 ∷ 7 ∷ 2 ∷ 0
+    ∷ 6 ∷ 1 ∷ 0 ∷ 255 ∷ 255 ∷ 255 ∷ 255
+    ∷ 2 ∷ 3 ∷ 0
+    ∷ 3 ∷ 0 ∷ 1 ∷ 0
+    ∷ 3 ∷ 0 ∷ 3 ∷ 0
+    ∷ 3 ∷ 1 ∷ 2 ∷ 0
+    ∷ 4 ∷ 7
+    ∷ []
+
+pub order-ignored-refuted : Demand3 u*v-v-first order-ignored-archived → ⊥
+unfolding hasNone records firstRecords next untilEnd kind size fields widths valueOf valueIn fromLowFirst among answersIn hasMonomial booleAnswers answerFrom nextCondition listed substitute monomial product restrict sum constant letter odd count bit present
+order-ignored-refuted h = true≢false (h .holds-booles refl 0 3 (omega arith) (omega arith))
+
+-- kind 6 left out: the answers of v first, u = u and v = v + u*v, as if u had gone first (condition-read)
+abbrev order-left-out-archived : List ℕ
+order-left-out-archived =
+    1 ∷ 7 ∷ 2 ∷ 0
+    ∷ 2 ∷ 3 ∷ 0
+    ∷ 3 ∷ 0 ∷ 1 ∷ 0
+    ∷ 3 ∷ 1 ∷ 2 ∷ 0
+    ∷ 3 ∷ 1 ∷ 3 ∷ 0
+    ∷ 4 ∷ 7
+    ∷ []
+
+pub order-left-out-refuted : Demand3 u*v-v-first order-left-out-archived → ⊥
+unfolding records firstRecords next untilEnd kind size fields widths valueOf valueIn fromLowFirst among heldCondition orderIn orderBytes defaultOrder listed
+order-left-out-refuted h =
+    let e : _≡_ {A = ℕ} 0 1 = ap (λ (c : Condition). getD (c .order) 0 0) (h .condition-read) in absurd (omega arith)

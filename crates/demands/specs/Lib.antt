@@ -1,5 +1,6 @@
 pub mod Demand3
 pub mod OverTheCalls
+pub mod TwoOrders
 pub mod StarredRows
 pub mod SignRows
 pub mod Sample

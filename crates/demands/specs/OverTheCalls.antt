@@ -1,5 +1,5 @@
--- Demand 3 over the calls: a text is read by `read_text` into a lent condition buffer, `write_entry` is lent that buffer and an output, and
--- `read_entry` is lent that output and two buffers more. What a call gives, and what a buffer holds after it, is what its contract says.
+-- Demand 3 over the calls: a text is read by `read_text` into a lent condition buffer, `write_entry` is given an order and lent that buffer and
+-- an output, and `read_entry` is lent that output and three buffers more. What a call gives, and what a buffer holds after it, is what its contract says.
 -- Lent buffers may be longer than needed and hold any bytes.
 -- Assumes nothing.
 use mathlib.Core.Path.{_≡_}
@@ -10,6 +10,7 @@ use Rattle.ring.specs.declared.State.{State}
 use Rattle.tables.specs.Questions.{firstNo}
 use Rattle.tables.specs.Answered.{accepted, firstBuffer, answered}
 use Rattle.solution.specs.Condition.{Condition, width}
+use Rattle.solution.specs.Order.{orderBytes}
 use Rattle.solution.specs.Elimination.{solved, none, solve}
 use Rattle.entry.specs.Held.{records}
 use Rattle.entry.specs.Entry.{entry}
@@ -22,34 +23,37 @@ use Rattle.demands.specs.Demand3.{Demand3}
 abbrev pub textRead : ℕ → ℕ → List ℕ → List ℕ → List ℕ
 textRead U G text lent = firstBuffer (textCall U G text lent)
 
-abbrev pub entryWritten : ℕ → ℕ → ℕ → List ℕ → List ℕ → List ℕ
-entryWritten route U G condition out = firstBuffer (writeCall route U G condition out)
+abbrev pub entryWritten : ℕ → ℕ → ℕ → List ℕ → List ℕ → List ℕ → List ℕ
+entryWritten route U G order condition out = firstBuffer (writeCall route U G order condition out)
 
--- reading the bytes e, lent two buffers, gives the condition c and the verdict on it
-pub record GivesBack (route : ℕ) (c : Condition) (e condition answers : List ℕ) : Type 0 where
-  -- solved: reading gives the route, U, G and the length used; the condition's table is at the condition buffer's front, the answer tables at
-  -- the answer buffer's, and every further byte as it was
+-- reading the bytes e, lent three buffers, gives the condition c, with its order, and the verdict on it
+pub record GivesBack (route : ℕ) (c : Condition) (e order condition answers : List ℕ) : Type 0 where
+  -- solved: reading gives the route, U, G and the length used; the order's bytes, the condition's table and the answer tables are at the fronts of
+  -- their buffers, and every further byte is as it was
   pub same-answers : (tables : List ℕ) → solve c ≡ solved tables
-      → readCall e condition answers
+      → readCall e order condition answers
       ≡ answered (accepted (route ∷ c .U ∷ c .G ∷ length (entry route c) ∷ []))
-      ((c .table ++ drop (length (c .table)) condition) ∷ (tables ++ drop (length tables) answers) ∷ [])
+      ((orderBytes (c .order) ++ drop 6 order)
+      ∷ (c .table ++ drop (length (c .table)) condition)
+      ∷ (tables ++ drop (length tables) answers)
+      ∷ [])
   -- 'none': reading gives the state too, and the answer buffer is untouched
   pub same-state : (state : State) → solve c ≡ none state
-      → readCall e condition answers
+      → readCall e order condition answers
       ≡ answered (accepted (route ∷ c .U ∷ c .G ∷ length (entry route c) ∷ state .0 ∷ []))
-      ((c .table ++ drop (length (c .table)) condition) ∷ answers ∷ [])
+      ((orderBytes (c .order) ++ drop 6 order) ∷ (c .table ++ drop (length (c .table)) condition) ∷ answers ∷ [])
 
--- `write_entry`, lent the condition buffer and the output, archives the condition c
-pub record OverTheCalls (route : ℕ) (c : Condition) (condition out : List ℕ) : Type 0 where
+-- `write_entry`, given the order and lent the condition buffer and the output, archives the condition c
+pub record OverTheCalls (route : ℕ) (c : Condition) (order condition out : List ℕ) : Type 0 where
   -- demand 3 holds of what the output then holds ..
-  pub demand : Demand3 c (entryWritten route (c .U) (c .G) condition out)
+  pub demand : Demand3 c (entryWritten route (c .U) (c .G) order condition out)
   -- .. which is the entry at its front, and every further byte as it was; writing gives the entry's length
-  pub entry-written : writeCall route (c .U) (c .G) condition out
+  pub entry-written : writeCall route (c .U) (c .G) order condition out
       ≡ answered (accepted (length (entry route c) ∷ [])) ((entry route c ++ drop (length (entry route c)) out) ∷ [])
   -- reading it is refused for buffers that are too short alone ..
   pub read-if-room : (room answerRoom : ℕ) → 2 ^ width c ≤ room → c .U * 2 ^ width c ≤ answerRoom
-      → firstNo (readQuestions (records (entryWritten route (c .U) (c .G) condition out)) room answerRoom) ≡ 0
-  -- .. and, unless refused, gives the same condition and verdict
-  pub reads-back : (condition₂ answers₂ : List ℕ)
-      → firstNo (readQuestions (records (entryWritten route (c .U) (c .G) condition out)) (length condition₂) (length answers₂)) ≡ 0
-      → GivesBack route c (entryWritten route (c .U) (c .G) condition out) condition₂ answers₂
+      → firstNo (readQuestions (records (entryWritten route (c .U) (c .G) order condition out)) room answerRoom) ≡ 0
+  -- .. and, unless refused, gives the same order, condition and verdict
+  pub reads-back : (order₂ condition₂ answers₂ : List ℕ)
+      → firstNo (readQuestions (records (entryWritten route (c .U) (c .G) order condition out)) (length condition₂) (length answers₂)) ≡ 0
+      → GivesBack route c (entryWritten route (c .U) (c .G) order condition out) order₂ condition₂ answers₂

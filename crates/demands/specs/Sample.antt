@@ -1,5 +1,5 @@
--- The sample of document 01, 'Programs', in bytes: the two lines' texts and the records that are printed for them, ten in all. And one
--- entry more, with nine letters, in which a mask has two bytes that differ.
+-- The sample of document 01, 'Programs', in bytes: the two lines' texts and the records that are printed for them, ten in all. And two
+-- entries more: one with nine letters, in which a mask has two bytes that differ, and one with an order.
 -- Assumes nothing.
 use mathlib.Core.List.{List, [], _∷_}
 use Prim.Native.Nat.{ℕ}
@@ -43,4 +43,25 @@ wideEntry =
     ∷ 2 ∷ 0 ∷ 1
     ∷ 5 ∷ 128
     ∷ 4 ∷ 9
+    ∷ []
+
+-- `u*v`
+unfoldable pub orderedText : List ℕ
+orderedText = 117 ∷ 42 ∷ 118 ∷ []
+
+-- v first, then u, and 255 in unused places
+unfoldable pub vFirst : List ℕ
+vFirst = 1 ∷ 0 ∷ 255 ∷ 255 ∷ 255 ∷ 255 ∷ []
+
+-- the entry for route 10, v first: 010a0200, 060100ffffffff, 020300, 03000100, 03010200, 03010300, 040a (start, order, monomial, answers u = u and
+-- v = v + u*v, end)
+unfoldable pub orderedEntry : List ℕ
+orderedEntry =
+    1 ∷ 10 ∷ 2 ∷ 0
+    ∷ 6 ∷ 1 ∷ 0 ∷ 255 ∷ 255 ∷ 255 ∷ 255
+    ∷ 2 ∷ 3 ∷ 0
+    ∷ 3 ∷ 0 ∷ 1 ∷ 0
+    ∷ 3 ∷ 1 ∷ 2 ∷ 0
+    ∷ 3 ∷ 1 ∷ 3 ∷ 0
+    ∷ 4 ∷ 10
     ∷ []

@@ -10,11 +10,11 @@ ghost use lib.ListN.{length, getD, drop};
 ghost use Rattle.ring.specs.Letters.{bit};
 ghost use Rattle.ring.specs.Lists.{listed, has};
 ghost use Rattle.ring.specs.Polynomial.{_⊕_};
-ghost use Rattle.solution.specs.Condition.{IsOrder};
+ghost use Rattle.solution.specs.Condition.{IsOrder, ListsEach};
 ghost use Rattle.solution.specs.Elimination.{smallestBelow};
 ghost use Rattle.solution.specs.Inner.ByPoints.{bothCases, remainsThrough, answeredThrough};
 ghost use Rattle.words.specs.Inner.Words.{wordsOf, bitAt, answerWords};
-ghost use Rattle.elimination.specs.Inner.Stages.{InLetters, IgnoresUnknowns, noRepeats, ListsEach};
+ghost use Rattle.elimination.specs.Inner.Stages.{InLetters, IgnoresUnknowns, noRepeats};
 ghost use Rattle.elimination.specs.Inner.Stages.{stageWords, slotWords, putWords, firstAnswered, placeOf, slotWord};
 
 // f into `stage`, and then the product of its two cases of x in its place.

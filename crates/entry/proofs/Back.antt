@@ -2,7 +2,7 @@
 -- By induction on the records: the first is found again, and dropping its bytes leaves those of the rest.
 -- Assumes nothing.
 use mathlib.Core.Path.{_≡_, refl, sym, ap, _∙_}
-use mathlib.Core.Bool.{Bool, true, false, _&&_, not}
+use mathlib.Core.Bool.{Bool, true, false, _&&_, not, cond}
 use mathlib.Core.List.{List, [], _∷_, _++_, append-assoc, map}
 use Prim.Native.Nat.{ℕ, zero, suc, _+_, _≤_, _<_}
 use native.Mathlib.Omega.{arith}
@@ -13,11 +13,13 @@ use borrow.Author.Tests.{le-leb, ltb-true, eqb-true}
 use Rattle.ring.specs.Table.{present, held}
 use Rattle.order.specs.Order.{monomials}
 use Rattle.ring.proofs.Bool.{and-left, and-right, both, never}
+use Rattle.ring.specs.Lists.{listed}
 use Rattle.solution.specs.Condition.{Condition, width}
+use Rattle.solution.specs.Order.{orderBytes}
 use Rattle.solution.specs.Elimination.{Verdict, solved, none}
 use Rattle.entry.specs.Record.{Record, bytes, fields, widths, size, kind, lowFirst, bodyOf, startRecord, conditionRecord}
-use Rattle.entry.specs.Record.{answerRecord, endRecord, noneRecord, isEnd}
-use Rattle.entry.specs.Entry.{conditionRecords, answerRecords, verdictRecords, entryRecords, archivedRecords, entry}
+use Rattle.entry.specs.Record.{answerRecord, endRecord, noneRecord, orderRecord, isEnd, isDefault}
+use Rattle.entry.specs.Entry.{orderRecords, conditionRecords, answerRecords, verdictRecords, entryRecords, archivedRecords, entry}
 use Rattle.entry.specs.Held.{next, untilEnd, records}
 use Rattle.entry.proofs.Records.{records-next}
 
@@ -101,6 +103,14 @@ start-inner : (route U G : ℕ) → isInner (startRecord route U G) ≡ true
 unfolding kind size fields widths bodyOf lowFirst
 start-inner route U G = refl
 
+order-inner : (c : Condition) → allInner (orderRecords c) ≡ true
+unfolding orderRecords orderBytes listed allInner kind size fields widths bodyOf lowFirst
+order-inner c = go (isDefault (c .U) (orderBytes (c .order)))
+  where
+    go : (b : Bool) → allInner (cond b [] (orderRecord (c .order) ∷ [])) ≡ true
+    go true = refl
+    go false = refl
+
 condition-inner : (ms : List ℕ) → allInner (map conditionRecord ms) ≡ true
 unfolding allInner kind size fields widths bodyOf lowFirst
 condition-inner [] = refl
@@ -137,20 +147,23 @@ all-whole (r ∷ rs) route p =
 module _ (route : ℕ) (c : Condition) (v : Verdict (List ℕ)) where
   -- all of an entry but its end
   unfoldable pub body : List Record
-  body = startRecord route (c .U) (c .G) ∷ (conditionRecords c ++ verdictRecords (c .U) (width c) v)
+  body = startRecord route (c .U) (c .G) ∷ (orderRecords c ++ (conditionRecords c ++ verdictRecords (c .U) (width c) v))
 
   pub entry-body : entryRecords route c v ≡ body ++ (endRecord route ∷ [])
   unfolding entryRecords body
   entry-body =
-      ap (λ (l : List Record). startRecord route (c .U) (c .G) ∷ l)
+      ap (λ (l : List Record). startRecord route (c .U) (c .G) ∷ (orderRecords c ++ l))
       (sym (append-assoc (conditionRecords c) (verdictRecords (c .U) (width c) v) (endRecord route ∷ [])))
+      ∙ ap (λ (l : List Record). startRecord route (c .U) (c .G) ∷ l)
+      (sym (append-assoc (orderRecords c) (conditionRecords c ++ verdictRecords (c .U) (width c) v) (endRecord route ∷ [])))
 
   pub body-inner : allInner body ≡ true
   unfolding body conditionRecords allInner
   body-inner =
       both (start-inner route (c .U) (c .G))
+      (inner-append (orderRecords c) (conditionRecords c ++ verdictRecords (c .U) (width c) v) (order-inner c)
       (inner-append (map conditionRecord (monomials (width c) (present (c .table)))) (verdictRecords (c .U) (width c) v)
-      (condition-inner (monomials (width c) (present (c .table)))) (verdict-inner (c .U) (width c) v))
+      (condition-inner (monomials (width c) (present (c .table)))) (verdict-inner (c .U) (width c) v)))
 
   -- the records of an entry, with any bytes behind it, are those that it was written from
   pub written-records : (bs : List ℕ) → records (bytes (entryRecords route c v) ++ bs) ≡ entryRecords route c v

@@ -1,7 +1,9 @@
--- How long an entry is: 4 bytes of kind 1; 3 for each monomial of the condition, at most 2 ^ n; 4 for each monomial of each answer, at
--- most U * 2 ^ n, or 2 of kind 5; 2 of kind 4. With U at most 6 and n at most 10 that is 4 + 3 * 1,024 + 4 * 6,144 + 2 = 27,654.
+-- How long an entry is: 4 bytes of kind 1; 7 of kind 6, or none; 3 for each monomial of the condition, at most 2 ^ n; 4 for each monomial of
+-- each answer, at most U * 2 ^ n, or 2 of kind 5; 2 of kind 4. With U at most 6 and n at most 10 that is
+-- 4 + 7 + 3 * 1,024 + 4 * 6,144 + 2 = 27,661.
 -- Assumes nothing.
 use mathlib.Core.Path.{_≡_, refl, ap, _∙_}
+use mathlib.Core.Bool.{Bool, true, false, cond}
 use mathlib.Core.List.{List, [], _∷_, _++_, map}
 use Prim.Native.Nat.{ℕ, zero, suc, _+_, _*_, _^_, _≤_}
 use native.Mathlib.Nat.{suc-mul, mul-le-mul}
@@ -13,10 +15,13 @@ use Rattle.ring.specs.Table.{present, held}
 use Rattle.order.specs.Order.{monomials, order}
 use Rattle.order.proofs.Lists.{length-keep}
 use Rattle.order.proofs.Order.{length-order}
+use Rattle.ring.specs.Lists.{listed}
 use Rattle.solution.specs.Condition.{Condition, width}
+use Rattle.solution.specs.Order.{orderBytes}
 use Rattle.solution.specs.Elimination.{Verdict, solved, none}
-use Rattle.entry.specs.Record.{Record, fields, bodyOf, lowFirst, conditionRecord, answerRecord, endRecord, bytes}
-use Rattle.entry.specs.Entry.{conditionRecords, answerRecords, verdictRecords, entryRecords}
+use Rattle.entry.specs.Record.{Record, fields, bodyOf, lowFirst, conditionRecord, answerRecord, endRecord, orderRecord, isDefault}
+use Rattle.entry.specs.Record.{bytes}
+use Rattle.entry.specs.Entry.{orderRecords, conditionRecords, answerRecords, verdictRecords, entryRecords}
 use Rattle.entry.proofs.Back.{bytes-append}
 
 length-monomials : (n : ℕ) (f : Polynomial) → length (monomials n f) ≤ 2 ^ n
@@ -35,6 +40,22 @@ pub answer-bytes : (j : ℕ) (ms : List ℕ) → length (bytes (map (answerRecor
 unfolding bytes fields bodyOf lowFirst
 answer-bytes j [] = refl
 answer-bytes j (m ∷ ms) = omega (arith, answer-bytes j ms)
+
+-- the order's record, if there is one
+pub order-size : (c : Condition) → length (bytes (orderRecords c)) ≡ cond (isDefault (c .U) (orderBytes (c .order))) 0 7
+unfolding orderRecords orderBytes listed bytes fields bodyOf lowFirst
+order-size c = go (isDefault (c .U) (orderBytes (c .order)))
+  where
+    go : (b : Bool) → length (bytes (cond b [] (orderRecord (c .order) ∷ []))) ≡ cond b 0 7
+    go true = refl
+    go false = refl
+
+order-most : (c : Condition) → length (bytes (orderRecords c)) ≤ 7
+order-most c = rw (order-size c) (go (isDefault (c .U) (orderBytes (c .order))))
+  where
+    go : (b : Bool) → cond b 0 7 ≤ 7
+    go true = omega arith
+    go false = omega arith
 
 -- the condition's records
 pub condition-most : (c : Condition) → length (bytes (conditionRecords c)) ≤ 3 * 2 ^ width c
@@ -67,12 +88,15 @@ module _ (U n : ℕ) (hu : U ≤ 6) (hn : n ≤ 10) where
   verdict-most (none state) = omega arith
 
 pub entry-most : (route : ℕ) (c : Condition) (v : Verdict (List ℕ)) → c .U ≤ 6 → width c ≤ 10
-    → length (bytes (entryRecords route c v)) ≤ 27654
+    → length (bytes (entryRecords route c v)) ≤ 27661
 unfolding entryRecords bytes fields bodyOf lowFirst
 entry-most route c v hu hn =
     let told : List Record = verdictRecords (c .U) (width c) v in
+    let o : length (bytes (orderRecords c ++ (conditionRecords c ++ (told ++ (endRecord route ∷ [])))))
+    ≡ length (bytes (orderRecords c)) + length (bytes (conditionRecords c ++ (told ++ (endRecord route ∷ [])))) =
+    length-bytes (orderRecords c) (conditionRecords c ++ (told ++ (endRecord route ∷ []))) in
     let e : length (bytes (conditionRecords c ++ (told ++ (endRecord route ∷ []))))
     ≡ length (bytes (conditionRecords c)) + length (bytes (told ++ (endRecord route ∷ []))) =
     length-bytes (conditionRecords c) (told ++ (endRecord route ∷ [])) in
     let d : length (bytes (told ++ (endRecord route ∷ []))) ≡ length (bytes told) + 2 = length-bytes told (endRecord route ∷ []) in
-    omega (arith, condition-most c, size-most (c .U) (width c) hu hn, verdict-most (c .U) (width c) hu hn v)
+    omega (arith, order-most c, condition-most c, size-most (c .U) (width c) hu hn, verdict-most (c .U) (width c) hu hn v)

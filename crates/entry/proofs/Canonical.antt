@@ -8,7 +8,7 @@ use mathlib.Core.Logic.{_⊎_, inl, inr}
 use Prim.Native.Nat.{ℕ, zero, suc, _+_, _^_, _≤_, _<_}
 use native.Mathlib.Omega.{arith}
 use lib.Dec.{eqb, ltb}
-use lib.ListN.{length, getD, drop, List·getD-eq-default}
+use lib.ListN.{length, getD, take, drop, List·getD-eq-default}
 use borrow.Author.Tests.{ltb-true, ltb-false, eqb-true, ne-eqb}
 use Rattle.ring.specs.declared.State.{State}
 use Rattle.ring.specs.Polynomial.{Polynomial, everyBelow}
@@ -21,19 +21,23 @@ use Rattle.ring.proofs.Every.{every-all}
 use Rattle.order.specs.Order.{monomials}
 use Rattle.order.proofs.Order.{has-monomials}
 use Rattle.solution.specs.Condition.{Condition, width}
+use Rattle.solution.specs.Order.{orderBytes, defaultBytes, orderFits}
 use Rattle.solution.specs.Elimination.{Verdict, solved, none}
 use Rattle.entry.specs.Record.{Record, routeField, unknownsField, givensField, unknownField, maskField, stateField, fields, kind}
-use Rattle.entry.specs.Record.{among, valueIn, valueOf, isEnd, isNone, isMonomial, tableIn, bodyFits, inBounds, startRecord}
-use Rattle.entry.specs.Record.{endRecord, noneRecord}
-use Rattle.entry.specs.Entry.{conditionRecords, verdictRecords, entryRecords}
-use Rattle.entry.specs.Held.{next, untilEnd, firstRecords, records, routeOf, unknownsOf, givensOf, hasMonomial, conditionIn}
-use Rattle.entry.specs.Held.{answersIn, unlessNone, heldCondition, heldVerdict}
+use Rattle.entry.specs.Record.{among, valueIn, valueOf, isEnd, isNone, isOrder, isMonomial, tableIn, bodyFits, sameBytes, isDefault}
+use Rattle.entry.specs.Record.{isNeeded, inBounds, startRecord, endRecord, noneRecord, orderRecord}
+use Rattle.entry.specs.Entry.{orderRecords, conditionRecords, verdictRecords, entryRecords}
+use Rattle.entry.specs.Held.{next, untilEnd, firstRecords, records, first, second, routeOf, unknownsOf, givensOf, orderIn, hasMonomial}
+use Rattle.entry.specs.Held.{conditionIn, answersIn, unlessNone, heldCondition, heldVerdict}
 use Rattle.entry.specs.Questions.{followers, mayFollow, kindsFollow, kindsFit, numbersFit}
 use Rattle.entry.specs.Inner.Places.{placeOf, standsBehind, fitsBehind}
 use Rattle.entry.proofs.Made.{field-fits, every-kind, IsMade, AllMade, valuesIn, of-kind}
-use Rattle.entry.proofs.Places.{numbers-by-places}
+use Rattle.entry.proofs.Places.{place-other, numbers-by-places}
 use Rattle.entry.proofs.Back.{isInner, allInner, inner-not-end, end-is, body, entry-body, body-inner}
 use Rattle.entry.proofs.Verdicts.{VerdictFits, answers-fit}
+use Rattle.entry.proofs.SameBytes.{same-bytes}
+use Rattle.entry.proofs.OrderRecord.{order-body, orderPart, behindOrder, order-split, behind-kinds, toldRecords, behind-order}
+use Rattle.solution.proofs.Order.{fits-bytes}
 use Rattle.entry.proofs.EntryPasses.{entry-kinds, entry-places}
 use Rattle.entry.proofs.Held.{entry-route, entry-made, entry-monomials, verdict-no-condition, answers-monomials, solved-unless}
 use Rattle.entry.proofs.Held.{none-unless}
@@ -117,7 +121,7 @@ none-again : (r : Record) → IsMade r → kind r ≡ 5 → r ≡ noneRecord (va
 unfolding fields valueOf valueIn valuesIn
 none-again r w k = of-kind 5 r w k ∙ rw k
 
--- ---- the kinds that follow another: kind 4, kind 5, and those with a monomial
+-- ---- the kinds that follow another, but for the start: kind 4, kind 5, and those with a monomial
 mayStand : ℕ → Bool
 mayStand k = eqb k 4 || (eqb k 5 || among maskField (fields k))
 
@@ -134,22 +138,22 @@ in-row (x ∷ row) k e h = go (in-row row k (and-right (mayStand x) (allStand ro
     go ih (inl q) = rw q (and-left (mayStand x) (allStand row) e)
     go ih (inr q) = ih q
 
-rows-stand : (p : ℕ) → allStand (getD followers p []) ≡ true
+rows-stand : (p : ℕ) → allStand (getD followers (suc p) []) ≡ true
 unfolding allStand mayStand among fields everyBelow
-rows-stand p = go (bool-cases (ltb p (length followers)))
+rows-stand p = go (bool-cases (ltb p 5))
   where
-    go : (ltb p (length followers) ≡ true) ⊎ (ltb p (length followers) ≡ false) → allStand (getD followers p []) ≡ true
-    go (inl h) = every-all (length followers) (λ i. allStand (getD followers i [])) refl p (ltb-true _ _ h)
-    go (inr h) = ap allStand (List·getD-eq-default followers [] {n = p} (ltb-false _ _ h))
+    go : (ltb p 5 ≡ true) ⊎ (ltb p 5 ≡ false) → allStand (getD followers (suc p) []) ≡ true
+    go (inl h) = every-all 5 (λ i. allStand (getD followers (suc i) [])) refl p (ltb-true _ _ h)
+    go (inr h) = let l : 5 ≤ p = ltb-false _ _ h in ap allStand (List·getD-eq-default followers [] {n = suc p} (omega arith))
 
 data Stands (k : ℕ) : Type 0 where
   an-end : k ≡ 4 → Stands k
   a-none : k ≡ 5 → Stands k
   a-monomial : among maskField (fields k) ≡ true → Stands k
 
-stands : (p k : ℕ) → mayFollow (suc p) k ≡ true → Stands k
+stands : (p k : ℕ) → mayFollow (suc (suc p)) k ≡ true → Stands k
 unfolding mayFollow mayStand
-stands p k h = go (or-cases (eqb k 4) _ (in-row (getD followers p []) k (rows-stand p) h))
+stands p k h = go (or-cases (eqb k 4) _ (in-row (getD followers (suc p) []) k (rows-stand p) h))
   where
     further : (eqb k 5 ≡ true) ⊎ (among maskField (fields k) ≡ true) → Stands k
     further (inl e) = a-none (eqb-true k 5 e)
@@ -175,7 +179,7 @@ monomial-kind k h = (no 4 refl, no 5 refl)
     flip true e = never e refl
     flip false e = refl
 
-    no : (x : ℕ) → everyBelow 6 (λ i. not (among maskField (fields i)) || not (eqb i x)) ≡ true → eqb k x ≡ false
+    no : (x : ℕ) → everyBelow 7 (λ i. not (among maskField (fields i)) || not (eqb i x)) ≡ true → eqb k x ≡ false
     no x e =
         flip (eqb k x) (implied (λ i. not (eqb i x)) k (every-kind (λ i. not (among maskField (fields i)) || not (eqb i x)) e k some) h)
 
@@ -238,32 +242,34 @@ module _ {A : Type 0} (a : A) where
   unfolding onlyMonomials unlessNone
   monomial-shape route r rs m n ih = ap (λ (l : List Record). r ∷ l) ih ∙ rw (m, n)
 
-  -- the records behind the start: the monomials, the state if there is one, and the end
-  shape : (p route : ℕ) (rs : List Record) → AllMade rs → kindsFollow (suc p) route rs ≡ true → endsThere rs ≡ true
+  -- the records behind the start and the order: the monomials, the state if there is one, and the end
+  shape : (p route : ℕ) (rs : List Record) → AllMade rs → kindsFollow (suc (suc p)) route rs ≡ true → endsThere rs ≡ true
       → rs ≡ onlyMonomials rs ++ (noneRecords (unlessNone a rs) ++ (endRecord route ∷ []))
   unfolding kindsFollow AllMade among fields
   shape p route [] w o c = never o refl
-  shape p route (r ∷ rs) w o c = go (kind r) refl (λ q. shape q route rs (w .1)) (stands p (kind r) (may (suc p) route r rs o))
+  shape p route (r ∷ rs) w o c = go (kind r) refl (λ q. shape q route rs (w .1)) (stands p (kind r) (may (suc (suc p)) route r rs o))
     where
       Shape : List Record → Type 0
       Shape l = l ≡ onlyMonomials l ++ (noneRecords (unlessNone a l) ++ (endRecord route ∷ []))
 
-      behind : (k : ℕ) → kind r ≡ k → isEnd r ≡ false → ((q : ℕ) → kindsFollow (suc q) route rs ≡ true → endsThere rs ≡ true → Shape rs)
+      behind : (k : ℕ) → kind r ≡ k → isEnd r ≡ false → ((q : ℕ) → kindsFollow (suc (suc q)) route rs ≡ true → endsThere rs ≡ true → Shape rs)
           → among maskField (fields k) ≡ true → Shape rs
       behind zero e n ih m = never m refl
-      behind (suc q) e n ih m = ih q (ap (λ (x : ℕ). kindsFollow x route rs) (sym e) ∙ kinds-on (suc p) route r rs o n) (ends-on r rs c n)
+      behind (suc zero) e n ih m = never m refl
+      behind (suc (suc q)) e n ih m =
+          ih q (ap (λ (x : ℕ). kindsFollow x route rs) (sym e) ∙ kinds-on (suc (suc p)) route r rs o n) (ends-on r rs c n)
 
-      go : (k : ℕ) → kind r ≡ k → ((q : ℕ) → kindsFollow (suc q) route rs ≡ true → endsThere rs ≡ true → Shape rs) → Stands (kind r)
+      go : (k : ℕ) → kind r ≡ k → ((q : ℕ) → kindsFollow (suc (suc q)) route rs ≡ true → endsThere rs ≡ true → Shape rs) → Stands (kind r)
           → Shape (r ∷ rs)
       go k e ih (an-end q) =
           let end : isEnd r ≡ true = rw q in
-          ap (λ (l : List Record). r ∷ l) (nothing-behind r rs c end) ∙ end-shape route r (w .0) q (same-route (suc p) route r rs o end)
+          ap (λ (l : List Record). r ∷ l) (nothing-behind r rs c end) ∙ end-shape route r (w .0) q (same-route (suc (suc p)) route r rs o end)
           ∙ ap (λ (l : List Record). onlyMonomials (r ∷ l) ++ (noneRecords (unlessNone a (r ∷ l)) ++ (endRecord route ∷ [])))
           (sym (nothing-behind r rs c end))
       go k e ih (a-none q) =
           let n : isEnd r ≡ false = rw q in
           let b : rs ≡ endRecord route ∷ [] =
-          behind-none route rs (w .1) (ap (λ (x : ℕ). kindsFollow x route rs) (sym q) ∙ kinds-on (suc p) route r rs o n)
+          behind-none route rs (w .1) (ap (λ (x : ℕ). kindsFollow x route rs) (sym q) ∙ kinds-on (suc (suc p)) route r rs o n)
           (ends-on r rs c n) in
           ap (λ (l : List Record). r ∷ l) b ∙ none-shape route r (w .0) q
           ∙ ap (λ (l : List Record). onlyMonomials (r ∷ l) ++ (noneRecords (unlessNone a (r ∷ l)) ++ (endRecord route ∷ []))) (sym b)
@@ -345,9 +351,113 @@ unfolding kindsFollow mayFollow AllMade
 starts route [] w o = never o refl
 starts route (r ∷ rs) w o = (rs, w .1, ap (λ (x : Record). x ∷ rs) (start-again r (w .0) (eqb-true _ _ (may 0 route r rs o))))
 
+-- ---- a kind 6 behind the start, and what stands behind it
+module _ (r : Record) (e : isOrder r ≡ true) where
+  six : kind r ≡ 6
+  six = eqb-true _ _ e
+
+  six-no-end : isEnd r ≡ false
+  six-no-end = rw six
+
+  six-no-none : isNone r ≡ false
+  six-no-none = rw six
+
+  six-no-monomial : isMonomial r ≡ false
+  unfolding among fields
+  six-no-monomial = rw six
+
+behind-made : (ss : List Record) → AllMade ss → AllMade (behindOrder ss)
+unfolding behindOrder AllMade
+behind-made [] w = w
+behind-made (r ∷ rs) w = go (isOrder r)
+  where
+    go : (b : Bool) → AllMade (cond b rs (r ∷ rs))
+    go true = w .1
+    go false = w
+
+behind-ends : (ss : List Record) → endsThere ss ≡ true → endsThere (behindOrder ss) ≡ true
+unfolding behindOrder
+behind-ends [] c = c
+behind-ends (r ∷ rs) c = go (bool-cases (isOrder r))
+  where
+    go : (isOrder r ≡ true) ⊎ (isOrder r ≡ false) → endsThere (cond (isOrder r) rs (r ∷ rs)) ≡ true
+    go (inl e) = rw e (ends-on r rs c (six-no-end r e))
+    go (inr e) = rw e c
+
+behind-fits : (U G : ℕ) (ss : List Record) → fitsBehind U G 0 ss ≡ true → fitsBehind U G 0 (behindOrder ss) ≡ true
+unfolding behindOrder
+behind-fits U G [] p = p
+behind-fits U G (r ∷ rs) p = go (bool-cases (isOrder r))
+  where
+    go : (isOrder r ≡ true) ⊎ (isOrder r ≡ false) → fitsBehind U G 0 (cond (isOrder r) rs (r ∷ rs)) ≡ true
+    go (inl e) =
+        rw e (ap (λ (q : ℕ). fitsBehind U G q rs) (sym (place-other r (six-no-monomial r e))) ∙ fits-rest U G 0 r rs p)
+    go (inr e) = rw e p
+
+behind-has : (i m : ℕ) (ss : List Record) → hasMonomial i m (behindOrder ss) ≡ hasMonomial i m ss
+unfolding behindOrder hasMonomial
+behind-has i m [] = refl
+behind-has i m (r ∷ rs) = go (bool-cases (isOrder r))
+  where
+    go : (isOrder r ≡ true) ⊎ (isOrder r ≡ false) → hasMonomial i m (cond (isOrder r) rs (r ∷ rs)) ≡ hasMonomial i m (r ∷ rs)
+    go (inl e) = rw e (rw (six-no-monomial r e))
+    go (inr e) = rw e
+
+behind-unless : {A : Type 0} (a : A) (ss : List Record) → unlessNone a (behindOrder ss) ≡ unlessNone a ss
+unfolding behindOrder unlessNone
+behind-unless a [] = refl
+behind-unless a (r ∷ rs) = go (bool-cases (isOrder r))
+  where
+    go : (isOrder r ≡ true) ⊎ (isOrder r ≡ false) → unlessNone a (cond (isOrder r) rs (r ∷ rs)) ≡ unlessNone a (r ∷ rs)
+    go (inl e) = rw e (rw (six-no-none r e))
+    go (inr e) = rw e
+
+-- question 12 asks whether it is needed
+needed-first : (U G : ℕ) (ss : List Record) → fitsBehind U G 0 ss ≡ true → isOrder (first ss) ≡ true → isNeeded U (first ss) ≡ true
+unfolding inBounds kind
+needed-first U G [] p h = never h refl
+needed-first U G (r ∷ rs) p h = and-right (bodyFits U G (fields (kind r)) (drop 1 r)) (isNeeded U r) (fits-bounds U G 0 r rs p)
+
+six-again : (r : Record) → isOrder r ≡ true → 6 ∷ drop 1 r ≡ r
+unfolding kind
+six-again [] h = never h refl
+six-again (b ∷ bs) h = ap (λ (x : ℕ). x ∷ bs) (sym (eqb-true b 6 h))
+
+default-again : (U : ℕ) (order : List ℕ) → orderBytes order ≡ defaultBytes U → isDefault U (orderBytes order) ≡ true
+unfolding isDefault
+default-again U order e = ap (λ (bs : List ℕ). sameBytes bs (defaultBytes U)) e ∙ same-bytes (defaultBytes U)
+
+needed-is : (U : ℕ) (r : Record) → isOrder r ≡ true → isNeeded U r ≡ true → not (true && isDefault U (drop 1 r)) ≡ true
+unfolding isNeeded
+needed-is U r h n = rw h at n
+
+-- the record of an order whose bytes are those that the records say
+order-again : (U : ℕ) (order said : List ℕ) (ss : List Record) → orderBytes order ≡ said
+    → said ≡ cond (isOrder (first ss)) (drop 1 (first ss)) (defaultBytes U)
+    → (isOrder (first ss) ≡ true → isNeeded U (first ss) ≡ true)
+    → cond (isDefault U (orderBytes order)) [] (orderRecord order ∷ []) ≡ orderPart ss
+unfolding orderPart kind
+order-again U order said [] e s n = rw (default-again U order (e ∙ s))
+order-again U order said (r ∷ rs) e s n = go (bool-cases (isOrder r))
+  where
+    other : (b : Bool) → not (true && b) ≡ true → b ≡ false
+    other true h = never h refl
+    other false h = refl
+
+    differs : isOrder r ≡ true → orderBytes order ≡ drop 1 r → isDefault U (orderBytes order) ≡ false
+    differs h d = ap (isDefault U) d ∙ other (isDefault U (drop 1 r)) (needed-is U r h (n h))
+
+    go : (isOrder r ≡ true) ⊎ (isOrder r ≡ false)
+        → cond (isDefault U (orderBytes order)) [] (orderRecord order ∷ []) ≡ cond (isOrder r) (r ∷ []) []
+    go (inl h) =
+        let d : orderBytes order ≡ drop 1 r = e ∙ (rw h at s) in
+        rw (differs h d, h)
+        (ap (λ (x : Record). x ∷ []) (order-body order ∙ ap (λ (x : List ℕ). 6 ∷ x) d ∙ six-again r h))
+    go (inr h) = rw (default-again U order (e ∙ (rw h at s)), h)
+
 -- ---- the entry of what some records hold
 module _ (rs : List Record) (w : AllMade rs) (k : kindsFit rs ≡ true) (c : endsThere rs ≡ true) (l : unknownsOf rs + givensOf rs ≤ 10)
-    (f : numbersFit rs ≡ true) where
+    (f : numbersFit rs ≡ true) (o : orderFits (unknownsOf rs) (orderIn rs) ≡ true) where
   abbrev U : ℕ
   U = unknownsOf rs
 
@@ -441,47 +551,80 @@ module _ (rs : List Record) (w : AllMade rs) (k : kindsFit rs ≡ true) (c : end
       go (inr e) = rw (e .1) (none-unless answered (routeOf rs) (heldCondition rs) (e .0))
 
   -- ---- the monomials of both rise, and so are the same in the same order
-  rise : (ss : List Record) → AllMade ss → kindsFollow 1 (routeOf rs) ss ≡ true → endsThere ss ≡ true → fitsBehind U G 0 ss ≡ true
+  rise : (ss : List Record) → AllMade ss → kindsFollow 6 (routeOf rs) ss ≡ true → endsThere ss ≡ true → fitsBehind U G 0 ss ≡ true
       → fitsBehind U G 0 (onlyMonomials ss) ≡ true
   rise ss w o e p =
       let q : ss ≡ onlyMonomials ss
-      ++ (noneRecords (unlessNone answered ss) ++ (endRecord (routeOf rs) ∷ [])) = shape answered 0 (routeOf rs) ss w o e in
+      ++ (noneRecords (unlessNone answered ss) ++ (endRecord (routeOf rs) ∷ [])) = shape answered 4 (routeOf rs) ss w o e in
       fits-front U G 0 (onlyMonomials ss) (noneRecords (unlessNone answered ss) ++ (endRecord (routeOf rs) ∷ [])) (rw q at p)
 
+  -- what stands behind the start and the order is told by its monomials and its verdict
+  told-unique : (xs ys : List Record) → AllMade xs → AllMade ys → kindsFollow 6 (routeOf rs) xs ≡ true → kindsFollow 6 (routeOf rs) ys ≡ true
+      → endsThere xs ≡ true → endsThere ys ≡ true → fitsBehind U G 0 xs ≡ true → fitsBehind U G 0 ys ≡ true
+      → ((i m : ℕ) → hasMonomial i m xs ≡ hasMonomial i m ys) → unlessNone answered xs ≡ unlessNone answered ys → xs ≡ ys
+  told-unique xs ys wx wy ox oy cx cy px py em ev =
+      let e : onlyMonomials xs ≡ onlyMonomials ys =
+      rising-unique U G 0 0 (onlyMonomials xs) (onlyMonomials ys) (only-made xs wx) (only-made ys wy) (only-all xs) (only-all ys)
+      (rise xs wx ox cx px) (rise ys wy oy cy py) (λ i m. only-has i m xs ∙ em i m ∙ sym (only-has i m ys)) in
+      shape answered 4 (routeOf rs) xs wx ox cx
+      ∙ ap₂ (λ (x : List Record) (v : Verdict (List ℕ)). x ++ (noneRecords v ++ (endRecord (routeOf rs) ∷ []))) e ev
+      ∙ sym (shape answered 4 (routeOf rs) ys wy oy cy)
+
+  -- what the entry of the condition and the verdict has behind its start
+  abbrev tail : List Record
+  tail = orderRecords (heldCondition rs) ++ toldRecords (routeOf rs) (heldCondition rs) (heldVerdict rs)
+
+  rewritten-tail : rewritten ≡ startRecord (routeOf rs) U G ∷ tail
+  unfolding entryRecords toldRecords heldCondition
+  rewritten-tail = refl
+
+  tail-made : AllMade tail
+  unfolding AllMade
+  tail-made = (rw rewritten-tail at (entry-made (routeOf rs) (heldCondition rs) (heldVerdict rs))) .1
+
+  -- question 12 of what stands behind a start
+  places-behind : (ss : List Record) → fitsBehind U G 0 (startRecord (routeOf rs) U G ∷ ss) ≡ true → fitsBehind U G 0 ss ≡ true
+  unfolding fitsBehind standsBehind placeOf kind fields among inBounds bodyFits isNeeded
+  places-behind ss p = p
+
+  -- what the records have behind their start is so too
+  behind-start : (ss : List Record) → AllMade ss → rs ≡ startRecord (routeOf rs) U G ∷ ss → behindOrder ss ≡ behindOrder tail
+  unfolding kindsFit kindsFollow mayFollow endsThere hasMonomial unlessNone kind fields among heldCondition
+  behind-start ss ws e =
+      let os : kindsFollow 1 (routeOf rs) ss ≡ true = sym (ap (λ (x : List Record). kindsFollow 0 (routeOf rs) x) e) ∙ k in
+      let ot : kindsFollow 1 (routeOf rs) tail ≡ true =
+      ap₂ (λ (x : ℕ) (l : List Record). kindsFollow 0 x l) (sym (entry-route (routeOf rs) (heldCondition rs) (heldVerdict rs)))
+      (sym rewritten-tail)
+      ∙ entry-kinds (routeOf rs) (heldCondition rs) (heldVerdict rs) in
+      let cs : endsThere ss ≡ true = sym (ap endsThere e) ∙ c in
+      let ct : endsThere tail ≡ true = sym (ap endsThere rewritten-tail) ∙ entry-ends (routeOf rs) (heldCondition rs) (heldVerdict rs) in
+      let ps : fitsBehind U G 0 ss ≡ true = places-behind ss (sym (ap (fitsBehind U G 0) e) ∙ places) in
+      let pt : fitsBehind U G 0 tail ≡ true = places-behind tail (sym (ap (fitsBehind U G 0) rewritten-tail)
+      ∙ entry-places (heldCondition rs) l (routeOf rs) (heldVerdict rs) held-fits) in
+      told-unique (behindOrder ss) (behindOrder tail) (behind-made ss ws) (behind-made tail tail-made) (behind-kinds (routeOf rs) ss os)
+      (behind-kinds (routeOf rs) tail ot) (behind-ends ss cs) (behind-ends tail ct) (behind-fits U G ss ps) (behind-fits U G tail pt)
+      (λ i m. behind-has i m ss ∙ sym (ap (hasMonomial i m) e) ∙ sym (same-monomials i m) ∙ ap (hasMonomial i m) rewritten-tail
+      ∙ sym (behind-has i m tail))
+      (behind-unless answered ss ∙ sym (ap (unlessNone answered) e) ∙ sym same-verdict ∙ ap (unlessNone answered) rewritten-tail
+      ∙ sym (behind-unless answered tail))
+
+  -- the order's record is the one that stands behind the start
+  same-order : (ss : List Record) → rs ≡ startRecord (routeOf rs) U G ∷ ss → orderRecords (heldCondition rs) ≡ orderPart ss
+  unfolding orderRecords orderIn heldCondition
+  same-order ss e =
+      order-again U (take U (orderIn rs)) (orderIn rs) ss (sym (fits-bytes U (orderIn rs) o))
+      (ap (λ (x : List Record). cond (isOrder (second x)) (drop 1 (second x)) (defaultBytes U)) e)
+      (λ h. needed-first U G ss (places-behind ss (sym (ap (fitsBehind U G 0) e) ∙ places)) h)
+
   pub canonical : rs ≡ entryRecords (routeOf rs) (heldCondition rs) (heldVerdict rs)
-  unfolding entryRecords kindsFit kindsFollow mayFollow endsThere fitsBehind standsBehind placeOf hasMonomial unlessNone heldCondition AllMade kind fields among inBounds bodyFits
+  unfolding kindsFit
   canonical = go (starts (routeOf rs) rs w k)
     where
-      tail : List Record
-      tail = conditionRecords (heldCondition rs) ++ (verdictRecords U (U + G) (heldVerdict rs) ++ (endRecord (routeOf rs) ∷ []))
-
-      made : AllMade tail
-      made = entry-made (routeOf rs) (heldCondition rs) (heldVerdict rs) .1
-
-      kinds : kindsFollow 1 (routeOf rs) tail ≡ true
-      kinds =
-          ap (λ (x : ℕ). kindsFollow 0 x rewritten) (sym (entry-route (routeOf rs) (heldCondition rs) (heldVerdict rs)))
-          ∙ entry-kinds (routeOf rs) (heldCondition rs) (heldVerdict rs)
-
-      ends : endsThere tail ≡ true
-      ends = entry-ends (routeOf rs) (heldCondition rs) (heldVerdict rs)
-
-      fits : fitsBehind U G 0 tail ≡ true
-      fits = entry-places (heldCondition rs) l (routeOf rs) (heldVerdict rs) held-fits
-
-      go : (ss : List Record) × AllMade ss × (rs ≡ startRecord (routeOf rs) U G ∷ ss) → rs ≡ startRecord (routeOf rs) U G ∷ tail
+      go : (ss : List Record) × AllMade ss × (rs ≡ startRecord (routeOf rs) U G ∷ ss) → rs ≡ rewritten
       go (ss, ws, e) =
-          let os : kindsFollow 1 (routeOf rs) ss ≡ true = sym (ap (λ (x : List Record). kindsFollow 0 (routeOf rs) x) e) ∙ k in
-          let cs : endsThere ss ≡ true = sym (ap endsThere e) ∙ c in
-          let ps : fitsBehind U G 0 ss ≡ true = sym (ap (fitsBehind U G 0) e) ∙ places in
-          let em : onlyMonomials ss ≡ onlyMonomials tail =
-          rising-unique U G 0 0 (onlyMonomials ss) (onlyMonomials tail) (only-made ss ws) (only-made tail made) (only-all ss)
-          (only-all tail)
-          (rise ss ws os cs ps) (rise tail made kinds ends fits)
-          (λ i m. only-has i m ss ∙ sym (ap (hasMonomial i m) e) ∙ sym (same-monomials i m) ∙ sym (only-has i m tail)) in
-          let ev : unlessNone answered ss ≡ unlessNone answered tail = sym (ap (unlessNone answered) e) ∙ sym same-verdict in
           e
           ∙ ap (λ (x : List Record). startRecord (routeOf rs) U G ∷ x)
-          (shape answered 0 (routeOf rs) ss ws os cs
-          ∙ ap₂ (λ (x : List Record) (v : Verdict (List ℕ)). x ++ (noneRecords v ++ (endRecord (routeOf rs) ∷ []))) em ev
-          ∙ sym (shape answered 0 (routeOf rs) tail made kinds ends))
+          (order-split ss
+          ∙ ap₂ (λ (x y : List Record). x ++ y) (sym (same-order ss e))
+          (behind-start ss ws e ∙ behind-order (routeOf rs) (heldCondition rs) (heldVerdict rs)))
+          ∙ sym rewritten-tail

@@ -1,7 +1,7 @@
 -- A written entry passes questions 10, 11 and 12, whatever its route, its condition and its answers are, as long as a state is a state.
 -- Assumes nothing.
 use mathlib.Core.Path.{_≡_, refl, sym, ap, _∙_}
-use mathlib.Core.Bool.{true, false}
+use mathlib.Core.Bool.{Bool, true, false, not, cond}
 use mathlib.Core.List.{List, [], _∷_, _++_, append-assoc, map}
 use mathlib.Core.Logic.{_⊎_, inl, inr}
 use Prim.Native.Nat.{ℕ, zero, suc, _+_, _*_, _^_, _≤_, _<_}
@@ -10,16 +10,17 @@ use lib.Dec.{eqb, ltb}
 use borrow.Author.Tests.{lt-ltb, ltb-true, eq-eqb}
 use Rattle.ring.specs.Polynomial.{Polynomial}
 use Rattle.ring.specs.Table.{present, held}
-use Rattle.ring.specs.Lists.{has}
+use Rattle.ring.specs.Lists.{listed, has}
 use Rattle.order.specs.Order.{monomials, rises}
 use Rattle.ring.proofs.Bool.{and-right, both, or-right}
-use Rattle.ring.proofs.Lists.{has-first, has-rest}
+use Rattle.ring.proofs.Lists.{has-first, has-rest, has-append}
 use Rattle.order.proofs.Order.{rises-tail, rises-first, has-monomials, monomials-rise}
 use Rattle.solution.specs.Condition.{Condition, width}
+use Rattle.solution.specs.Order.{orderBytes}
 use Rattle.solution.specs.Elimination.{Verdict, solved, none}
 use Rattle.entry.specs.Record.{Record, routeField, fields, kind, among, isEnd, isMonomial, inBounds, startRecord, conditionRecord}
-use Rattle.entry.specs.Record.{answerRecord, endRecord, noneRecord}
-use Rattle.entry.specs.Entry.{conditionRecords, answerRecords, verdictRecords, entryRecords}
+use Rattle.entry.specs.Record.{answerRecord, endRecord, noneRecord, orderRecord, bodyOf, lowFirst, bodyFits, isDefault, isNeeded}
+use Rattle.entry.specs.Entry.{orderRecords, conditionRecords, answerRecords, verdictRecords, entryRecords}
 use Rattle.entry.specs.Questions.{hasEnd, mayFollow, kindsFollow, kindsFit, numbersFit}
 use Rattle.entry.specs.Inner.Places.{place, standsBehind, fitsBehind}
 use Rattle.entry.specs.Inner.Codes.{monomialRecord}
@@ -39,17 +40,18 @@ end-last (r ∷ rs) route = or-right (isEnd r) (end-last rs route)
 pub entry-has-end : (route : ℕ) (c : Condition) (v : Verdict (List ℕ)) → hasEnd (entryRecords route c v) ≡ true
 entry-has-end route c v = rw (entry-body route c v) (end-last (body route c v) route)
 
--- ---- question 11: kind 1, then kinds 2, then kinds 3 or a kind 5, then kind 4
+-- ---- question 11: kind 1, perhaps a kind 6, then kinds 2, then kinds 3 or a kind 5, then kind 4
 abbrev BeforeAnswers : ℕ → Type 0
-BeforeAnswers p = (p ≡ 1) ⊎ (p ≡ 2)
+BeforeAnswers p = (p ≡ 1) ⊎ ((p ≡ 2) ⊎ (p ≡ 6))
 
 abbrev BeforeEnd : ℕ → Type 0
 BeforeEnd p = BeforeAnswers p ⊎ (p ≡ 3)
 
 early-follows : (p k : ℕ) → BeforeAnswers p → has k (2 ∷ 3 ∷ 4 ∷ 5 ∷ []) ≡ true → mayFollow p k ≡ true
 unfolding mayFollow
-early-follows p k (inl e) h = rw e h
-early-follows p k (inr e) h = rw e h
+early-follows p k (inl e) h = rw e (has-append k (2 ∷ 3 ∷ 4 ∷ 5 ∷ []) (6 ∷ []) ∙ rw h)
+early-follows p k (inr (inl e)) h = rw e h
+early-follows p k (inr (inr e)) h = rw e h
 
 late-follows : (p k : ℕ) → BeforeEnd p → (k ≡ 3) ⊎ (k ≡ 4) → mayFollow p k ≡ true
 unfolding mayFollow has
@@ -76,7 +78,7 @@ module _ (route : ℕ) (rest : List Record) where
   condition-kinds p [] h k = k p h
   condition-kinds p (m ∷ ms) h k =
       kinds-on p route (conditionRecord m) (map conditionRecord ms ++ rest) (early-follows p 2 h refl) refl
-      (condition-kinds 2 ms (inr refl) k)
+      (condition-kinds 2 ms (inr (inl refl)) k)
 
   answer-kinds : (j p : ℕ) (ms : List ℕ) → BeforeEnd p → ((q : ℕ) → BeforeEnd q → kindsFollow q route rest ≡ true)
       → kindsFollow p route (map (answerRecord j) ms ++ rest) ≡ true
@@ -103,16 +105,33 @@ verdict-kinds U n p route (solved a) h =
 verdict-kinds U n p route (none state) h =
     kinds-on p route (noneRecord (state .0)) (endRecord route ∷ []) (early-follows p 5 h refl) refl (end-kind 5 route refl)
 
+-- the condition and the verdict, behind the start or the order
+pub told-kinds : (p route : ℕ) (c : Condition) (v : Verdict (List ℕ)) → BeforeAnswers p
+    → kindsFollow p route (conditionRecords c ++ (verdictRecords (c .U) (width c) v ++ (endRecord route ∷ []))) ≡ true
+unfolding conditionRecords
+told-kinds p route c v h =
+    condition-kinds route (verdictRecords (c .U) (width c) v ++ (endRecord route ∷ [])) p (monomials (width c) (present (c .table))) h
+    (λ q o. verdict-kinds (c .U) (width c) q route v o)
+
+order-kinds : (route : ℕ) (c : Condition) (v : Verdict (List ℕ))
+    → kindsFollow 1 route (orderRecords c ++ (conditionRecords c ++ (verdictRecords (c .U) (width c) v ++ (endRecord route ∷ [])))) ≡ true
+unfolding orderRecords kind mayFollow has
+order-kinds route c v = go (isDefault (c .U) (orderBytes (c .order)))
+  where
+    rest : List Record
+    rest = conditionRecords c ++ (verdictRecords (c .U) (width c) v ++ (endRecord route ∷ []))
+
+    go : (b : Bool) → kindsFollow 1 route (cond b [] (orderRecord (c .order) ∷ []) ++ rest) ≡ true
+    go true = told-kinds 1 route c v (inl refl)
+    go false = kinds-on 1 route (orderRecord (c .order)) rest refl refl (told-kinds 6 route c v (inr (inr refl)))
+
 pub entry-kinds : (route : ℕ) (c : Condition) (v : Verdict (List ℕ)) → kindsFit (entryRecords route c v) ≡ true
-unfolding kindsFit entryRecords conditionRecords kind mayFollow
+unfolding kindsFit entryRecords kind mayFollow
 entry-kinds route c v = ap (λ (x : ℕ). kindsFollow 0 x (entryRecords route c v)) (entry-route route c v) ∙ from-start
   where
     from-start : kindsFollow 0 route (entryRecords route c v) ≡ true
     from-start =
-        kinds-on 0 route (startRecord route (c .U) (c .G)) _ refl refl
-        (condition-kinds route (verdictRecords (c .U) (width c) v ++ (endRecord route ∷ [])) 1 (monomials (width c) (present (c .table)))
-        (inl refl)
-        (λ q h. verdict-kinds (c .U) (width c) q route v h))
+        kinds-on 0 route (startRecord route (c .U) (c .G)) _ refl refl (order-kinds route c v)
 
 -- ---- question 12: the places of a table's monomials rise, and stay between those of the tables before and behind it
 -- a record without a monomial that is in bounds, and those behind it
@@ -158,7 +177,7 @@ module _ (U G : ℕ) (l : U + G ≤ 10) where
 
   end-fits : (q route : ℕ) → fitsBehind U G q (endRecord route ∷ []) ≡ true
   unfolding fitsBehind kind fields among allFit
-  end-fits q route = fits-on U G q (endRecord route) [] refl (made-fits 4 (route ∷ []) refl U G) refl
+  end-fits q route = fits-on U G q (endRecord route) [] refl (made-fits 4 (route ∷ []) refl refl U G) refl
 
   verdict-fits : (v : Verdict (List ℕ)) (q route : ℕ) → VerdictFits U G v → q ≤ 16384
       → fitsBehind U G q (verdictRecords U (U + G) v ++ (endRecord route ∷ [])) ≡ true
@@ -166,16 +185,33 @@ module _ (U G : ℕ) (l : U + G ≤ 10) where
   verdict-fits (solved a) q route s h = answers-fit U a q (endRecord route ∷ []) (omega arith) h (λ p b. end-fits p route)
   verdict-fits (none state) q route s h =
       fits-on U G q (noneRecord (state .0)) (endRecord route ∷ []) refl
-      (made-fits 5 (state .0 ∷ []) refl U G ∙ both (lt-ltb (state .0) (2 ^ G) s) refl) (end-fits 0 route)
+      (made-fits 5 (state .0 ∷ []) refl refl U G ∙ both (lt-ltb (state .0) (2 ^ G) s) refl) (end-fits 0 route)
+
+-- a record of the order that is not the default
+order-bounds : (U G : ℕ) (order : List ℕ) → isDefault U (orderBytes order) ≡ false → inBounds U G (orderRecord order) ≡ true
+unfolding inBounds bodyFits isNeeded kind fields bodyOf lowFirst orderBytes listed
+order-bounds U G order e = rw e
 
 module _ (c : Condition) (l : width c ≤ 10) (route : ℕ) (v : Verdict (List ℕ)) (s : VerdictFits (c .U) (c .G) v) where
   pub entry-places : fitsBehind (c .U) (c .G) 0 (entryRecords route c v) ≡ true
-  unfolding entryRecords conditionRecords kind fields among allFit
+  unfolding entryRecords orderRecords conditionRecords kind fields among allFit
   entry-places =
-      fits-on (c .U) (c .G) 0 (startRecord route (c .U) (c .G)) _ refl (made-fits 1 (route ∷ c .U ∷ c .G ∷ []) refl (c .U) (c .G))
-      (fits-table (c .U) (c .G) 0 l (omega arith) 0 (present (c .table)) (verdictRecords (c .U) (width c) v ++ (endRecord route ∷ []))
-      (omega arith)
-      (λ p h. verdict-fits (c .U) (c .G) l v p route s (omega arith)))
+      fits-on (c .U) (c .G) 0 (startRecord route (c .U) (c .G)) _ refl (made-fits 1 (route ∷ c .U ∷ c .G ∷ []) refl refl (c .U) (c .G))
+      (go (isDefault (c .U) (orderBytes (c .order))) refl)
+    where
+      rest : List Record
+      rest = conditionRecords c ++ (verdictRecords (c .U) (width c) v ++ (endRecord route ∷ []))
+
+      told : fitsBehind (c .U) (c .G) 0 rest ≡ true
+      told =
+          fits-table (c .U) (c .G) 0 l (omega arith) 0 (present (c .table)) (verdictRecords (c .U) (width c) v ++ (endRecord route ∷ []))
+          (omega arith)
+          (λ p h. verdict-fits (c .U) (c .G) l v p route s (omega arith))
+
+      go : (b : Bool) → isDefault (c .U) (orderBytes (c .order)) ≡ b
+          → fitsBehind (c .U) (c .G) 0 (cond b [] (orderRecord (c .order) ∷ []) ++ rest) ≡ true
+      go true e = told
+      go false e = fits-on (c .U) (c .G) 0 (orderRecord (c .order)) rest refl (order-bounds (c .U) (c .G) (c .order) e) told
 
   pub entry-numbers : numbersFit (entryRecords route c v) ≡ true
   unfolding numbersFit

@@ -5,16 +5,22 @@ use mathlib.Core.List.{List, [], _∷_}
 use Prim.Native.Nat.{ℕ}
 use Rattle.entry.specs.Record.{Record, fields, size, widths, kind, lowFirst, fromLowFirst, bodyOf, valueIn, valueOf, startRecord}
 use Rattle.entry.specs.Record.{conditionRecord, answerRecord, endRecord, noneRecord, unknownField, maskField, stateField}
-use Rattle.entry.specs.Record.{givensField, bytes}
-use Rattle.entry.specs.Held.{next, untilEnd, firstRecords, records}
+use Rattle.entry.specs.Record.{givensField, orderRecord, bytes}
+use Rattle.ring.specs.Lists.{listed}
+use Rattle.solution.specs.Condition.{defaultOrder}
+use Rattle.solution.specs.Order.{orderBytes}
+use Rattle.entry.specs.Held.{next, untilEnd, firstRecords, records, orderIn}
 
--- the start of route 7 with 2 unknowns and 8 givens, the monomials 1 and 258 of the condition, 258 for unknown 1, 'none' in state 3, the end
+-- the start of route 7 with 2 unknowns and 8 givens, the order 1, 0, the monomials 1 and 258 of the condition, 258 for unknown 1, 'none' in
+-- state 3, the end
 unfoldable pub eachKind : List Record
-eachKind = startRecord 7 2 8 ∷ conditionRecord 1 ∷ conditionRecord 258 ∷ answerRecord 1 258 ∷ noneRecord 3 ∷ endRecord 7 ∷ []
+eachKind =
+    startRecord 7 2 8 ∷ orderRecord (1 ∷ 0 ∷ []) ∷ conditionRecord 1 ∷ conditionRecord 258 ∷ answerRecord 1 258 ∷ noneRecord 3 ∷ endRecord 7 ∷ []
 
 unfoldable pub eachKindBytes : List ℕ
 eachKindBytes =
     1 ∷ 7 ∷ 2 ∷ 8
+    ∷ 6 ∷ 1 ∷ 0 ∷ 255 ∷ 255 ∷ 255 ∷ 255
     ∷ 2 ∷ 1 ∷ 0
     ∷ 2 ∷ 2 ∷ 1
     ∷ 3 ∷ 1 ∷ 2 ∷ 1
@@ -23,11 +29,11 @@ eachKindBytes =
     ∷ []
 
 pub kinds-written : bytes eachKind ≡ eachKindBytes
-unfolding eachKind eachKindBytes bytes fields bodyOf lowFirst
+unfolding eachKind eachKindBytes orderBytes listed bytes fields bodyOf lowFirst
 kinds-written = refl
 
 pub kinds-read : records eachKindBytes ≡ eachKind
-unfolding eachKind eachKindBytes records firstRecords next untilEnd size fields widths kind bodyOf lowFirst
+unfolding eachKind eachKindBytes orderBytes listed records firstRecords next untilEnd size fields widths kind bodyOf lowFirst
 kinds-read = refl
 
 -- what some of them say
@@ -46,3 +52,12 @@ says-mask = refl
 pub says-state : valueOf stateField (5 ∷ 3 ∷ []) ≡ 3
 unfolding valueOf valueIn fields kind fromLowFirst
 says-state = refl
+
+pub says-order : orderIn eachKind ≡ 1 ∷ 0 ∷ 255 ∷ 255 ∷ 255 ∷ 255 ∷ []
+unfolding eachKind orderIn orderBytes listed kind fields bodyOf lowFirst
+says-order = refl
+
+-- 'It is left out for the order 0, 1, 2 and so on'
+pub says-default : orderIn (startRecord 7 2 8 ∷ conditionRecord 1 ∷ []) ≡ 0 ∷ 1 ∷ 255 ∷ 255 ∷ 255 ∷ 255 ∷ []
+unfolding orderIn orderBytes defaultOrder listed kind fields bodyOf lowFirst valueOf valueIn fromLowFirst
+says-default = refl

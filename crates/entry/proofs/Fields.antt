@@ -13,10 +13,10 @@ use borrow.Author.Tests.{eqb-true}
 use Rattle.ring.specs.Polynomial.{everyBelow}
 use Rattle.ring.specs.Lists.{has}
 use Rattle.ring.proofs.Bool.{or-cases, bool-cases, never}
-use Rattle.entry.specs.Record.{Record, Field, routeField, unknownsField, givensField, unknownField, maskField, stateField, layout}
-use Rattle.entry.specs.Record.{fields, width, widths, size, kind, fromLowFirst, sameField, among, valueIn, valueOf, fieldFits}
-use Rattle.entry.specs.Record.{bodyFits, inBounds}
-use Rattle.entry.proofs.Made.{every-kind}
+use Rattle.entry.specs.Record.{Record, Field, routeField, unknownsField, givensField, unknownField, maskField, stateField, orderField}
+use Rattle.entry.specs.Record.{layout, fields, width, widths, size, kind, fromLowFirst, sameField, among, valueIn, valueOf, fieldFits}
+use Rattle.entry.specs.Record.{bodyFits, isOrder, isDefault, isNeeded, inBounds}
+use Rattle.entry.proofs.Made.{every-kind, needed-other}
 
 -- ---- bytes
 one-byte : (bs : List ℕ) → fromLowFirst (take 1 bs) ≡ getD bs 0 0
@@ -110,6 +110,7 @@ unbounded (givensField ∷ fs) = unbounded fs
 unbounded (unknownField ∷ fs) = false
 unbounded (maskField ∷ fs) = false
 unbounded (stateField ∷ fs) = false
+unbounded (orderField ∷ fs) = unbounded fs
 
 body-unbounded : (U G : ℕ) (fs : List Field) (bs : List ℕ) → unbounded fs ≡ true → bodyFits U G fs bs ≡ true
 unfolding unbounded bodyFits
@@ -120,25 +121,32 @@ body-unbounded U G (givensField ∷ fs) bs h = body-unbounded U G fs (drop 1 bs)
 body-unbounded U G (unknownField ∷ fs) bs h = never h refl
 body-unbounded U G (maskField ∷ fs) bs h = never h refl
 body-unbounded U G (stateField ∷ fs) bs h = never h refl
+body-unbounded U G (orderField ∷ fs) bs h = body-unbounded U G fs (drop 1 bs) h
 
-pub in-bounds : (U G : ℕ) (r : Record) → unbounded (fields (kind r)) ≡ true → inBounds U G r ≡ true
+pub in-bounds : (U G : ℕ) (r : Record) → unbounded (fields (kind r)) ≡ true → inBounds U G r ≡ isNeeded U r
 unfolding inBounds
-in-bounds U G r h = body-unbounded U G (fields (kind r)) (drop 1 r) h
+in-bounds U G r h = rw (body-unbounded U G (fields (kind r)) (drop 1 r) h)
 
 -- 12, of each kind that has bounds
 module _ (U G : ℕ) (r : Record) where
   pub condition-fits : kind r ≡ 2 → inBounds U G r ≡ fieldFits U G maskField (valueOf maskField r)
   unfolding inBounds bodyFits valueOf valueIn fields
-  condition-fits e = rw e (and-true _)
+  condition-fits e = let n : isOrder r ≡ false = rw e in rw (needed-other U r n, e) (and-true _ ∙ and-true _)
 
   pub answer-fits : kind r ≡ 3
       → inBounds U G r ≡ (fieldFits U G unknownField (valueOf unknownField r) && fieldFits U G maskField (valueOf maskField r))
   unfolding inBounds bodyFits valueOf valueIn fields
-  answer-fits e = rw e (ap (_&&_ (fieldFits U G unknownField _)) (and-true _))
+  answer-fits e =
+      let n : isOrder r ≡ false = rw e in
+      rw (needed-other U r n, e) (and-true _ ∙ ap (_&&_ (fieldFits U G unknownField _)) (and-true _))
 
   pub none-fits : kind r ≡ 5 → inBounds U G r ≡ fieldFits U G stateField (valueOf stateField r)
   unfolding inBounds bodyFits valueOf valueIn fields
-  none-fits e = rw e (and-true _)
+  none-fits e = let n : isOrder r ≡ false = rw e in rw (needed-other U r n, e) (and-true _ ∙ and-true _)
+
+  pub order-fits : kind r ≡ 6 → inBounds U G r ≡ not (isDefault U (drop 1 r))
+  unfolding isNeeded fields unbounded
+  order-fits e = in-bounds U G r (rw e) ∙ rw e
 
 -- ---- sizes
 -- 0 where there is no such kind

@@ -10,23 +10,26 @@ use lib.Dec.{eqb, ltb}
 use borrow.Author.Tests.{lt-ltb, le-ltb, ltb-true, eqb-true, eqb-false, ne-eqb}
 use Rattle.ring.specs.declared.State.{State}
 use Rattle.ring.specs.Table.{IsTable, present, table, held, answerTable}
-use Rattle.ring.specs.Lists.{has}
+use Rattle.ring.specs.Lists.{listed, has}
 use Rattle.ring.proofs.Bool.{bool-iff, bool-cases}
 use Rattle.ring.proofs.Value.{value-cong}
 use Rattle.ring.proofs.Table.{is-table, same-table, present-tabulate, table-cong, answerTable-cong}
 use Rattle.order.specs.Order.{monomials}
 use Rattle.order.proofs.Order.{has-monomials}
-use Rattle.solution.specs.Condition.{Condition, width, conditionOf}
+use Rattle.solution.specs.Condition.{Condition, width}
+use Rattle.solution.specs.Order.{orderBytes}
 use Rattle.solution.specs.Elimination.{Verdict, solved, none}
 use Rattle.entry.specs.Record.{Record, routeField, unknownsField, givensField, maskField, stateField, fields, kind, among, valueOf}
-use Rattle.entry.specs.Record.{isNone, isMonomial, tableIn, startRecord, conditionRecord, answerRecord, endRecord, noneRecord}
-use Rattle.entry.specs.Entry.{conditionRecords, answerRecords, verdictRecords, entryRecords}
+use Rattle.entry.specs.Record.{isNone, isMonomial, tableIn, isDefault, startRecord, conditionRecord, answerRecord, endRecord}
+use Rattle.entry.specs.Record.{noneRecord, orderRecord}
+use Rattle.entry.specs.Entry.{orderRecords, conditionRecords, answerRecords, verdictRecords, entryRecords}
 use Rattle.entry.specs.Held.{routeOf, unknownsOf, givensOf, hasMonomial, conditionIn, answersIn, unlessNone, heldCondition}
 use Rattle.entry.specs.Held.{heldVerdict}
 use Rattle.entry.specs.Inner.Codes.{monomialRecord}
 use Rattle.entry.proofs.Made.{given, made-value, AllMade, all-made-append, made-is}
 use Rattle.entry.proofs.Monomials.{table-monomials, monomial-no-none, monomials-made}
 use Rattle.entry.proofs.Verdicts.{VerdictFits}
+use Rattle.solution.proofs.Order.{length-orderBytes}
 
 -- ---- which monomials stand in some records
 pub monomial-append : (i m : ℕ) (rs ss : List Record) → hasMonomial i m (rs ++ ss) ≡ (hasMonomial i m rs || hasMonomial i m ss)
@@ -89,6 +92,23 @@ unfolding verdictRecords AllMade fields
 verdict-made U n (solved a) = answers-made U n a
 verdict-made U n (none state) = (made-is 5 (state .0 ∷ []) refl, tt)
 
+-- the order's record, if there is one, is made, and holds no monomial
+order-made : (c : Condition) → AllMade (orderRecords c)
+unfolding orderRecords AllMade fields
+order-made c = go (isDefault (c .U) (orderBytes (c .order)))
+  where
+    go : (b : Bool) → AllMade (cond b [] (orderRecord (c .order) ∷ []))
+    go true = tt
+    go false = (made-is 6 (orderBytes (c .order)) (length-orderBytes (c .order)), tt)
+
+order-monomials : (i m : ℕ) (c : Condition) → hasMonomial i m (orderRecords c) ≡ false
+unfolding orderRecords hasMonomial kind fields among
+order-monomials i m c = go (isDefault (c .U) (orderBytes (c .order)))
+  where
+    go : (b : Bool) → hasMonomial i m (cond b [] (orderRecord (c .order) ∷ [])) ≡ false
+    go true = refl
+    go false = refl
+
 -- what its start says
 module _ (route : ℕ) (c : Condition) (v : Verdict (List ℕ)) where
   pub entry-route : routeOf (entryRecords route c v) ≡ route
@@ -108,9 +128,10 @@ module _ (route : ℕ) (c : Condition) (v : Verdict (List ℕ)) where
   unfolding entryRecords conditionRecords AllMade fields
   entry-made = (
     made-is 1 (route ∷ c .U ∷ c .G ∷ []) refl,
-    all-made-append (map conditionRecord (monomials (width c) (present (c .table)))) _
+    all-made-append (orderRecords c) _ (order-made c)
+        (all-made-append (map conditionRecord (monomials (width c) (present (c .table)))) _
         (monomials-made 0 (monomials (width c) (present (c .table))))
-        (all-made-append (verdictRecords (c .U) (width c) v) _ (verdict-made (c .U) (width c) v) (made-is 4 (route ∷ []) refl, tt)),
+        (all-made-append (verdictRecords (c .U) (width c) v) _ (verdict-made (c .U) (width c) v) (made-is 4 (route ∷ []) refl, tt))),
   )
 
   abbrev told : List Record
@@ -120,9 +141,11 @@ module _ (route : ℕ) (c : Condition) (v : Verdict (List ℕ)) where
       → hasMonomial i m (entryRecords route c v) ≡ ((eqb i 0 && has m (monomials (width c) (present (c .table)))) || hasMonomial i m told)
   unfolding entryRecords conditionRecords hasMonomial kind fields among
   entry-monomials i m =
-      monomial-append i m (map conditionRecord (monomials (width c) (present (c .table)))) (told ++ (endRecord route ∷ []))
+      monomial-append i m (orderRecords c) (conditionRecords c ++ (told ++ (endRecord route ∷ [])))
+      ∙ rw (order-monomials i m c)
+      (monomial-append i m (map conditionRecord (monomials (width c) (present (c .table)))) (told ++ (endRecord route ∷ []))
       ∙ rw (table-monomials i m 0 (monomials (width c) (present (c .table))), monomial-append i m told (endRecord route ∷ []))
-      (ap (λ (b : Bool). (eqb i 0 && has m (monomials (width c) (present (c .table)))) || b) (or-false (hasMonomial i m told)))
+      (ap (λ (b : Bool). (eqb i 0 && has m (monomials (width c) (present (c .table)))) || b) (or-false (hasMonomial i m told))))
 
   pub verdict-no-condition : (m : ℕ) (w : Verdict (List ℕ)) → hasMonomial 0 m (verdictRecords (c .U) (width c) w) ≡ false
   unfolding verdictRecords hasMonomial kind fields among
@@ -137,18 +160,12 @@ module _ (route : ℕ) (c : Condition) (v : Verdict (List ℕ)) where
       ∙ rw (verdict-no-condition m v, has-monomials (width c) (present (c .table)) m, lt-ltb m (2 ^ width c) l)
       (or-false (present (c .table) m && true) ∙ and-true (present (c .table) m))
 
-  table-back : IsTable (width c) (c .table) → table (width c) (conditionIn (entryRecords route c v)) ≡ c .table
+  pub table-back : IsTable (width c) (c .table) → table (width c) (conditionIn (entryRecords route c v)) ≡ c .table
   unfolding table
   table-back is =
       table-cong (width c) (conditionIn (entryRecords route c v)) (present (c .table)) condition-held
       ∙ same-table (width c) _ (c .table) (is-table (width c) (present (c .table))) is
       (λ p l. value-cong (width c) _ _ p (λ m h. present-tabulate (2 ^ width c) (present (c .table)) m h))
-
-  pub condition-back : c ≡ conditionOf (c .U) (c .G) (c .table) → IsTable (width c) (c .table) → heldCondition (entryRecords route c v) ≡ c
-  unfolding heldCondition
-  condition-back plain is =
-      let same : heldCondition (entryRecords route c v) ≡ conditionOf (c .U) (c .G) (c .table) = rw (entry-unknowns, entry-givens, table-back is) in
-      same ∙ sym plain
 
 -- each answer's
 pub answers-held : (route : ℕ) (c : Condition) (a : List ℕ) (j m : ℕ) → j < c .U → m < 2 ^ width c
@@ -185,6 +202,14 @@ module _ {A : Type 0} (a : A) where
   monomials-unless i [] = refl
   monomials-unless i (m ∷ ms) = rw (monomial-no-none m i) (monomials-unless i ms)
 
+  order-unless : (c : Condition) → unlessNone a (orderRecords c) ≡ solved a
+  unfolding orderRecords unlessNone kind
+  order-unless c = go (isDefault (c .U) (orderBytes (c .order)))
+    where
+      go : (b : Bool) → unlessNone a (cond b [] (orderRecord (c .order) ∷ [])) ≡ solved a
+      go true = refl
+      go false = refl
+
   answers-unless : (k n : ℕ) (b : List ℕ) → unlessNone a (answerRecords k n b) ≡ solved a
   unfolding answerRecords unlessNone
   answers-unless zero n b = refl
@@ -197,7 +222,8 @@ module _ {A : Type 0} (a : A) where
         → unlessNone a (entryRecords route c v) ≡ unlessNone a (verdictRecords (c .U) (width c) v ++ (endRecord route ∷ []))
     unfolding entryRecords conditionRecords unlessNone kind
     entry-unless v =
-        unless-append a (map conditionRecord (monomials (width c) (present (c .table))))
+        unless-append a (orderRecords c) (conditionRecords c ++ (verdictRecords (c .U) (width c) v ++ (endRecord route ∷ []))) (order-unless c)
+        ∙ unless-append a (map conditionRecord (monomials (width c) (present (c .table))))
         (verdictRecords (c .U) (width c) v ++ (endRecord route ∷ []))
         (monomials-unless 0 (monomials (width c) (present (c .table))))
 

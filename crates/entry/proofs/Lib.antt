@@ -1,3 +1,4 @@
+pub mod Same
 pub mod Made
 pub mod Fields
 pub mod Records
@@ -10,6 +11,8 @@ pub mod Bound
 pub mod Codes
 pub mod Held
 pub mod EntryPasses
+pub mod SameBytes
+pub mod OrderRecord
 pub mod Unique
 pub mod Canonical
 pub mod Passes

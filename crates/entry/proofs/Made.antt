@@ -2,21 +2,21 @@
 -- Each law goes by induction on the fields of a kind, so that it holds of any kind that `layout` has.
 -- Assumes nothing.
 use mathlib.Core.Path.{_≡_, refl, sym, ap, ap₂, _∙_}
-use mathlib.Core.Bool.{Bool, true, false, _&&_, cond}
+use mathlib.Core.Bool.{Bool, true, false, _&&_, not, cond, and-true}
 use mathlib.Core.List.{List, [], _∷_, _++_}
 use mathlib.Core.Logic.{_⊎_, inl, inr}
 use Prim.Native.Nat.{ℕ, zero, suc, _+_, _*_, _/_, _%_, _≤_, _<_}
 use native.Mathlib.Omega.{arith}
-use lib.Dec.{ltb}
+use lib.Dec.{eqb, ltb}
 use lib.ListN.{length, getD, take, drop, length-append, length-drop, take-append-drop, List·getD-eq-default}
 use lib.Seq.{take-at, drop-at, getD-drop, length-take-le}
 use borrow.Author.Tests.{ltb-true, ltb-false, eqb-true}
 use Rattle.ring.specs.Polynomial.{everyBelow}
 use Rattle.ring.proofs.Bool.{and-left, and-right, bool-cases, never}
 use Rattle.ring.proofs.Every.{every-all}
-use Rattle.entry.specs.Record.{Record, Field, routeField, unknownsField, givensField, unknownField, maskField, stateField, layout}
-use Rattle.entry.specs.Record.{fields, width, widths, sizeWith, size, kind, lowFirst, fromLowFirst, bodyOf, recordOf, place}
-use Rattle.entry.specs.Record.{sameField, among, valueIn, valueOf, fieldFits, bodyFits, inBounds, AreBytes}
+use Rattle.entry.specs.Record.{Record, Field, routeField, unknownsField, givensField, unknownField, maskField, stateField, orderField}
+use Rattle.entry.specs.Record.{layout, fields, width, widths, sizeWith, size, kind, lowFirst, fromLowFirst, bodyOf, recordOf, place}
+use Rattle.entry.specs.Record.{sameField, among, valueIn, valueOf, fieldFits, bodyFits, isOrder, isDefault, isNeeded, inBounds, AreBytes}
 
 -- ---- numbers in bytes
 length-low : (w v : ℕ) → length (lowFirst w v) ≡ w
@@ -52,6 +52,7 @@ some-width givensField = (0, refl)
 some-width unknownField = (0, refl)
 some-width maskField = (1, refl)
 some-width stateField = (0, refl)
+some-width orderField = (0, refl)
 
 module _ (f : Field) (v : ℕ) (bs : List ℕ) where
   field-back : fromLowFirst (take (width f) (lowFirst (width f) v ++ bs)) ≡ v
@@ -69,7 +70,8 @@ fieldAt (suc zero) = unknownsField
 fieldAt (suc (suc zero)) = givensField
 fieldAt (suc (suc (suc zero))) = unknownField
 fieldAt (suc (suc (suc (suc zero)))) = maskField
-fieldAt (suc (suc (suc (suc (suc i))))) = stateField
+fieldAt (suc (suc (suc (suc (suc zero))))) = stateField
+fieldAt (suc (suc (suc (suc (suc (suc i)))))) = orderField
 
 field-at : (f : Field) → fieldAt (place f) ≡ f
 unfolding fieldAt
@@ -79,6 +81,7 @@ field-at givensField = refl
 field-at unknownField = refl
 field-at maskField = refl
 field-at stateField = refl
+field-at orderField = refl
 
 same-field : (f g : Field) → sameField f g ≡ true → f ≡ g
 same-field f g e = sym (field-at f) ∙ ap fieldAt (eqb-true (place f) (place g) e) ∙ field-at g
@@ -118,15 +121,21 @@ fits-body U G (f ∷ fs) [] h = absurd (omega arith)
 fits-body U G (f ∷ fs) (v ∷ vs) h =
     rw (field-back f v (bodyOf fs vs), behind-field f v (bodyOf fs vs)) (ap (_&&_ (fieldFits U G f v)) (fits-body U G fs vs (omega arith)))
 
+-- every record but a kind 6 is needed
+pub needed-other : (U : ℕ) (r : Record) → isOrder r ≡ false → isNeeded U r ≡ true
+unfolding isNeeded
+needed-other U r e = rw e
+
 -- ---- records that are made: their kind, their size, and what they say
 module _ (k : ℕ) (vs : List ℕ) (h : length vs ≡ length (fields k)) where
   pub made-value : (f : Field) → valueOf f (recordOf k vs) ≡ given f (fields k) vs
   unfolding valueOf kind
   made-value f = value-body f (fields k) vs h
 
-  pub made-fits : (U G : ℕ) → inBounds U G (recordOf k vs) ≡ allFit U G (fields k) vs
+  -- of any kind but 6
+  pub made-fits : eqb k 6 ≡ false → (U G : ℕ) → inBounds U G (recordOf k vs) ≡ allFit U G (fields k) vs
   unfolding inBounds kind
-  made-fits U G = fits-body U G (fields k) vs h
+  made-fits e U G = rw (needed-other U (recordOf k vs) e) (and-true _ ∙ fits-body U G (fields k) vs h)
 
 -- ---- what question 12 tells of a field
 value-fits : (U G : ℕ) (f : Field) (fs : List Field) (bs : List ℕ) → among f fs ≡ true → bodyFits U G fs bs ≡ true
@@ -150,7 +159,8 @@ value-fits U G f (g ∷ fs) bs h b = go (bool-cases (sameField f g)) (value-fits
 pub field-fits : (U G : ℕ) (f : Field) (r : Record) → among f (fields (kind r)) ≡ true → inBounds U G r ≡ true
     → fieldFits U G f (valueOf f r) ≡ true
 unfolding inBounds valueOf
-field-fits U G f r h b = value-fits U G f (fields (kind r)) (drop 1 r) h b
+field-fits U G f r h b =
+    value-fits U G f (fields (kind r)) (drop 1 r) h (and-left (bodyFits U G (fields (kind r)) (drop 1 r)) (isNeeded U r) b)
 
 -- ---- kinds
 -- a test that every kind of the layout passes is passed by every kind that has fields

@@ -47,8 +47,8 @@ module _ (m : ℕ) where
 
   pub monomial-bounds : (U G i : ℕ) → i ≤ U → m < 2 ^ (U + G) → inBounds U G (monomialRecord i m) ≡ true
   unfolding fields allFit
-  monomial-bounds U G zero h l = made-fits 2 (m ∷ []) refl U G ∙ both (lt-ltb m (2 ^ (U + G)) l) refl
-  monomial-bounds U G (suc j) h l = made-fits 3 (j ∷ m ∷ []) refl U G ∙ both (lt-ltb j U h) (both (lt-ltb m (2 ^ (U + G)) l) refl)
+  monomial-bounds U G zero h l = made-fits 2 (m ∷ []) refl refl U G ∙ both (lt-ltb m (2 ^ (U + G)) l) refl
+  monomial-bounds U G (suc j) h l = made-fits 3 (j ∷ m ∷ []) refl refl U G ∙ both (lt-ltb j U h) (both (lt-ltb m (2 ^ (U + G)) l) refl)
 
 -- the monomials of records that were made for table k
 pub table-monomials : (i m k : ℕ) (ms : List ℕ) → hasMonomial i m (map (monomialRecord k) ms) ≡ (eqb i k && has m ms)

@@ -1,11 +1,12 @@
--- What it means that each of the questions 10, 11, 1, 2 and 12 is answered yes, as reading and audit put them (`calls`).
+-- What it means that each of the questions 10, 11, 1, 2, 12 and 17 is answered yes, as reading and audit put them (`calls`).
 -- Assumes nothing.
 use mathlib.Core.Path.{_≡_}
 use mathlib.Core.Bool.{true}
 use mathlib.Core.List.{List}
 use Rattle.tables.specs.Questions.{lettersFit}
+use Rattle.solution.specs.Order.{orderFits}
 use Rattle.entry.specs.Record.{Record}
-use Rattle.entry.specs.Held.{routeOf, unknownsOf, givensOf}
+use Rattle.entry.specs.Held.{routeOf, unknownsOf, givensOf, orderIn}
 use Rattle.entry.specs.Questions.{routeFits, hasEnd, kindsFit, numbersFit}
 
 pub record Passes (rs : List Record) : Type 0 where
@@ -14,3 +15,4 @@ pub record Passes (rs : List Record) : Type 0 where
   pub letters : lettersFit (unknownsOf rs) (givensOf rs) ≡ true
   pub route : routeFits (routeOf rs) ≡ true
   pub numbers : numbersFit rs ≡ true
+  pub order : orderFits (unknownsOf rs) (orderIn rs) ≡ true

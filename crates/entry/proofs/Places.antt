@@ -14,7 +14,7 @@ use Rattle.ring.proofs.Bool.{bool-iff, and-left-comm, and-left, and-right, both
 use Rattle.order.specs.Order.{before}
 use Rattle.order.specs.Inner.Place.{rank}
 use Rattle.order.proofs.Relation.{before-rank, rank-most}
-use Rattle.entry.specs.Record.{Record, maskField, fields, kind, among, valueOf, isMonomial, tableIn, bodyFits, inBounds}
+use Rattle.entry.specs.Record.{Record, maskField, fields, kind, among, valueOf, isMonomial, tableIn, bodyFits, isNeeded, inBounds}
 use Rattle.entry.specs.Questions.{allInBounds, standsBefore, inOrder, allInOrder}
 use Rattle.entry.specs.Inner.Places.{place, placeOf, standsBehind, fitsBehind}
 use Rattle.entry.specs.Inner.Codes.{monomialRecord}
@@ -118,6 +118,6 @@ module _ (U G : ℕ) (l : U + G ≤ 10) where
 
   -- the law that the code's question 12 stands on
   pub numbers-by-places : (rs : List Record) → fitsBehind U G 0 rs ≡ (allInBounds U G rs && allInOrder rs)
-  unfolding allInOrder inOrder placeOf kind fields among inBounds bodyFits
+  unfolding allInOrder inOrder placeOf kind fields among inBounds bodyFits isNeeded
   numbers-by-places [] = fits-behind [] [] refl
   numbers-by-places (r ∷ rs) = fits-behind [] (r ∷ rs) refl

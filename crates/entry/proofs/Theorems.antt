@@ -5,6 +5,7 @@
 use mathlib.Core.Path.{_≡_, refl, sym, ap, ap₂, _∙_}
 use mathlib.Core.Bool.{Bool, true, false, cond}
 use mathlib.Core.List.{List, [], _∷_, _++_}
+use mathlib.Core.Logic.{_↔_}
 use Prim.Native.Nat.{ℕ, _+_, _≤_}
 use lib.Dec.{eqb}
 use lib.ListN.{length, take}
@@ -14,20 +15,23 @@ use Rattle.ring.proofs.Bool.{and-left, and-right, both, never}
 use Rattle.tables.specs.Questions.{lettersFit}
 use Rattle.tables.proofs.Questions.{letters-small, unknowns-small}
 use Rattle.solution.specs.Condition.{Condition, width, polynomial, defaultOrder, IsOrder}
+use Rattle.solution.specs.Order.{orderBytes}
 use Rattle.solution.specs.Elimination.{Verdict, solved, none, solve, solvable, booleAnswers, booleTable, smallestBlocked}
 use Rattle.solution.specs.General.{RightVerdict}
-use Rattle.solution.proofs.Orders.{default-order}
+use Rattle.solution.proofs.Order.{each-order, bytes-fit}
 use Rattle.solution.proofs.Verdict.{AreBooles, right-solved, right-none}
-use Rattle.entry.specs.Record.{Record, AreBytes, bytes}
+use Rattle.entry.specs.Record.{Record, isOrder, AreBytes, sameBytes, bytes}
 use Rattle.entry.specs.Entry.{entryRecords, archivedRecords, entry, Archivable}
-use Rattle.entry.specs.Held.{records, routeOf, unknownsOf, givensOf, answersIn, says, heldCondition, heldVerdict}
-use Rattle.entry.specs.Questions.{sameBytes, sameVerdict, answersHold}
+use Rattle.entry.specs.Held.{records, second, routeOf, unknownsOf, givensOf, orderIn, answersIn, says, heldCondition, heldVerdict}
+use Rattle.entry.specs.Questions.{sameVerdict, answersHold}
 use Rattle.entry.proofs.Records.{records-made}
 use Rattle.entry.proofs.Back.{entry-records}
 use Rattle.entry.proofs.Verdicts.{solve-fits}
 use Rattle.entry.proofs.EntryPasses.{entry-has-end, entry-kinds, entry-numbers}
-use Rattle.entry.proofs.Held.{entry-route, entry-unknowns, entry-givens, condition-back, verdict-back, answers-held, solved-unless}
+use Rattle.entry.proofs.Held.{entry-route, entry-unknowns, entry-givens, verdict-back, answers-held, solved-unless}
 use Rattle.entry.proofs.Held.{none-unless}
+use Rattle.entry.proofs.SameBytes.{bytes-same, same-bytes}
+use Rattle.entry.proofs.OrderRecord.{no-record-exactly, order-back, condition-back}
 use Rattle.entry.proofs.Canonical.{records-end, canonical}
 use Rattle.entry.proofs.Bytes.{records-bytes}
 use Rattle.entry.proofs.Bound.{entry-most}
@@ -58,15 +62,14 @@ pub record ReadsBack (route : ℕ) (c : Condition) (rs : List Record) : Type 0 w
   pub of-route : routeOf rs ≡ route
   pub of-unknowns : unknownsOf rs ≡ c .U
   pub of-givens : givensOf rs ≡ c .G
+  pub of-order : orderIn rs ≡ orderBytes (c .order)
   pub condition : heldCondition rs ≡ c
   pub verdict : heldVerdict rs ≡ solve c
   pub used : length (bytes rs) ≡ length (entry route c)
 
 -- the order of a condition that has an entry
 pub archived-order : (route : ℕ) (c : Condition) → Archivable route c → IsOrder (c .U) (c .order)
-archived-order route c a =
-    let o : c .order ≡ defaultOrder (c .U) = ap (λ (x : Condition). x .order) (a .plain) in
-    rw o (default-order (c .U))
+archived-order route c a = each-order (c .U) (c .order) (a .of-order)
 
 written : (route : ℕ) (c : Condition) → Archivable route c → ReadsBack route c (archivedRecords route c)
 unfolding entry
@@ -74,6 +77,8 @@ written route c a =
     let u : unknownsOf (archivedRecords route c) ≡ c .U = entry-unknowns route c (solve c) in
     let g : givensOf (archivedRecords route c) ≡ c .G = entry-givens route c (solve c) in
     let r : routeOf (archivedRecords route c) ≡ route = entry-route route c (solve c) in
+    let o : orderIn (archivedRecords route c) ≡ orderBytes (c .order) = order-back route c (solve c) in
+    let few : c .U ≤ 6 = unknowns-small (c .U) (c .G) (a .letters) in
     record {
       passes = record {
         whole = entry-has-end route c (solve c);
@@ -81,43 +86,45 @@ written route c a =
         letters = rw (u, g) (a .letters);
         route = rw r (a .of-route);
         numbers = entry-numbers c (letters-small (c .U) (c .G) (a .letters)) route (solve c) (solve-fits c (archived-order route c a));
+        order = rw (u, o) (bytes-fit (c .U) (c .order) few (a .of-order));
       };
       of-route = r;
       of-unknowns = u;
       of-givens = g;
-      condition = condition-back route c (solve c) (a .plain) (a .of-table);
+      of-order = o;
+      condition = condition-back route c (solve c) few (a .of-order) (a .of-table);
       verdict = verdict-back route c (solve c) (solve-fits c (archived-order route c a));
       used = refl;
     }
 
--- demand 2: a written entry, with any bytes behind it, reads back: the route, U, G, the condition, solved or 'none' and the state,
+-- demand 2: a written entry, with any bytes behind it, reads back: the route, U, G, the order, the condition, solved or 'none' and the state,
 -- the answers, and the length used
 pub reads-back : (route : ℕ) (c : Condition) (behind : List ℕ) → Archivable route c → ReadsBack route c (records (entry route c ++ behind))
 reads-back route c behind a = rw (entry-records route c behind) (written route c a)
 
--- bytes that pass questions 10, 11, 1, 2 and 12 are, as far as they are used, the bytes of the entry of what they hold
+-- the entry without a kind 6 is the one for the order 0, 1, 2 and so on
+pub no-order-exactly : (route : ℕ) (c : Condition) → Archivable route c
+    → (isOrder (second (archivedRecords route c)) ≡ false) ↔ (c .order ≡ defaultOrder (c .U))
+no-order-exactly route c a = no-record-exactly route c (solve c) (unknowns-small (c .U) (c .G) (a .letters)) (a .of-order)
+
+-- one entry is of one route and one condition, with one order
+pub one-form : (route : ℕ) (c : Condition) (other-route : ℕ) (d : Condition) → Archivable route c → Archivable other-route d
+    → entry route c ≡ entry other-route d → (route ≡ other-route) × (c ≡ d)
+one-form route c other-route d a b e =
+    let x : ReadsBack route c (records (entry route c ++ [])) = reads-back route c [] a in
+    let y : ReadsBack other-route d (records (entry route c ++ [])) = rw e (reads-back other-route d [] b) in
+    (sym (x .of-route) ∙ y .of-route, sym (x .condition) ∙ y .condition)
+
+-- bytes that pass questions 10, 11, 1, 2, 12 and 17 are, as far as they are used, the bytes of the entry of what they hold
 pub accepted-canonical : (bs : List ℕ) → AreBytes bs → Passes (records bs)
     → take (length (bytes (records bs))) bs
     ≡ bytes (entryRecords (routeOf (records bs)) (heldCondition (records bs)) (heldVerdict (records bs)))
 accepted-canonical bs are p =
     sym (records-bytes bs)
     ∙ ap bytes (canonical (records bs) (records-made bs are) (p .kinds) (records-end bs)
-    (letters-small (unknownsOf (records bs)) (givensOf (records bs)) (p .letters)) (p .numbers))
+    (letters-small (unknownsOf (records bs)) (givensOf (records bs)) (p .letters)) (p .numbers) (p .order))
 
 -- ---- the audit
-pub bytes-same : (xs ys : List ℕ) → sameBytes xs ys ≡ true → xs ≡ ys
-unfolding sameBytes
-bytes-same [] [] e = refl
-bytes-same [] (y ∷ ys) e = never e refl
-bytes-same (x ∷ xs) [] e = never e refl
-bytes-same (x ∷ xs) (y ∷ ys) e =
-    ap₂ _∷_ (eqb-true x y (and-left (eqb x y) (sameBytes xs ys) e)) (bytes-same xs ys (and-right (eqb x y) (sameBytes xs ys) e))
-
-pub same-bytes : (xs : List ℕ) → sameBytes xs xs ≡ true
-unfolding sameBytes
-same-bytes [] = refl
-same-bytes (x ∷ xs) = both (eq-eqb x x refl) (same-bytes xs)
-
 pub verdict-same : (v w : Verdict (List ℕ)) → sameVerdict v w ≡ true → v ≡ w
 verdict-same (solved a) (solved b) e = ap solved (bytes-same a b e)
 verdict-same (solved a) (none state) e = never e refl
@@ -128,7 +135,7 @@ pub same-verdict : (v : Verdict (List ℕ)) → sameVerdict v v ≡ true
 same-verdict (solved a) = same-bytes a
 same-verdict (none state) = eq-eqb (state .0) (state .0) refl
 
--- demand 2: 'Bytes that pass the audit are exactly those that the writer makes'. If each of 10, 11, 1, 2, 12, 13 is answered yes, the bytes, as
+-- demand 2: 'Bytes that pass the audit are exactly those that the writer makes'. If each of 10, 11, 1, 2, 12, 17, 13 is answered yes, the bytes, as
 -- far as they are used, are the entry of the route and condition that reading them gives ..
 pub audited-entry : (bs : List ℕ) → AreBytes bs → Passes (records bs) → answersHold (records bs) ≡ true
     → take (length (bytes (records bs))) bs ≡ entry (routeOf (records bs)) (heldCondition (records bs))
@@ -146,7 +153,7 @@ entry-holds route c behind a =
     let r : ReadsBack route c (records (entry route c ++ behind)) = reads-back route c behind a in
     rw (r .verdict, r .condition) (same-verdict (solve c))
 
--- 'No entry exceeds 27,654 bytes'
-pub entry-bound : (route : ℕ) (c : Condition) → lettersFit (c .U) (c .G) ≡ true → length (entry route c) ≤ 27654
+-- 'The bound on an entry grows to 27,661 bytes'
+pub entry-bound : (route : ℕ) (c : Condition) → lettersFit (c .U) (c .G) ≡ true → length (entry route c) ≤ 27661
 unfolding entry
 entry-bound route c letters = entry-most route c (solve c) (unknowns-small (c .U) (c .G) letters) (letters-small (c .U) (c .G) letters)

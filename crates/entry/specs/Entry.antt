@@ -1,17 +1,23 @@
--- The entry of a condition (document 01, 'The archive entry'): 'An entry is one kind 1; kind 2 in written order; kind 3 by unknown,
+-- The entry of a condition (document 01, 'The archive entry'; document 02, C-11): 'An entry is one kind 1; kind 2 in written order; kind 3 by unknown,
 -- then written order, or one kind 5; one kind 4. Answers are Boole's'.
 -- Assumes nothing.
 use mathlib.Core.Path.{_≡_}
-use mathlib.Core.Bool.{true}
+use mathlib.Core.Bool.{true, cond}
 use mathlib.Core.List.{List, [], _∷_, _++_, map}
 use Prim.Native.Nat.{ℕ, zero, suc}
 use Rattle.ring.specs.Table.{IsTable, present, held}
 use Rattle.tables.specs.Questions.{lettersFit}
 use Rattle.order.specs.Order.{monomials}
-use Rattle.solution.specs.Condition.{Condition, width, conditionOf}
+use Rattle.solution.specs.Condition.{Condition, width, ListsEach}
+use Rattle.solution.specs.Order.{orderBytes}
 use Rattle.solution.specs.Elimination.{Verdict, solved, none, solve}
-use Rattle.entry.specs.Record.{Record, startRecord, conditionRecord, answerRecord, endRecord, noneRecord, bytes}
+use Rattle.entry.specs.Record.{Record, startRecord, conditionRecord, answerRecord, endRecord, noneRecord}
+use Rattle.entry.specs.Record.{orderRecord, isDefault, bytes}
 use Rattle.entry.specs.Questions.{routeFits}
+
+-- 'A kind 6 record .. follows kind 1'. 'It is left out for the order 0, 1, 2 and so on'
+unfoldable pub orderRecords : Condition → List Record
+orderRecords c = cond (isDefault (c .U) (orderBytes (c .order))) [] (orderRecord (c .order) ∷ [])
 
 -- 'kind 2 in written order': the monomials of the condition
 unfoldable pub conditionRecords : Condition → List Record
@@ -30,7 +36,8 @@ verdictRecords U n (none state) = noneRecord (state .0) ∷ []
 -- the records of an entry that gives a verdict on a condition
 unfoldable pub entryRecords : ℕ → Condition → Verdict (List ℕ) → List Record
 entryRecords route c verdict =
-    startRecord route (c .U) (c .G) ∷ (conditionRecords c ++ (verdictRecords (c .U) (width c) verdict ++ (endRecord route ∷ [])))
+    startRecord route (c .U) (c .G)
+    ∷ (orderRecords c ++ (conditionRecords c ++ (verdictRecords (c .U) (width c) verdict ++ (endRecord route ∷ []))))
 
 -- the records of the entry of a route and its condition: 'Answers are Boole's'
 abbrev pub archivedRecords : ℕ → Condition → List Record
@@ -44,6 +51,5 @@ entry route c = bytes (archivedRecords route c)
 pub record Archivable (route : ℕ) (c : Condition) : Type 0 where
   pub letters : lettersFit (c .U) (c .G) ≡ true
   pub of-route : routeFits route ≡ true
-  -- 'Unknown 0 goes first, then 1, and so on': an entry says nothing of another order
-  pub plain : c ≡ conditionOf (c .U) (c .G) (c .table)
+  pub of-order : ListsEach (c .U) (c .order)
   pub of-table : IsTable (width c) (c .table)

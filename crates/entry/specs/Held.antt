@@ -1,4 +1,4 @@
--- What some bytes hold (document 01, 'The archive entry'): their records, and what these say of a condition and its answers.
+-- What some bytes hold (document 01, 'The archive entry'; document 02, C-11): their records, and what these say of a condition and its answers.
 -- Every definition is total, on any bytes.
 -- Assumes nothing.
 use mathlib.Core.Bool.{Bool, false, _&&_, _||_, cond}
@@ -9,10 +9,11 @@ use lib.ListN.{length, take, drop}
 use Rattle.ring.specs.Polynomial.{Polynomial}
 use Rattle.ring.specs.Table.{table, answerTable}
 use Rattle.solution.specs.Substitution.{Substitution}
-use Rattle.solution.specs.Condition.{Condition, conditionOf}
+use Rattle.solution.specs.Condition.{Condition, ordered}
+use Rattle.solution.specs.Order.{defaultBytes}
 use Rattle.solution.specs.Elimination.{Verdict, solved, none}
 use Rattle.entry.specs.Record.{Record, routeField, unknownsField, givensField, maskField, stateField, size, kind, valueOf, isEnd}
-use Rattle.entry.specs.Record.{isNone, isMonomial, tableIn}
+use Rattle.entry.specs.Record.{isNone, isOrder, isMonomial, tableIn}
 
 -- the record that the bytes begin with, no bytes where there is no whole one
 unfoldable pub next : List ℕ → Record
@@ -47,6 +48,14 @@ unknownsOf rs = valueOf unknownsField (first rs)
 abbrev pub givensOf : List Record → ℕ
 givensOf rs = valueOf givensField (first rs)
 
+-- the order, in bytes: those of the kind 6 record that 'follows kind 1'. 'It is left out for the order 0, 1, 2 and so on'
+abbrev pub second : List Record → Record
+second [] = []
+second (r ∷ rs) = first rs
+
+unfoldable pub orderIn : List Record → List ℕ
+orderIn rs = cond (isOrder (second rs)) (drop 1 (second rs)) (defaultBytes (unknownsOf rs))
+
 -- is the monomial with the mask m in the records, for the condition, 0, or for the answer of unknown j, j + 1?
 unfoldable pub hasMonomial : ℕ → ℕ → List Record → Bool
 hasMonomial i m [] = false
@@ -72,7 +81,8 @@ says rs = unlessNone (answersIn rs) rs
 
 -- the same in tables: the condition, and the answers or 'none' and the state
 unfoldable pub heldCondition : List Record → Condition
-heldCondition rs = conditionOf (unknownsOf rs) (givensOf rs) (table (unknownsOf rs + givensOf rs) (conditionIn rs))
+heldCondition rs =
+    ordered (unknownsOf rs) (givensOf rs) (take (unknownsOf rs) (orderIn rs)) (table (unknownsOf rs + givensOf rs) (conditionIn rs))
 
 unfoldable pub heldVerdict : List Record → Verdict (List ℕ)
 heldVerdict rs = unlessNone (answerTable (unknownsOf rs) (unknownsOf rs + givensOf rs) (answersIn rs)) rs

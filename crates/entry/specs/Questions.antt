@@ -1,5 +1,5 @@
--- The questions that are put to an entry: 2, 10, 11, 12 and 13 (document 01, 'The questions, and the number if the answer is no'). Their order
--- is in `calls`.
+-- The questions that are put to an entry: 2, 10, 11, 12 and 13 (document 01, 'The questions, and the number if the answer is no';
+-- document 02, C-11). Their order is in `calls`.
 -- Each is a Bool function, total on any records, and so on any bytes.
 -- Assumes nothing.
 use mathlib.Core.Bool.{Bool, true, false, _&&_, _||_, not, cond}
@@ -10,27 +10,29 @@ use lib.ListN.{getD}
 use Rattle.ring.specs.Lists.{has}
 use Rattle.order.specs.Order.{before}
 use Rattle.solution.specs.Elimination.{Verdict, solved, none, solve}
-use Rattle.entry.specs.Record.{Record, routeField, maskField, kind, valueOf, isEnd, isMonomial, tableIn, inBounds}
+use Rattle.entry.specs.Record.{Record, routeField, maskField, kind, valueOf, isEnd, isMonomial, tableIn, inBounds, sameBytes}
 use Rattle.entry.specs.Held.{routeOf, unknownsOf, givensOf, heldCondition, heldVerdict}
 
 -- 2: 'Is the route 1 to 250?'
 unfoldable pub routeFits : ℕ → Bool
 routeFits route = leb 1 route && leb route 250
 
--- 10: 'Does every record, to the first kind 4, have kind 1 to 5 and a whole body, and is there a kind 4?'
+-- 10: 'Does every record, to the first kind 4, have kind 1 to 5 and a whole body, and is there a kind 4?' 'Question 10 accepts kind 6'.
 -- Records go to the first kind 4 or to where no whole record stands, so that the question is whether there is a kind 4 among them
 unfoldable pub hasEnd : List Record → Bool
 hasEnd [] = false
 hasEnd (r ∷ rs) = isEnd r || hasEnd rs
 
--- 'An entry is one kind 1; kind 2 ..; kind 3 .., or one kind 5; one kind 4': the kinds that may stand right behind each kind, kind 1 first
+-- 'An entry is one kind 1; kind 2 ..; kind 3 .., or one kind 5; one kind 4', and 'A kind 6 record .. follows kind 1': the kinds that may stand right
+-- behind each kind, kind 1 first
 abbrev pub followers : List (List ℕ)
 followers =
-    (2 ∷ 3 ∷ 4 ∷ 5 ∷ [])
+    (2 ∷ 3 ∷ 4 ∷ 5 ∷ 6 ∷ [])
     ∷ (2 ∷ 3 ∷ 4 ∷ 5 ∷ [])
     ∷ (3 ∷ 4 ∷ [])
     ∷ []
     ∷ (4 ∷ [])
+    ∷ (2 ∷ 3 ∷ 4 ∷ 5 ∷ [])
     ∷ []
 
 -- may kind k stand right behind kind p, or first, where p is 0?
@@ -68,13 +70,6 @@ allInOrder (r ∷ (s ∷ rs)) = inOrder r s && allInOrder (s ∷ rs)
 -- 12: 'Are masks below 2^n, unknowns below U, the state below 2^G, all in order, none twice?'
 unfoldable pub numbersFit : List Record → Bool
 numbersFit rs = allInBounds (unknownsOf rs) (givensOf rs) rs && allInOrder rs
-
--- the bytes are the same
-unfoldable pub sameBytes : List ℕ → List ℕ → Bool
-sameBytes [] [] = true
-sameBytes [] (y ∷ ys) = false
-sameBytes (x ∷ xs) [] = false
-sameBytes (x ∷ xs) (y ∷ ys) = eqb x y && sameBytes xs ys
 
 -- both are solved, with the same answers, or both 'none', with the same state
 abbrev pub sameVerdict : Verdict (List ℕ) → Verdict (List ℕ) → Bool

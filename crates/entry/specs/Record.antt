@@ -1,17 +1,18 @@
--- The records of an entry (document 01, 'The archive entry'): 'Each record is one byte of kind, then a body whose length the kind fixes.'
+-- The records of an entry (document 01, 'The archive entry'; document 02, C-11): 'Each record is one byte of kind, then a body whose length the kind fixes.'
 -- A record is its bytes. What stands in the body of each kind is said once, in `layout`; lengths, bytes and what a record says follow from it.
 -- Assumes nothing.
-use mathlib.Core.Bool.{Bool, true, false, _&&_, _||_, cond}
+use mathlib.Core.Bool.{Bool, true, false, _&&_, _||_, not, cond}
 use mathlib.Core.List.{List, [], _∷_, _++_}
 use Prim.Native.Nat.{ℕ, zero, suc, _+_, _*_, _/_, _%_, _^_, _<_}
 use lib.Dec.{eqb, ltb}
 use lib.ListN.{getD, take, drop}
+use Rattle.solution.specs.Order.{orderBytes, defaultBytes}
 
 -- 'one byte of kind, then a body'
 abbrev pub Record : Type 0
 Record = List ℕ
 
--- what stands in bodies: the route, U, G, an unknown's number, a monomial's mask, a state
+-- what stands in bodies: the route, U, G, an unknown's number, a monomial's mask, a state, a place of the order
 pub data Field : Type 0 where
   routeField : Field
   unknownsField : Field
@@ -19,6 +20,7 @@ pub data Field : Type 0 where
   unknownField : Field
   maskField : Field
   stateField : Field
+  orderField : Field
 
 -- the body of each kind, kind 1 first
 abbrev pub layout : List (List Field)
@@ -33,6 +35,8 @@ layout =
     ∷ (routeField ∷ [])
     -- 'kind 5, one byte: 'none', the state'
     ∷ (stateField ∷ [])
+    -- 'A kind 6 record, six bytes, ..: the unknown numbers in order, then 255 in unused places'
+    ∷ (orderField ∷ orderField ∷ orderField ∷ orderField ∷ orderField ∷ orderField ∷ [])
     ∷ []
 
 -- the fields of kind k: none where there is no such kind
@@ -48,6 +52,7 @@ width givensField = 1
 width unknownField = 1
 width maskField = 2
 width stateField = 1
+width orderField = 1
 
 -- the number of bytes of fields
 unfoldable pub widths : List Field → ℕ
@@ -103,6 +108,9 @@ endRecord route = recordOf 4 (route ∷ [])
 abbrev pub noneRecord : ℕ → Record
 noneRecord state = recordOf 5 (state ∷ [])
 
+abbrev pub orderRecord : List ℕ → Record
+orderRecord order = recordOf 6 (orderBytes order)
+
 -- the bytes of records one after another
 unfoldable pub bytes : List Record → List ℕ
 bytes [] = []
@@ -117,6 +125,7 @@ place givensField = 2
 place unknownField = 3
 place maskField = 4
 place stateField = 5
+place orderField = 6
 
 abbrev pub sameField : Field → Field → Bool
 sameField f g = eqb (place f) (place g)
@@ -141,6 +150,9 @@ isEnd r = eqb (kind r) 4
 abbrev pub isNone : Record → Bool
 isNone r = eqb (kind r) 5
 
+abbrev pub isOrder : Record → Bool
+isOrder r = eqb (kind r) 6
+
 -- it holds a monomial
 abbrev pub isMonomial : Record → Bool
 isMonomial r = among maskField (fields (kind r))
@@ -157,15 +169,31 @@ fieldFits U G givensField v = true
 fieldFits U G unknownField v = ltb v U
 fieldFits U G maskField v = ltb v (2 ^ (U + G))
 fieldFits U G stateField v = ltb v (2 ^ G)
+fieldFits U G orderField v = true
 
 -- of every field of a body
 unfoldable pub bodyFits : ℕ → ℕ → List Field → List ℕ → Bool
 bodyFits U G [] bs = true
 bodyFits U G (f ∷ fs) bs = fieldFits U G f (fromLowFirst (take (width f) bs)) && bodyFits U G fs (drop (width f) bs)
 
--- of a record
+-- the bytes are the same
+unfoldable pub sameBytes : List ℕ → List ℕ → Bool
+sameBytes [] [] = true
+sameBytes [] (y ∷ ys) = false
+sameBytes (x ∷ xs) [] = false
+sameBytes (x ∷ xs) (y ∷ ys) = eqb x y && sameBytes xs ys
+
+-- are these the bytes of the order 0, 1, 2 and so on?
+unfoldable pub isDefault : ℕ → List ℕ → Bool
+isDefault U bs = sameBytes bs (defaultBytes U)
+
+-- 12, of kind 6: it 'is left out for the order 0, 1, 2 and so on, and must be, so question 12 refuses it there, and asks nothing else of kind 6'
+unfoldable pub isNeeded : ℕ → Record → Bool
+isNeeded U r = not (isOrder r && isDefault U (drop 1 r))
+
+-- 12, of a record
 unfoldable pub inBounds : ℕ → ℕ → Record → Bool
-inBounds U G r = bodyFits U G (fields (kind r)) (drop 1 r)
+inBounds U G r = bodyFits U G (fields (kind r)) (drop 1 r) && isNeeded U r
 
 -- each is a byte
 abbrev pub AreBytes : List ℕ → Type 0

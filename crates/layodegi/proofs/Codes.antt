@@ -1,31 +1,32 @@
 -- No answer is lost in its code: taken apart, the code that an exported function returns gives back the answer that its contract names,
--- whatever the caller lends. For numbers of questions are at most 16, a state is below 256, an entry has at most 27,654 bytes, and a volume
+-- whatever the caller lends. For numbers of questions are at most 17, a state is below 256, an entry has at most 27,661 bytes, and a volume
 -- at most 250 entries, since their routes rise.
 -- Assumes nothing.
 use mathlib.Core.Path.{_≡_, refl, sym, ap, _∙_, subst}
-use mathlib.Core.Bool.{Bool, true, false, cond}
+use mathlib.Core.Bool.{Bool, true, false, not, _&&_, cond}
 use mathlib.Core.List.{List, [], _∷_, _++_}
 use Prim.Native.Nat.{ℕ, zero, suc, _+_, _*_, _/_, _%_, _^_, _≤_, _<_}
 use native.Mathlib.Decide.{ℕ-discrete}
 use native.Mathlib.Omega.{arith}
-use lib.Dec.{leb}
+use lib.Dec.{eqb, leb}
 use lib.ListN.{length, drop}
 use lib.Pow.{pow-mono}
-use borrow.Author.Tests.{leb-true, ne-eqb}
+use borrow.Author.Tests.{leb-true, eq-eqb, ne-eqb}
 use Rattle.ring.specs.declared.State.{State}
 use Rattle.ring.specs.declared.Choice.{Choice}
 use Rattle.ring.specs.Polynomial.{value}
 use Rattle.ring.specs.Letters.{point}
 use Rattle.ring.specs.Table.{present}
-use Rattle.ring.proofs.Bool.{and-left, and-right, digit-lt}
-use Rattle.tables.specs.declared.Question.the-variants.{Letters, Solution}
+use Rattle.ring.proofs.Bool.{and-left, and-right, digit-lt, never}
+use Rattle.tables.specs.declared.Question.the-variants.{Letters, Solution, Order}
 use Rattle.tables.specs.Questions.{Asked, asks, asksGiving, number, firstNo, lettersFit, reads, writes, roomQuestions, bitQuestions}
 use Rattle.tables.specs.Questions.{bufferQuestions}
 use Rattle.tables.specs.Answered.{Reply, accepted, refused, reply}
 use Rattle.tables.proofs.FirstNo.{number-some, yes-to, asked-before, numbersBelow, first-below}
 use Rattle.tables.proofs.Answered.{givesNothing, reply-behind, reply-stops}
 use Rattle.tables.proofs.Questions.{letters-small, unknowns-small}
-use Rattle.solution.specs.Condition.{conditionOf, polynomial}
+use Rattle.solution.specs.Condition.{polynomial}
+use Rattle.solution.specs.Order.{orderFits, lentCondition}
 use Rattle.solution.specs.Elimination.{Verdict, solved, none, smallestBelow, blocked, smallestBlocked}
 use Rattle.entry.specs.Record.{Record, AreBytes, bytes}
 use Rattle.entry.specs.Held.{records, routeOf, unknownsOf, givensOf, heldCondition, heldVerdict}
@@ -37,7 +38,7 @@ use Rattle.entry.proofs.Records.{records-made}
 use Rattle.entry.proofs.Passes.{Passes}
 use Rattle.entry.proofs.Verdicts.{VerdictFits}
 use Rattle.entry.proofs.Theorems.{entry-bound}
-use Rattle.calls.specs.Questions.{lentCondition, asksSolution, valueQuestions, pairQuestions, substituteQuestions, textQuestions}
+use Rattle.calls.specs.Questions.{asksSolution, valueQuestions, pairQuestions, substituteQuestions, textQuestions}
 use Rattle.calls.specs.Questions.{solvingQuestions, handedQuestions, writeQuestions, entryQuestions, readQuestions, auditQuestions}
 use Rattle.calls.specs.Questions.{walkQuestions}
 use Rattle.calls.specs.Operations.{valueAt}
@@ -88,21 +89,32 @@ value-back questions v p h f = rw (reply-numbered questions (v ∷ []) p) (go (f
         rw (narrow-small v (small refl), e, d)
     go (suc n) l small = let e : suc n % 256 ≡ suc n = omega arith in rw e
 
--- question 9 behind questions with smaller numbers
-state-back : (front : List Asked) (answer : Bool) (s : ℕ) → givesNothing front ≡ true → firstNo front < 9
+-- no question of the list has the number k; then neither has the first no
+lacks : ℕ → List Asked → Bool
+lacks k [] = true
+lacks k (asksGiving question answer given ∷ rest) = not (eqb (number question) k) && lacks k rest
+
+first-other : (k : ℕ) (questions : List Asked) → (0 ≡ k → ⊥) → lacks k questions ≡ true → firstNo questions ≡ k → ⊥
+unfolding lacks firstNo
+first-other k [] n h e = n e
+first-other k (asksGiving question true given ∷ rest) n h e = first-other k rest n (and-right (not (eqb (number question) k)) (lacks k rest) h) e
+first-other k (asksGiving question false given ∷ rest) n h e =
+    never (and-left (not (eqb (number question) k)) (lacks k rest) h) (rw (eq-eqb (number question) k e))
+
+-- question 9 behind questions with other numbers
+state-back : (front : List Asked) (answer : Bool) (s : ℕ) → givesNothing front ≡ true → firstNo front < 256 → (firstNo front ≡ 9 → ⊥)
     → (firstNo front ≡ 0 → s < 4294967296)
     → stateReply (code (reply (front ++ (asksGiving Solution answer (s ∷ []) ∷ [])) []))
     ≡ reply (front ++ (asksGiving Solution answer (s ∷ []) ∷ [])) []
 unfolding numbered reply
-state-back front answer s p h f = go (ℕ-discrete (firstNo front) 0)
+state-back front answer s p h o f = go (ℕ-discrete (firstNo front) 0)
   where
     last : List Asked
     last = asksGiving Solution answer (s ∷ []) ∷ []
 
-    earlier : (q : ℕ) → q < 9 → (q ≡ 0 → ⊥) → stateReply (code (refused q [])) ≡ refused q []
-    earlier q l n =
+    earlier : (q : ℕ) → q < 256 → (q ≡ 9 → ⊥) → (q ≡ 0 → ⊥) → stateReply (code (refused q [])) ≡ refused q []
+    earlier q l other n =
         let e : q % 256 ≡ q = omega arith in
-        let other : q ≡ 9 → ⊥ = λ z. omega arith in
         rw (e, ne-eqb q 9 other) (sym (numbered-some q [] n))
 
     asked-last : (b : Bool) → s < 4294967296
@@ -115,7 +127,7 @@ state-back front answer s p h f = go (ℕ-discrete (firstNo front) 0)
 
     go : Dec (firstNo front ≡ 0) → stateReply (code (reply (front ++ last) [])) ≡ reply (front ++ last) []
     go (yes z) = rw (← reply-behind front last [] z) (asked-last answer (f z))
-    go (no n) = rw (← reply-stops front last [] p n) (earlier (firstNo front) h n)
+    go (no n) = rw (← reply-stops front last [] p n) (earlier (firstNo front) h o n)
 
 count-back : (count : ℕ) → count < 4294967296 → countReply (code (accepted (count ∷ []))) ≡ accepted (count ∷ [])
 count-back count h =
@@ -223,14 +235,14 @@ value-decoded U G t state choice =
     (λ z. omega (arith, digit-lt (value (U + G) (present t) (point U state choice))))
 
 -- the length written, which is an entry's
-pub written-decoded : (route U G : ℕ) (condition : List ℕ) (room : ℕ)
-    → valueReply (code (reply (writeQuestions route U G condition room) (length (lentEntry route U G condition) ∷ [])))
-    ≡ reply (writeQuestions route U G condition room) (length (lentEntry route U G condition) ∷ [])
+pub written-decoded : (route U G : ℕ) (order condition : List ℕ) (room : ℕ)
+    → valueReply (code (reply (writeQuestions route U G order condition room) (length (lentEntry route U G order condition) ∷ [])))
+    ≡ reply (writeQuestions route U G order condition room) (length (lentEntry route U G order condition) ∷ [])
 unfolding writeQuestions bufferQuestions roomQuestions bitQuestions numbersBelow
-written-decoded route U G condition room =
-    value-back (writeQuestions route U G condition room) _ refl
-    (first-below 256 (writeQuestions route U G condition room) (omega arith) refl)
-    (λ z. omega (arith, entry-bound route (lentCondition U G condition) (yes-to Letters (lettersFit U G) [] _ z .0)))
+written-decoded route U G order condition room =
+    value-back (writeQuestions route U G order condition room) _ refl
+    (first-below 256 (writeQuestions route U G order condition room) (omega arith) refl)
+    (λ z. omega (arith, entry-bound route (lentCondition U G order condition) (yes-to Letters (lettersFit U G) [] _ z .0)))
 
 -- Boole, the particular solution, own Löwenheim: the state is one of G givens, at most 8
 givens-few : (U G : ℕ) → lettersFit U G ≡ true → 2 ^ G ≤ 256
@@ -246,23 +258,28 @@ smallest-most (suc k) test = go (test 0) (smallest-most k (λ i. test (suc i)))
     go true l = omega arith
     go false l = omega arith
 
-module _ (U G : ℕ) (condition : List ℕ) (room : ℕ) where
+module _ (U G : ℕ) (order condition : List ℕ) (room : ℕ) where
   -- those before question 9
   before-solution : List Asked
-  before-solution = asks Letters (lettersFit U G) ∷ bufferQuestions (reads (2 ^ (U + G)) condition ∷ writes (U * 2 ^ (U + G)) room ∷ [])
+  before-solution =
+      asks Letters (lettersFit U G)
+      ∷ asks Order (orderFits U order)
+      ∷ bufferQuestions (reads (2 ^ (U + G)) condition ∷ writes (U * 2 ^ (U + G)) room ∷ [])
 
-  state-small : firstNo before-solution ≡ 0 → smallestBlocked U G (polynomial (lentCondition U G condition)) .0 < 4294967296
+  state-small : firstNo before-solution ≡ 0 → smallestBlocked U G (polynomial (lentCondition U G order condition)) .0 < 4294967296
   unfolding before-solution smallestBlocked
   state-small z =
       let letters = yes-to Letters (lettersFit U G) [] _ z .0 in
-      let most = smallest-most (2 ^ G) (λ s. blocked U G (polynomial (lentCondition U G condition)) (record { 0 = s })) in
+      let most = smallest-most (2 ^ G) (λ s. blocked U G (polynomial (lentCondition U G order condition)) (record { 0 = s })) in
       omega (arith, most, givens-few U G letters)
 
-  pub solving-decoded : stateReply (code (reply (solvingQuestions U G condition room) [])) ≡ reply (solvingQuestions U G condition room) []
-  unfolding before-solution solvingQuestions bufferQuestions roomQuestions bitQuestions numbersBelow
-  solving-decoded = state-back before-solution _ _ refl (first-below 9 before-solution (omega arith) refl) state-small
+  pub solving-decoded : stateReply (code (reply (solvingQuestions U G order condition room) [])) ≡ reply (solvingQuestions U G order condition room) []
+  unfolding before-solution solvingQuestions bufferQuestions roomQuestions bitQuestions numbersBelow lacks
+  solving-decoded =
+      state-back before-solution _ _ refl (first-below 256 before-solution (omega arith) refl)
+      (first-other 9 before-solution (λ z. omega arith) refl) state-small
 
--- reading and the audit: what passes 10, 11, 1, 2 and 12 is an entry of what it holds
+-- reading and the audit: what passes 10, 11, 1, 2, 12 and 17 is an entry of what it holds
 module _ (bs : List ℕ) (are : AreBytes bs) where
   entry-fits : firstNo (entryQuestions (records bs)) ≡ 0
       → let rs : List Record = records bs in
@@ -273,7 +290,7 @@ module _ (bs : List ℕ) (are : AreBytes bs) where
       let p : Passes rs = passes-exactly rs .0 z in
       let n : unknownsOf rs + givensOf rs ≤ 10 = letters-small _ _ (p .letters) in
       let c : rs ≡ entryRecords (routeOf rs) (heldCondition rs) (heldVerdict rs) =
-      canonical rs (records-made bs are) (p .kinds) (records-end bs) n (p .numbers) in
+      canonical rs (records-made bs are) (p .kinds) (records-end bs) n (p .numbers) (p .order) in
       let m : length (bytes rs) ≡ length (bytes (entryRecords (routeOf rs) (heldCondition rs) (heldVerdict rs))) =
       ap (λ (l : List Record). length (bytes l)) c in
       record {
@@ -282,7 +299,7 @@ module _ (bs : List ℕ) (are : AreBytes bs) where
         of-givens = omega arith;
         of-length = omega (arith, entry-most (routeOf rs) (heldCondition rs) (heldVerdict rs) (unknowns-small _ _ (p .letters)) n);
         of-state = λ state e.
-            let held = held-fits rs (records-made bs are) (p .kinds) (records-end bs) n (p .numbers) in
+            let held = held-fits rs (records-made bs are) (p .kinds) (records-end bs) n (p .numbers) (p .order) in
             let f : state .0 < 2 ^ givensOf rs = subst (VerdictFits (unknownsOf rs) (givensOf rs)) e held in
             omega (arith, givens-few (unknownsOf rs) (givensOf rs) (p .letters));
       }

@@ -1,5 +1,5 @@
 // The library as C and Rust see it: one exported function for each public call, on numbers and byte slices.
-// A slice passes as a pointer and then a length. Each function has the contract of its call, with the answer as a code
+// A slice passes as a pointer and then a length, an order of six bytes as a pointer alone. Each function has the contract of its call, with the answer as a code
 // (`specs/Codes.antt`).
 use calls::Heading;
 use calls::Outcome;
@@ -176,11 +176,17 @@ pub extern "C" fn layodegi_read_text(u: usize, g: usize, text: &[u8], condition:
 
 // Boole's answers.
 #[no_mangle]
-pub extern "C" fn layodegi_boole(u: usize, g: usize, condition: &[u8], answers: &mut [u8]) -> u64
+pub extern "C" fn layodegi_boole(
+    u: usize,
+    g: usize,
+    order: &[u8; 6],
+    condition: &[u8],
+    answers: &mut [u8],
+) -> u64
     ensures { λ c. ⌜ answered c (now (answers .exit) ∷ [])
-        ≡ coded code (booleCall u g (now (condition .entry)) (now (answers .entry))) ⌝ }
+        ≡ coded code (booleCall u g (now (order .entry)) (now (condition .entry)) (now (answers .entry))) ⌝ }
 {
-    solving_code(solver::boole(u, g, condition, answers))
+    solving_code(solver::boole(u, g, *order, condition, answers))
 }
 
 // The particular solution.
@@ -188,13 +194,14 @@ pub extern "C" fn layodegi_boole(u: usize, g: usize, condition: &[u8], answers: 
 pub extern "C" fn layodegi_particular(
     u: usize,
     g: usize,
+    order: &[u8; 6],
     condition: &[u8],
     answers: &mut [u8],
 ) -> u64
     ensures { λ c. ⌜ answered c (now (answers .exit) ∷ [])
-        ≡ coded code (particularCall u g (now (condition .entry)) (now (answers .entry))) ⌝ }
+        ≡ coded code (particularCall u g (now (order .entry)) (now (condition .entry)) (now (answers .entry))) ⌝ }
 {
-    solving_code(solver::particular(u, g, condition, answers))
+    solving_code(solver::particular(u, g, *order, condition, answers))
 }
 
 // Löwenheim's answers from the particular solution.
@@ -202,13 +209,14 @@ pub extern "C" fn layodegi_particular(
 pub extern "C" fn layodegi_lowenheim(
     u: usize,
     g: usize,
+    order: &[u8; 6],
     condition: &[u8],
     answers: &mut [u8],
 ) -> u64
     ensures { λ c. ⌜ answered c (now (answers .exit) ∷ [])
-        ≡ coded code (lowenheimCall u g (now (condition .entry)) (now (answers .entry))) ⌝ }
+        ≡ coded code (lowenheimCall u g (now (order .entry)) (now (condition .entry)) (now (answers .entry))) ⌝ }
 {
-    solving_code(solver::lowenheim(u, g, condition, answers))
+    solving_code(solver::lowenheim(u, g, *order, condition, answers))
 }
 
 // Löwenheim's formula on handed polynomials.
@@ -232,22 +240,28 @@ pub extern "C" fn layodegi_write_entry(
     route: usize,
     u: usize,
     g: usize,
+    order: &[u8; 6],
     condition: &[u8],
     out: &mut [u8],
 ) -> u64
     ensures { λ c. ⌜ answered c (now (out .exit) ∷ [])
-        ≡ coded code (writeCall route u g (now (condition .entry)) (now (out .entry))) ⌝ }
+        ≡ coded code (writeCall route u g (now (order .entry)) (now (condition .entry)) (now (out .entry))) ⌝ }
 {
-    written_code(writer::write_entry(route, u, g, condition, out))
+    written_code(writer::write_entry(route, u, g, *order, condition, out))
 }
 
-// Reads an entry into a condition table and, if it is solved, answer tables.
+// Reads an entry: its order, its condition table and, if it is solved, its answer tables.
 #[no_mangle]
-pub extern "C" fn layodegi_read_entry(bytes: &[u8], condition: &mut [u8], answers: &mut [u8]) -> u64
-    ensures { λ c. ⌜ answered c (now (condition .exit) ∷ now (answers .exit) ∷ [])
-        ≡ coded entryCode (readCall (now (bytes .entry)) (now (condition .entry)) (now (answers .entry))) ⌝ }
+pub extern "C" fn layodegi_read_entry(
+    bytes: &[u8],
+    order: &mut [u8; 6],
+    condition: &mut [u8],
+    answers: &mut [u8],
+) -> u64
+    ensures { λ c. ⌜ answered c (now (order .exit) ∷ now (condition .exit) ∷ now (answers .exit) ∷ [])
+        ≡ coded entryCode (readCall (now (bytes .entry)) (now (order .entry)) (now (condition .entry)) (now (answers .entry))) ⌝ }
 {
-    read_code(reader::read_entry(bytes, condition, answers))
+    read_code(reader::read_entry(bytes, order, condition, answers))
 }
 
 // Audits an entry.

@@ -4,7 +4,8 @@ pub mod Letters
 pub mod General
 pub mod Smallest
 pub mod Blocked
-pub mod Orders
+pub mod Order
+pub mod OrderAsked
 pub mod Verdict
 pub mod Theorems
 pub mod Written

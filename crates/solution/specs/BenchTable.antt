@@ -4,7 +4,7 @@
 use mathlib.Core.Path.{_≡_}
 use mathlib.Core.List.{List, [], _∷_}
 use Prim.Native.Nat.{ℕ}
-use Rattle.solution.specs.Condition.{Condition, conditionOf}
+use Rattle.solution.specs.Condition.{Condition, ordered, conditionOf}
 use Rattle.solution.specs.Elimination.{lowenheimTable, Verdict, solved, none, solve}
 
 -- what a row says of the engine's own Löwenheim answer
@@ -76,6 +76,23 @@ furtherRows =
     }
     -- (0,2) `a`: none, state 1 (and 3 is blocked too)
     ∷ record { condition = conditionOf 0 2 (0 ∷ 1 ∷ 0 ∷ 0 ∷ []); verdict = none (record { 0 = 1 }); lowenheim = nothing }
+    ∷ []
+
+-- 'The designer picks which unknown goes first' (document 02, C-11): other answers under another order, and the same state
+unfoldable pub orderRows : List Row
+orderRows =
+    -- (2,0) `u*v`, u first: u = u + u*v, v = v
+    record { condition = ordered 2 0 (0 ∷ 1 ∷ []) (0 ∷ 0 ∷ 0 ∷ 1 ∷ []); verdict = solved (0 ∷ 1 ∷ 0 ∷ 1 ∷ 0 ∷ 0 ∷ 1 ∷ 0 ∷ []); lowenheim = nothing }
+    -- (2,0) `u*v`, v first: u = u, v = v + u*v
+    ∷ record { condition = ordered 2 0 (1 ∷ 0 ∷ []) (0 ∷ 0 ∷ 0 ∷ 1 ∷ []); verdict = solved (0 ∷ 1 ∷ 0 ∷ 0 ∷ 0 ∷ 0 ∷ 1 ∷ 1 ∷ []); lowenheim = nothing }
+    -- (2,0) `u+v+1`, v first: u = u, v = 1 + u; Löwenheim u = u + u*v, v = 1 + u + u*v
+    ∷ record {
+      condition = ordered 2 0 (1 ∷ 0 ∷ []) (1 ∷ 1 ∷ 1 ∷ 0 ∷ []);
+      verdict = solved (0 ∷ 1 ∷ 0 ∷ 0 ∷ 1 ∷ 1 ∷ 0 ∷ 0 ∷ []);
+      lowenheim = theTable (0 ∷ 1 ∷ 0 ∷ 1 ∷ 1 ∷ 1 ∷ 0 ∷ 1 ∷ []);
+    }
+    -- (2,1) `a`, v first: none, state 1, as with u first
+    ∷ record { condition = ordered 2 1 (1 ∷ 0 ∷ []) (0 ∷ 0 ∷ 0 ∷ 0 ∷ 1 ∷ 0 ∷ 0 ∷ 0 ∷ []); verdict = none (record { 0 = 1 }); lowenheim = nothing }
     ∷ []
 
 -- the own Löwenheim answer is the one stated, if one is

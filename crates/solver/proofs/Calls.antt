@@ -9,7 +9,7 @@ use native.Mathlib.Nat.{mul-le-mul}
 use lib.ListN.{length, take, drop, take-append-drop}
 use lib.Seq.{length-take-le, drop-length}
 use Rattle.ring.specs.Table.{AreBits, IsTable}
-use Rattle.tables.specs.declared.Question.the-variants.{Letters, Room, Bits}
+use Rattle.tables.specs.declared.Question.the-variants.{Letters, Room, Bits, Order}
 use Rattle.tables.specs.Questions.{Asked, asks, firstNo, lettersFit, hasRoom, holdsBits, roomQuestions, bitQuestions, bufferQuestions}
 use Rattle.tables.specs.Answered.{Reply, accepted, refused, after, answered, Buffer, _into_, call}
 use Rattle.tables.specs.Inner.Asking.{also}
@@ -17,26 +17,30 @@ use Rattle.tables.proofs.FirstNo.{no-to, yes-counts, each-yes, then-further, al
 use Rattle.tables.proofs.Questions.{failed, passed as yes-said, letters-small, unknowns-small, pow-small}
 use Rattle.tables.proofs.Questions.{room-enough, held-bits, lent-table}
 use Rattle.tables.proofs.Answered.{reply-behind, call-stops, call-refused, call-done, call-gives, call-first}
-use Rattle.solution.specs.Condition.{conditionOf}
-use Rattle.calls.specs.Questions.{lentCondition, asksSolution, solvingQuestions, handedQuestions}
+use Rattle.solution.specs.Order.{orderFits, lentCondition}
+use Rattle.calls.specs.Questions.{asksSolution, solvingQuestions, handedQuestions}
 use Rattle.calls.specs.Solving.{solvingCall, handedTable, handedCall}
 use Rattle.solver.specs.declared.Method.{Method}
-use Rattle.solver.specs.Inner.Methods.{tableQuestions, tableBy, solveBy}
+use Rattle.solver.specs.Inner.Methods.{tableQuestions, ordered, tableBy, solveBy}
 use Rattle.solver.proofs.OnWords.{length-tableBy}
 use Rattle.solver.proofs.Written.{handed-front, length-handed}
 
--- ---- 1, 4 and 8 of a call that solves, as the code asks them
-module _ (u g : ℕ) (t : List ℕ) (room : ℕ) where
-  pub letters-refused : {r : ℕ} {fits : Bool} → r ≡ 1 → fits ≡ lettersFit u g → not fits ≡ true → r ≡ firstNo (tableQuestions u g t room)
+-- ---- 1, 17, 4 and 8 of a call that solves, as the code asks them
+module _ (u g : ℕ) (order t : List ℕ) (room : ℕ) where
+  pub letters-refused : {r : ℕ} {fits : Bool} → r ≡ 1 → fits ≡ lettersFit u g → not fits ≡ true
+      → r ≡ firstNo (tableQuestions u g order t room)
   unfolding tableQuestions
   letters-refused e f n = e ∙ sym (no-to Letters (lettersFit u g) [] _ (failed f n))
 
-  pub asked : {k first second r : ℕ} {fits room1 room2 bits : Bool} → r ≡ also second (asks Bits bits ∷ []) → bits ≡ holdsBits k t
-      → second ≡ also first (asks Room room2 ∷ []) → room2 ≡ hasRoom (u * k) room → first ≡ also 0 (asks Room room1 ∷ [])
-      → room1 ≡ hasRoom k (length t) → k ≡ 2 ^ (u + g) → fits ≡ lettersFit u g → not fits ≡ false → r ≡ firstNo (tableQuestions u g t room)
+  pub asked : {k first second third r : ℕ} {fits orders room1 room2 bits : Bool}
+      → r ≡ also third (asks Bits bits ∷ []) → bits ≡ holdsBits k t
+      → third ≡ also second (asks Room room2 ∷ []) → room2 ≡ hasRoom (u * k) room
+      → second ≡ also first (asks Room room1 ∷ []) → room1 ≡ hasRoom k (length t)
+      → first ≡ also 0 (asks Order orders ∷ []) → orders ≡ orderFits u order
+      → k ≡ 2 ^ (u + g) → fits ≡ lettersFit u g → not fits ≡ false → r ≡ firstNo (tableQuestions u g order t room)
   unfolding tableQuestions bufferQuestions roomQuestions bitQuestions
-  asked er eb e2 er2 e1 er1 ek ef n =
-      rw (er, eb, e2, er2, e1, er1, ek)
+  asked er eb e3 er2 e2 er1 e1 eo ek ef n =
+      rw (er, eb, e3, er2, e2, er1, e1, eo, ek)
       (simp also-also (sym (also-none _) ∙ sym (yes-counts Letters (lettersFit u g) [] _ (yes-said ef n))))
 
 -- the letters fit, as the code has it
@@ -75,49 +79,52 @@ call-front questions values answer lent front k e h done =
       after-front (firstNo questions) k answer lent e h,
     )
 
--- ---- solving: question 9 behind 1, 4 and 8
+-- ---- solving: question 9 behind 1, 17, 4 and 8
 -- what no refusal tells: q is the number that the code has found, k the bytes of a table
-module _ (u g : ℕ) (t lent : List ℕ) where
+module _ (u g : ℕ) (order t lent : List ℕ) where
   pub record Passed (k : ℕ) : Type 0 where
     pub unknowns : u ≤ 6
     pub small : u + g ≤ 10
+    pub in-order : orderFits u order ≡ true
     pub condition-room : k ≤ length t
     pub answer-room : u * k ≤ length lent
     pub table : IsTable (u + g) (take k t)
     pub answers : length (take (u * k) lent) ≡ u * 2 ^ (u + g)
 
-  pub passed : {q k : ℕ} → q ≡ firstNo (tableQuestions u g t (length lent)) → q ≡ 0 → k ≡ 2 ^ (u + g) → Passed k
+  pub passed : {q k : ℕ} → q ≡ firstNo (tableQuestions u g order t (length lent)) → q ≡ 0 → k ≡ 2 ^ (u + g) → Passed k
   unfolding tableQuestions bufferQuestions roomQuestions bitQuestions
   passed found z e =
       let yes-all = each-yes _ (sym found ∙ z) in
-      let room = room-enough _ _ (yes-all .1 .1 .0) in
+      let room = room-enough _ _ (yes-all .1 .1 .1 .0) in
       rw e
       (record {
         unknowns = unknowns-small u g (yes-all .0);
         small = letters-small u g (yes-all .0);
-        condition-room = room-enough _ _ (yes-all .1 .0);
+        in-order = yes-all .1 .0;
+        condition-room = room-enough _ _ (yes-all .1 .1 .0);
         answer-room = room;
-        table = lent-table (u + g) _ t refl (yes-all .1 .0) (yes-all .1 .1 .1 .0);
+        table = lent-table (u + g) _ t refl (yes-all .1 .1 .0) (yes-all .1 .1 .1 .1 .0);
         answers = length-take-le _ _ room;
       })
 
-module _ (method : Method) (u g : ℕ) (t lent : List ℕ) (q : ℕ) (found : q ≡ firstNo (tableQuestions u g t (length lent))) where
-  pub solving-refused : (q ≡ 0 → ⊥) → answered (refused q []) (lent ∷ []) ≡ solvingCall (tableBy method) u g t lent
+module _ (method : Method) (u g : ℕ) (order t lent : List ℕ) (q : ℕ)
+    (found : q ≡ firstNo (tableQuestions u g order t (length lent))) where
+  pub solving-refused : (q ≡ 0 → ⊥) → answered (refused q []) (lent ∷ []) ≡ solvingCall (tableBy method) u g order t lent
   unfolding solvingQuestions tableQuestions bufferQuestions roomQuestions bitQuestions
   solving-refused n =
-      call-stops (tableQuestions u g t (length lent)) (asksSolution (lentCondition u g t) ∷ []) []
-      (tableBy method (lentCondition u g t) into lent ∷ []) q refl found n
+      call-stops (tableQuestions u g order t (length lent)) (asksSolution (lentCondition u g order t) ∷ []) []
+      (tableBy method (lentCondition u g order t) into lent ∷ []) q refl found n
 
   pub solving-done : q ≡ 0 → (k : ℕ) → k ≡ 2 ^ (u + g) → {gives : Reply} {front : List ℕ}
-      → answered gives (front ∷ []) ≡ solveBy method (conditionOf u g (take k t)) (take (u * k) lent)
-      → answered gives ((front ++ drop (u * k) lent) ∷ []) ≡ solvingCall (tableBy method) u g t lent
+      → answered gives (front ∷ []) ≡ solveBy method (ordered u g (take u order) (take k t)) (take (u * k) lent)
+      → answered gives ((front ++ drop (u * k) lent) ∷ []) ≡ solvingCall (tableBy method) u g order t lent
   unfolding solveBy solvingQuestions tableQuestions
   solving-done z k e done =
-      let yes-all : firstNo (tableQuestions u g t (length lent)) ≡ 0 = sym found ∙ z in
+      let yes-all : firstNo (tableQuestions u g order t (length lent)) ≡ 0 = sym found ∙ z in
       rw e
-      (call-front (asksSolution (lentCondition u g t) ∷ []) [] (tableBy method (lentCondition u g t)) lent _ (u * 2 ^ (u + g))
-      (length-tableBy method (lentCondition u g t)) (passed u g t lent found z refl .answer-room) (rw e at done)
-      ∙ call-behind (tableQuestions u g t (length lent)) (asksSolution (lentCondition u g t) ∷ []) [] _ yes-all)
+      (call-front (asksSolution (lentCondition u g order t) ∷ []) [] (tableBy method (lentCondition u g order t)) lent _ (u * 2 ^ (u + g))
+      (length-tableBy method (lentCondition u g order t)) (passed u g order t lent found z refl .answer-room) (rw e at done)
+      ∙ call-behind (tableQuestions u g order t (length lent)) (asksSolution (lentCondition u g order t) ∷ []) [] _ yes-all)
 
 -- ---- handed polynomials
 module _ (u g : ℕ) (t handed : List ℕ) (room : ℕ) where

@@ -3,16 +3,15 @@
 use mathlib.Core.Path.{_≡_, refl, sym, ap, _∙_}
 use mathlib.Core.Bool.{Bool, true, false, cond}
 use mathlib.Core.List.{List, [], _∷_, _++_, append-nil}
-use Prim.Native.Nat.{ℕ, zero, suc, _+_, _-_, _*_, _^_, _≤_, _<_}
+use Prim.Native.Nat.{ℕ, _+_, _-_, _*_, _^_, _≤_, _<_}
 use native.Mathlib.Omega.{arith}
 use lib.Pow.{pow-pos}
-use lib.ListN.{length, take, drop}
-use lib.Seq.{take-at, drop-length}
+use lib.ListN.{length, drop}
+use lib.Seq.{drop-length}
 use Rattle.ring.specs.declared.State.{State}
 use Rattle.ring.specs.Letters.{bit}
-use Rattle.ring.specs.Lists.{listed, has}
+use Rattle.ring.specs.Lists.{has}
 use Rattle.ring.specs.Polynomial.{Polynomial, value}
-use Rattle.ring.proofs.Lists.{length-listed, listed-add, listed-only}
 use Rattle.ring.proofs.Table.{length-answerTable}
 use Rattle.tables.specs.declared.Question.the-variants.{Solution}
 use Rattle.tables.specs.Questions.{firstNo}
@@ -21,15 +20,14 @@ use Rattle.tables.proofs.Answered.{call-last-no, call-done}
 use Rattle.words.specs.Inner.Words.{wordsOf, bitAt, answerWords}
 use Rattle.words.proofs.Letters.{room, points}
 use Rattle.words.proofs.Words.{at-known}
-use Rattle.solution.specs.Condition.{Condition, width, polynomial, IsOrder, defaultOrder}
+use Rattle.solution.specs.Condition.{Condition, width, polynomial, IsOrder}
 use Rattle.solution.specs.Elimination.{remains, smallestBelow, blocked, smallestBlocked, solvable, solve, solved, none}
 use Rattle.solution.specs.Elimination.{booleTable, particularTable, lowenheimTable}
 use Rattle.solution.specs.Inner.ByPoints.{remainsThrough, answeredThrough}
 use Rattle.solution.proofs.General.{in-order, remains-values}
 use Rattle.solution.proofs.Blocked.{zero-values, blocked-remains, remains-blocked, is-blocked}
-use Rattle.solution.proofs.Orders.{default-order}
 use Rattle.solution.proofs.Smallest.{smallest-cong, smallest-is, smallest-none}
-use Rattle.elimination.specs.Inner.Stages.{InLetters, ListsEach, noRepeats}
+use Rattle.elimination.specs.Inner.Stages.{InLetters}
 use Rattle.elimination.proofs.AnyOrder.{Agree, remains-agree, answered-agree}
 use Rattle.elimination.proofs.Beyond.{value-answers-all}
 use Rattle.elimination.proofs.Slots.{answers-cong}
@@ -166,27 +164,3 @@ module _ (method : Method) (c : Condition) (v : Verdict) (ws lent : List ℕ) {v
       rw all at
       (call-done (asksSolution c ∷ []) [] (tableBy method c) lent answers (length lent) (rw (r .0)) (written taken (r .1))
       (size ∙ sym (length-tableBy method c)))
-
--- ---- the order 0, 1, 2, ..
-pub first-unknowns : (u : ℕ) → u ≤ 6 → take u (0 ∷ 1 ∷ 2 ∷ 3 ∷ 4 ∷ 5 ∷ []) ≡ defaultOrder u
-unfolding defaultOrder listed
-first-unknowns u h =
-    let six : u + (6 - u) ≡ 6 = omega arith in
-    let parts : listed 6 (λ j. j) ≡ listed u (λ j. j) ++ listed (6 - u) (λ i. u + i) = (rw six at (listed-add u (6 - u) (λ j. j))) in
-    ap (take u) parts ∙ take-at (listed u (λ j. j)) _ u (length-listed u (λ j. j))
-
--- .. has no letter twice ..
-once : (k : ℕ) (h : ℕ → ℕ) → ((i j : ℕ) → h i ≡ h j → i ≡ j) → noRepeats (listed k h) ≡ true
-unfolding listed noRepeats
-once zero h apart = refl
-once (suc k) h apart =
-    rw (first (has (h 0) (listed k (λ i. h (suc i)))) refl) (once k (λ i. h (suc i)) (λ i j e. omega (arith, apart (suc i) (suc j) e)))
-  where
-    first : (b : Bool) → has (h 0) (listed k (λ i. h (suc i))) ≡ b → b ≡ false
-    first true e = let r = listed-only k (λ i. h (suc i)) (h 0) e in absurd (omega (arith, apart (suc (r .0)) 0 (r .2)))
-    first false e = refl
-
--- .. and lists each unknown
-pub lists-each : (u : ℕ) {order : List ℕ} → order ≡ defaultOrder u → ListsEach u order
-unfolding defaultOrder
-lists-each u e = rw e (default-order u, once u (λ j. j) (λ i j same. same))

@@ -1,25 +1,26 @@
 // Solving a condition: Boole's answers, the particular solution, Löwenheim's formula on that solution or on handed polynomials.
 // Public calls, none with a `requires`: `boole`, `particular`, `lowenheim`, `lowenheim_handed`. `solve_values` is Boole's method for the
 // crates above, which ask the questions first; the other functions are theirs alone.
-// The work is done on truth values, 64 points to a word (`elimination`), in any order of the unknowns; the calls fix 0, 1, 2, ..
-// It comes back to polynomials, and the contracts cite the polynomials' own definitions.
+// An order comes as six bytes, first eliminated first, with 255 behind its unknowns; the handed form needs none.
+// The work is done on truth values, 64 points to a word (`elimination`). It comes back to polynomials, and the contracts cite the
+// polynomials' own definitions.
 use calls::Outcome;
 use calls::Solving;
 use calls::Verdict;
 use ring::State;
 use tables::Question;
 ghost use mathlib.Core.Path.{_≡_};
+ghost use mathlib.Core.Bool.{true};
 ghost use mathlib.Core.List.{List, [], _∷_};
 ghost use Prim.Native.Nat.{ℕ, _+_, _-_, _*_, _^_, _≤_, _<_};
-ghost use lib.ListN.{length};
+ghost use lib.ListN.{length, take};
 ghost use Rattle.ring.specs.Polynomial.{value};
 ghost use Rattle.ring.specs.Table.{IsTable, AreBits, held, answerTable};
 ghost use Rattle.tables.specs.Questions.{firstNo};
 ghost use Rattle.tables.specs.Answered.{answered};
 ghost use Rattle.words.specs.Inner.Words.{wordsOf, bitAt, answerWords};
-ghost use Rattle.solution.specs.Condition.{conditionOf};
+ghost use Rattle.solution.specs.Order.{orderFits};
 ghost use Rattle.solution.specs.Inner.ByPoints.{zeroChoice};
-ghost use Rattle.elimination.specs.Inner.Stages.{ListsEach};
 ghost use Rattle.calls.specs.declared.Solving.the-variants.{Said};
 ghost use Rattle.calls.specs.Questions.{handedQuestions};
 ghost use Rattle.calls.specs.Operations.{outcome};
@@ -35,45 +36,77 @@ pub enum Method {
 }
 
 // Boole's answers.
-pub fn boole(u: usize, g: usize, condition: &[u8], answers: &mut [u8]) -> Solving
+pub fn boole(u: usize, g: usize, order: [u8; 6], condition: &[u8], answers: &mut [u8]) -> Solving
     ensures { λ r. ⌜ answered (solving r) (now (answers .exit) ∷ [])
-        ≡ booleCall u g (now (condition .entry)) (now (answers .entry)) ⌝ }
+        ≡ booleCall u g order (now (condition .entry)) (now (answers .entry)) ⌝ }
 {
-    ask_and_solve(Method::Boole, u, g, condition, answers)
+    ask_and_solve(Method::Boole, u, g, order, condition, answers)
 }
 
 // The particular solution.
-pub fn particular(u: usize, g: usize, condition: &[u8], answers: &mut [u8]) -> Solving
+pub fn particular(
+    u: usize,
+    g: usize,
+    order: [u8; 6],
+    condition: &[u8],
+    answers: &mut [u8],
+) -> Solving
     ensures { λ r. ⌜ answered (solving r) (now (answers .exit) ∷ [])
-        ≡ particularCall u g (now (condition .entry)) (now (answers .entry)) ⌝ }
+        ≡ particularCall u g order (now (condition .entry)) (now (answers .entry)) ⌝ }
 {
-    ask_and_solve(Method::Particular, u, g, condition, answers)
+    ask_and_solve(Method::Particular, u, g, order, condition, answers)
 }
 
 // Löwenheim's answers from the particular solution.
-pub fn lowenheim(u: usize, g: usize, condition: &[u8], answers: &mut [u8]) -> Solving
+pub fn lowenheim(
+    u: usize,
+    g: usize,
+    order: [u8; 6],
+    condition: &[u8],
+    answers: &mut [u8],
+) -> Solving
     ensures { λ r. ⌜ answered (solving r) (now (answers .exit) ∷ [])
-        ≡ lowenheimCall u g (now (condition .entry)) (now (answers .entry)) ⌝ }
+        ≡ lowenheimCall u g order (now (condition .entry)) (now (answers .entry)) ⌝ }
 {
-    ask_and_solve(Method::Lowenheim, u, g, condition, answers)
+    ask_and_solve(Method::Lowenheim, u, g, order, condition, answers)
 }
 
-// The verdict by the values of a condition that has passed the questions, eliminating in any order: if there is a solution, the values of
-// Boole's answer for unknown j are in the words j * k to (j + 1) * k of `answers`, k words holding the values of one polynomial.
-// Uses up the condition's values.
+fn wide(x: u8) -> usize
+    ensures { λ r. ⌜ r ≡ x ⌝ }
+{
+    x as usize
+}
+
+fn widened(order: [u8; 6]) -> [usize; 6]
+    ensures { λ r. ⌜ r ≡ order ⌝ }
+{
+    [
+        wide(order[0]),
+        wide(order[1]),
+        wide(order[2]),
+        wide(order[3]),
+        wide(order[4]),
+        wide(order[5]),
+    ]
+}
+
+// The verdict by the values of a condition that has passed the questions: if there is a solution, the values of Boole's answer for
+// unknown j are in the words j * k to (j + 1) * k of `answers`, k words holding the values of one polynomial. Uses up the condition's
+// values.
 pub fn solve_values(
     u: usize,
     g: usize,
-    order: &[usize],
+    order: [u8; 6],
     values: &mut [u64],
     answers: &mut [u64],
 ) -> Verdict
-    requires { ⌜ (u ≤ 6) × (u + g ≤ 10) × ListsEach u (now order)
+    requires { ⌜ (u ≤ 6) × (u + g ≤ 10) × (orderFits u order ≡ true)
         × (length (now values) ≡ 2 ^ (u + g - 6)) × (length (now answers) ≡ u * 2 ^ (u + g - 6)) ⌝ }
-    ensures { λ r. ⌜ ((t : List ℕ) → now (values .entry) ≡ valueWords (ordered u g (now (order .entry)) t)
-        → verdict r (now (answers .exit)) ≡ solveWords (ordered u g (now (order .entry)) t)) ⌝ }
+    ensures { λ r. ⌜ ((t : List ℕ) → now (values .entry) ≡ valueWords (ordered u g (take u order) t)
+        → verdict r (now (answers .exit)) ≡ solveWords (ordered u g (take u order) t)) ⌝ }
 {
-    let state = elimination::solve_words(u, g, order, values, answers);
+    let unknowns = widened(order);
+    let state = elimination::solve_words(u, g, &unknowns[..u], values, answers);
     let end = tables::pow2(g);
     if state < end {
         return Verdict::None(State(state));
@@ -81,54 +114,40 @@ pub fn solve_values(
     Verdict::Solved
 }
 
-// Questions 1, 4 and 8 of a call that solves: the first no, or 0.
-fn solving_refusal(u: usize, g: usize, condition: &[u8], room: usize) -> u8
-    ensures { λ r. ⌜ r ≡ firstNo (tableQuestions u g (now (condition .entry)) room) ⌝ }
+// Questions 1, 17, 4 and 8 of a call that solves: the first no, or 0.
+fn solving_refusal(u: usize, g: usize, order: [u8; 6], condition: &[u8], room: usize) -> u8
+    ensures { λ r. ⌜ r ≡ firstNo (tableQuestions u g order (now (condition .entry)) room) ⌝ }
 {
     if !tables::letters_fit(u, g) {
         return tables::number(Question::Letters);
     }
     let k = tables::pow2(u + g);
     let all = u * k;
-    let first = tables::ask(0, Question::Room, tables::has_room(k, condition.len()));
-    let second = tables::ask(first, Question::Room, tables::has_room(all, room));
-    tables::ask(second, Question::Bits, tables::holds_bits(k, condition))
+    let first = tables::ask(0, Question::Order, solution::order_fits(u, order));
+    let second = tables::ask(first, Question::Room, tables::has_room(k, condition.len()));
+    let third = tables::ask(second, Question::Room, tables::has_room(all, room));
+    tables::ask(third, Question::Bits, tables::holds_bits(k, condition))
 }
 
-// Questions 1, 4 and 8, then solving, which answers question 9.
+// Questions 1, 17, 4 and 8, then solving, which answers question 9.
 fn ask_and_solve(
     method: Method,
     u: usize,
     g: usize,
+    order: [u8; 6],
     condition: &[u8],
     answers: &mut [u8],
 ) -> Solving
     ensures { λ r. ⌜ answered (solving r) (now (answers .exit) ∷ [])
-        ≡ solvingCall (tableBy method) u g (now (condition .entry)) (now (answers .entry)) ⌝ }
+        ≡ solvingCall (tableBy method) u g order (now (condition .entry)) (now (answers .entry)) ⌝ }
 {
-    let q = solving_refusal(u, g, condition, answers.len());
+    let q = solving_refusal(u, g, order, condition, answers.len());
     if q != 0 {
         return Solving::Refused(q);
     }
     let k = tables::pow2(u + g);
     let all = u * k;
-    Solving::Said(solve_default(method, u, g, &condition[..k], &mut answers[..all]))
-}
-
-// Unknown 0 goes first, then 1, and so on.
-fn solve_default(
-    method: Method,
-    u: usize,
-    g: usize,
-    condition: &[u8],
-    answers: &mut [u8],
-) -> Verdict
-    requires { ⌜ (u ≤ 6) × (u + g ≤ 10) × IsTable (u + g) (now condition) × (length (now answers) ≡ u * 2 ^ (u + g)) ⌝ }
-    ensures { λ r. ⌜ answered (solving (Said r)) (now (answers .exit) ∷ [])
-        ≡ solveBy method (conditionOf u g (now (condition .entry))) (now (answers .entry)) ⌝ }
-{
-    let order = [0usize, 1, 2, 3, 4, 5];
-    solve_by(method, u, g, &order[..u], condition, answers)
+    Solving::Said(solve_by(method, u, g, order, &condition[..k], &mut answers[..all]))
 }
 
 // The answers of a method, from a condition's table to theirs. The scratch words live here.
@@ -136,14 +155,14 @@ fn solve_by(
     method: Method,
     u: usize,
     g: usize,
-    order: &[usize],
+    order: [u8; 6],
     condition: &[u8],
     answers: &mut [u8],
 ) -> Verdict
-    requires { ⌜ (u ≤ 6) × (u + g ≤ 10) × ListsEach u (now order)
+    requires { ⌜ (u ≤ 6) × (u + g ≤ 10) × (orderFits u order ≡ true)
         × IsTable (u + g) (now condition) × (length (now answers) ≡ u * 2 ^ (u + g)) ⌝ }
     ensures { λ r. ⌜ answered (solving (Said r)) (now (answers .exit) ∷ [])
-        ≡ solveBy method (ordered u g (now (order .entry)) (now (condition .entry))) (now (answers .entry)) ⌝ }
+        ≡ solveBy method (ordered u g (take u order) (now (condition .entry))) (now (answers .entry)) ⌝ }
 {
     let k = words::word_count(u + g);
     let all = u * k;
@@ -167,19 +186,19 @@ fn solve_with(
     method: Method,
     u: usize,
     g: usize,
-    order: &[usize],
+    order: [u8; 6],
     condition: &[u8],
     answers: &mut [u8],
     values: &mut [u64],
     used: &mut [u64],
     found: &mut [u64],
 ) -> Verdict
-    requires { ⌜ (u ≤ 6) × (u + g ≤ 10) × ListsEach u (now order)
+    requires { ⌜ (u ≤ 6) × (u + g ≤ 10) × (orderFits u order ≡ true)
         × IsTable (u + g) (now condition) × (length (now answers) ≡ u * 2 ^ (u + g)) ⌝ }
     requires { ⌜ (length (now values) ≡ 2 ^ (u + g - 6)) × (length (now used) ≡ 2 ^ (u + g - 6))
         × (length (now found) ≡ u * 2 ^ (u + g - 6)) ⌝ }
     ensures { λ r. ⌜ answered (solving (Said r)) (now (answers .exit) ∷ [])
-        ≡ solveBy method (ordered u g (now (order .entry)) (now (condition .entry))) (now (answers .entry)) ⌝ }
+        ≡ solveBy method (ordered u g (take u order) (now (condition .entry))) (now (answers .entry)) ⌝ }
 {
     words::take_values(u + g, condition, values);
     words::copy(used, values);

@@ -10,7 +10,7 @@ use borrow.Author.Tests.{ltb-true}
 use Rattle.ring.proofs.Bool.{and-left, and-right}
 use Rattle.tables.specs.declared.Question.{Question}
 use Rattle.tables.specs.declared.Question.the-variants.{Letters, Route, TextLength, Room, Signs, Declared, Grammar, Bits, Solution}
-use Rattle.tables.specs.declared.Question.the-variants.{Records, Kinds, Numbers, Afresh, Output, Rising, Range}
+use Rattle.tables.specs.declared.Question.the-variants.{Records, Kinds, Numbers, Afresh, Output, Rising, Range, Order}
 use Rattle.tables.specs.Questions.{Asked, asks, asksGiving, number, firstNo}
 use Rattle.tables.specs.Inner.Asking.{also}
 
@@ -32,6 +32,7 @@ number-some Afresh e = omega arith
 number-some Output e = omega arith
 number-some Rising e = omega arith
 number-some Range e = omega arith
+number-some Order e = omega arith
 
 -- ---- the question in front
 -- it is answered no

@@ -11,9 +11,9 @@ use Rattle.ring.specs.declared.State.{State}
 use Rattle.ring.specs.declared.Choice.{Choice}
 use Rattle.tables.specs.declared.Question.{Question}
 use Rattle.tables.specs.declared.Question.the-variants.{Letters, Route, TextLength, Room, Signs, Declared, Grammar, Bits, Solution}
-use Rattle.tables.specs.declared.Question.the-variants.{Records, Kinds, Numbers, Afresh, Output, Rising, Range}
+use Rattle.tables.specs.declared.Question.the-variants.{Records, Kinds, Numbers, Afresh, Output, Rising, Range, Order}
 
--- document 01's number of each question
+-- the number of each question, 1 to 16 document 01's
 abbrev pub number : Question → ℕ
 -- 'Are U at most 6, G at most 8, n at most 10?'
 number Letters = 1
@@ -47,6 +47,8 @@ number Output = 14
 number Rising = 15
 -- 'Is the state below 2^G and the choice below 2^U?'
 number Range = 16
+-- 'does the order hold each unknown once and then only 255' (document 02, C-11)
+number Order = 17
 
 -- a question as it is put: whether the answer is yes, and what a no gives with its number
 pub data Asked : Type 0 where

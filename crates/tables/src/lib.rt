@@ -10,7 +10,7 @@ ghost use Rattle.ring.specs.Table.{AreBits, present, tabulate};
 ghost use Rattle.tables.specs.Questions.{number, asks, lettersFit, hasRoom, areBits, holdsBits};
 ghost use Rattle.tables.specs.Inner.Asking.{also};
 
-// The questions of document 01, in the order of their numbers.
+// The questions of documents 01 and 02, in the order of their numbers.
 pub enum Question {
     Letters, // Are U at most 6, G at most 8, n at most 10?
     Route, // Is the route 1 to 250?
@@ -28,9 +28,10 @@ pub enum Question {
     Output, // Is the output at least as long as what is to be written?
     Rising, // Is the route above the one before?
     Range, // Is the state below 2^G and the choice below 2^U?
+    Order, // Does the order hold each unknown once and then only 255?
 }
 
-// Document 01's number of a question.
+// The number of a question.
 pub fn number(question: Question) -> u8
     ensures { λ r. ⌜ r ≡ number question ⌝ }
 {
@@ -51,6 +52,7 @@ pub fn number(question: Question) -> u8
         Question::Output => 14,
         Question::Rising => 15,
         Question::Range => 16,
+        Question::Order => 17,
     }
 }
 

@@ -27,7 +27,7 @@ use Rattle.order.proofs.Listing.{length-tagged}
 use Rattle.elimination.proofs.Slots.{answer-part}
 use Rattle.solution.specs.Condition.{Condition, width, polynomial, conditionOf, defaultOrder}
 use Rattle.solution.specs.Elimination.{Verdict, solved, none, booleAnswers, booleTable, solve}
-use Rattle.solution.proofs.Orders.{default-order}
+use Rattle.solution.proofs.Order.{default-order}
 use Rattle.solver.specs.Inner.Methods.{ordered, valueWords, verdict, solveWords}
 use Rattle.solver.proofs.OnWords.{solved-by-values, none-by-values}
 use Rattle.entry.specs.Record.{Record, fields, lowFirst, bodyOf, conditionRecord, answerRecord, startRecord, endRecord, bytes}

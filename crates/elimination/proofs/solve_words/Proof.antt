@@ -7,7 +7,8 @@ use borrow.Author.Needs.{needs}
 use lib.ListN.{length}
 use lib.Seq.{length-take-le}
 use Rattle.words.proofs.Letters.{count-small}
-use Rattle.elimination.proofs.Lengths.{slots-fit}
+use Rattle.solution.proofs.Order.{each-order}
+use Rattle.elimination.proofs.Lengths.{each-once, slots-fit}
 use Rattle.elimination.proofs.solve_words.Statement.{statement}
 use Rattle.elimination.proofs.solve_words.Tie as tie
 
@@ -20,7 +21,7 @@ solve-with-requires : tie.Need-solve-with-requires
 solve-with-requires c κs =
     let counted = c .before .before .before in
     let start = counted .before .before .before .before in (
-      (start .pre .1, start .pre .2 .0, start .pre .2 .1, start .pre .3, start .pre .4),
+      (start .pre .1, each-order _ _ (start .pre .2), each-once _ _ (start .pre .2), start .pre .3, start .pre .4),
       length-take-le _ _ (fit counted) ∙ ap (λ (x : ℕ). length (start .args .order .now) * x) (counted .word-count .ensures),
     )
 

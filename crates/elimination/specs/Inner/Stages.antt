@@ -10,7 +10,6 @@ use lib.ListN.{getD, drop}
 use Rattle.ring.specs.Letters.{bit, assign}
 use Rattle.ring.specs.Lists.{has}
 use Rattle.ring.specs.Polynomial.{_⊕_}
-use Rattle.solution.specs.Condition.{IsOrder}
 use Rattle.solution.specs.Inner.ByPoints.{bothCases, answeredThrough, zeroChoice}
 use Rattle.words.specs.Inner.Words.{wordsOf, bitAt}
 
@@ -26,10 +25,6 @@ IgnoresUnknowns u k f = (p : ℕ) → p < 64 * k → f p ≡ f (zeroChoice u p)
 unfoldable pub noRepeats : List ℕ → Bool
 noRepeats [] = true
 noRepeats (x ∷ order) = not (has x order) && noRepeats order
-
--- the order lists each of the U unknowns once
-abbrev pub ListsEach : ℕ → List ℕ → Type 0
-ListsEach U order = IsOrder U order × (noRepeats order ≡ true)
 
 -- the conditions before each unknown goes
 unfoldable pub stageWords : ℕ → (ℕ → Bool) → List ℕ → List ℕ

@@ -12,7 +12,7 @@ returns c =
     let solving = case .before .before .before .before .before .before in
     let copying = solving .before .before .before .before .before in
     let taking = copying .before .before .before .before .before in
-    let start = taking .before .before .before .before .before .before .before .before in
+    let start = taking .before .before .before .before .before .before .before in
     solved-by _ _ _ _ (start .args .answers .now) (copying .copy .ensures) (taking .take-values .ensures) (solving .solve-values .ensures _)
     (case .enum-told .given .1) (written .write-by .ensures _ _) (start .pre .0 .4)
 

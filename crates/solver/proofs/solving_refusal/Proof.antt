@@ -1,4 +1,4 @@
--- `solver::solving_refusal` meets its contract: 1, and then 4 and 8 in a chain.
+-- `solver::solving_refusal` meets its contract: 1, and then 17, 4 and 8 in a chain.
 -- Assumes nothing.
 use native.Mathlib.Omega.{arith}
 use borrow.Author.Needs.{needs}
@@ -16,6 +16,8 @@ solving-refusal-spec =
     (λ c. omega (arith, small _ _ (c .before .letters-fit .ensures) (c .if1 .left)))
     (λ c κs. small _ _ (c .before .letters-fit .ensures) (c .if1 .left))
     (λ c. omega (arith, all-fit _ _ _ (c .before .before .letters-fit .ensures) (c .before .if1 .left) (c .pow2 .ensures)))
+    (λ c κs. search needs)
+    (λ c κs. search needs)
     (λ c κs. search needs)
     (λ c κs. search needs)
     (λ c κs. search needs)

@@ -4,11 +4,12 @@ use mathlib.Core.Bool.{cond}
 use mathlib.Core.List.{List, [], _∷_}
 use Prim.Native.Nat.{ℕ, _+_, _-_, _*_, _^_}
 use Rattle.ring.specs.Polynomial.{value}
-use Rattle.tables.specs.declared.Question.the-variants.{Letters}
+use Rattle.tables.specs.declared.Question.the-variants.{Letters, Order}
 use Rattle.tables.specs.Questions.{Asked, asks, lettersFit, reads, writes, bufferQuestions}
 use Rattle.tables.specs.Answered.{Reply, Answered, call, _into_}
 use Rattle.words.specs.Inner.Words.{wordsOf, answerWords}
 use Rattle.solution.specs.Condition.{Condition, width, polynomial}
+use Rattle.solution.specs.Order.{orderFits}
 use Rattle.solution.specs.Elimination.{booleAnswers, booleTable, particularTable, lowenheimTable, smallestBlocked, solvable}
 use Rattle.solution.specs.Elimination.{solved, none, Verdict as Said}
 use Rattle.calls.specs.declared.Verdict.{Verdict}
@@ -21,10 +22,12 @@ use Rattle.solver.specs.declared.Method.the-variants.{Boole, Particular,
 abbrev pub ordered : ℕ → ℕ → List ℕ → List ℕ → Condition
 ordered U G order t = record { U = U; G = G; order = order; table = t }
 
--- questions 1, 4 and 8 of a call that solves
-unfoldable pub tableQuestions : ℕ → ℕ → List ℕ → ℕ → List Asked
-tableQuestions U G condition room =
-    asks Letters (lettersFit U G) ∷ bufferQuestions (reads (2 ^ (U + G)) condition ∷ writes (U * 2 ^ (U + G)) room ∷ [])
+-- questions 1, 17, 4 and 8 of a call that solves
+unfoldable pub tableQuestions : ℕ → ℕ → List ℕ → List ℕ → ℕ → List Asked
+tableQuestions U G order condition room =
+    asks Letters (lettersFit U G)
+    ∷ asks Order (orderFits U order)
+    ∷ bufferQuestions (reads (2 ^ (U + G)) condition ∷ writes (U * 2 ^ (U + G)) room ∷ [])
 
 -- the answer table of each method
 abbrev pub tableBy : Method → Condition → List ℕ
