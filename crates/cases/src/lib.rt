@@ -1,6 +1,6 @@
 // Support for the test programs: fields of a line that describes a call, and printing what came back.
-// A line is `CALL U G X Y SIZE SIZE2 A B`, one space between the fields; A and B are bytes, a digit each, or `-` for none. Where a call takes an
-// order, Y is its six bytes, two hexadecimal digits each.
+// A line is `CALL U G X Y SIZE SIZE2 A B`, one space between the fields; A and B are bytes, a digit each, or `-` for none.
+// Where a call takes an order, Y is its six bytes, two hexadecimal digits each.
 // The contracts say what the programs need to index safely. Those that print promise nothing, since the contracts of `io` say nothing of what a
 // descriptor receives: what is printed is compared with stored output.
 use libc::STDOUT_FILENO;
