@@ -1,32 +1,38 @@
-//! The thirteen calls, the engine's beside plain Rust's in both forms. All get the same lent
-//! inputs, and write over a buffer of their own again and again: none is cleared first.
+//! The thirteen calls, the engine's beside plain Rust's in both forms, and two of them once more in
+//! the reverse order. All get the same lent inputs, and write over a buffer of their own again and
+//! again: none is cleared first.
 
-use crate::inputs::{counts, Inputs, LONGEST_ENTRY};
+use crate::inputs::{counts, default_order, reverse_order, Inputs};
 use crate::timing::{compare, Compared, Effort};
 use layodegi::Answer;
 use reference::plain::{self, Bytes};
-use reference::{Choice, Contents, Count, Letters, Reading, Solved, State};
+use reference::LONGEST_ENTRY;
+use reference::{Choice, Contents, Count, Letters, Order, Reading, Refusal, Solved, State};
 use std::hint::black_box;
 
 pub struct Call {
     pub name: &'static str,
+    /// What sets a row apart from the row before it.
+    pub note: &'static str,
     pub measure: fn(&Inputs, Effort) -> Compared,
 }
 
-pub const CALLS: [Call; 13] = [
-    Call { name: "read_text", measure: read_text },
-    Call { name: "value", measure: value },
-    Call { name: "sum", measure: sum },
-    Call { name: "product", measure: product },
-    Call { name: "substitute", measure: substitute },
-    Call { name: "boole", measure: boole },
-    Call { name: "particular", measure: particular },
-    Call { name: "lowenheim", measure: lowenheim },
-    Call { name: "lowenheim_handed", measure: lowenheim_handed },
-    Call { name: "write_entry", measure: write_entry },
-    Call { name: "read_entry", measure: read_entry },
-    Call { name: "audit", measure: audit },
-    Call { name: "walk", measure: walk },
+pub const CALLS: [Call; 15] = [
+    Call { name: "read_text", note: "", measure: read_text },
+    Call { name: "value", note: "", measure: value },
+    Call { name: "sum", note: "", measure: sum },
+    Call { name: "product", note: "", measure: product },
+    Call { name: "substitute", note: "", measure: substitute },
+    Call { name: "boole", note: "", measure: boole },
+    Call { name: "boole", note: " in reverse order", measure: boole_reversed },
+    Call { name: "particular", note: "", measure: particular },
+    Call { name: "lowenheim", note: "", measure: lowenheim },
+    Call { name: "lowenheim_handed", note: "", measure: lowenheim_handed },
+    Call { name: "write_entry", note: "", measure: write_entry },
+    Call { name: "write_entry", note: " in reverse order", measure: write_entry_reversed },
+    Call { name: "read_entry", note: "", measure: read_entry },
+    Call { name: "audit", note: "", measure: audit },
+    Call { name: "walk", note: "", measure: walk },
 ];
 
 /// Asserts on every input that results and lent bytes are the same, then takes the times.
@@ -62,15 +68,26 @@ fn engine_letters(letters: Letters) -> layodegi::Letters {
     layodegi::Letters { unknowns: letters.unknowns, givens: letters.givens }
 }
 
+fn engine_order(order: Order) -> layodegi::Order {
+    layodegi::Order(order.0)
+}
+
 fn both_done<E, P>(engine: Result<(), E>, plain: Result<(), P>) -> bool {
     engine.is_ok() && plain.is_ok()
 }
 
-fn both_solved<E, P>(engine: Result<Answer, E>, plain: Result<Solved, P>) -> bool {
+/// What a call that solves answers.
+type Engine = Result<Answer, layodegi::Refusal>;
+type Plain = Result<Solved, Refusal>;
+
+fn both_solved(engine: Engine, plain: Plain) -> bool {
     matches!((engine, plain), (Ok(Answer::Solved), Ok(Solved::Done)))
 }
 
-fn same_entry<E, P>(engine: Result<layodegi::Entry, E>, plain: Result<Reading, P>) -> bool {
+fn same_entry(
+    engine: Result<layodegi::Entry, layodegi::Refusal>,
+    plain: Result<Reading, Refusal>,
+) -> bool {
     match (engine, plain) {
         (Ok(engine), Ok(plain)) => {
             (engine.route, engine.length) == (plain.route, plain.length)
@@ -150,40 +167,67 @@ fn substitute(inputs: &Inputs, effort: Effort) -> Compared {
 }
 
 fn boole(inputs: &Inputs, effort: Effort) -> Compared {
-    let (letters, (u, g)) = (engine_letters(inputs.letters), counts(inputs.letters));
-    measure(
+    solve(
+        inputs,
+        default_order(inputs.letters),
         effort,
-        &inputs.conditions,
-        inputs.letters.answer_length(),
-        |condition, out| layodegi::boole(letters, condition, out),
-        |condition, out| plain::boole::<Bytes>(u, g, condition, out),
-        |condition, out| plain::boole::<u64>(u, g, condition, out),
-        both_solved,
+        layodegi::boole,
+        plain::boole::<Bytes>,
+        plain::boole::<u64>,
+    )
+}
+
+fn boole_reversed(inputs: &Inputs, effort: Effort) -> Compared {
+    solve(
+        inputs,
+        reverse_order(inputs.letters),
+        effort,
+        layodegi::boole,
+        plain::boole::<Bytes>,
+        plain::boole::<u64>,
     )
 }
 
 fn particular(inputs: &Inputs, effort: Effort) -> Compared {
-    let (letters, (u, g)) = (engine_letters(inputs.letters), counts(inputs.letters));
-    measure(
+    solve(
+        inputs,
+        default_order(inputs.letters),
         effort,
-        &inputs.conditions,
-        inputs.letters.answer_length(),
-        |condition, out| layodegi::particular(letters, condition, out),
-        |condition, out| plain::particular::<Bytes>(u, g, condition, out),
-        |condition, out| plain::particular::<u64>(u, g, condition, out),
-        both_solved,
+        layodegi::particular,
+        plain::particular::<Bytes>,
+        plain::particular::<u64>,
     )
 }
 
 fn lowenheim(inputs: &Inputs, effort: Effort) -> Compared {
+    solve(
+        inputs,
+        default_order(inputs.letters),
+        effort,
+        layodegi::lowenheim,
+        plain::lowenheim::<Bytes>,
+        plain::lowenheim::<u64>,
+    )
+}
+
+/// A call that solves, in an order.
+fn solve(
+    inputs: &Inputs,
+    order: Order,
+    effort: Effort,
+    engine: impl Fn(layodegi::Letters, layodegi::Order, &[u8], &mut [u8]) -> Engine,
+    bytes: impl Fn(u64, u64, Order, &[u8], &mut [u8]) -> Plain,
+    words: impl Fn(u64, u64, Order, &[u8], &mut [u8]) -> Plain,
+) -> Compared {
     let (letters, (u, g)) = (engine_letters(inputs.letters), counts(inputs.letters));
+    let for_engine = engine_order(order);
     measure(
         effort,
         &inputs.conditions,
         inputs.letters.answer_length(),
-        |condition, out| layodegi::lowenheim(letters, condition, out),
-        |condition, out| plain::lowenheim::<Bytes>(u, g, condition, out),
-        |condition, out| plain::lowenheim::<u64>(u, g, condition, out),
+        |condition, out| engine(letters, for_engine, condition, out),
+        |condition, out| bytes(u, g, order, condition, out),
+        |condition, out| words(u, g, order, condition, out),
         both_solved,
     )
 }
@@ -202,14 +246,23 @@ fn lowenheim_handed(inputs: &Inputs, effort: Effort) -> Compared {
 }
 
 fn write_entry(inputs: &Inputs, effort: Effort) -> Compared {
+    write_entry_in(inputs, default_order(inputs.letters), effort)
+}
+
+fn write_entry_reversed(inputs: &Inputs, effort: Effort) -> Compared {
+    write_entry_in(inputs, reverse_order(inputs.letters), effort)
+}
+
+fn write_entry_in(inputs: &Inputs, order: Order, effort: Effort) -> Compared {
     let (letters, (u, g)) = (engine_letters(inputs.letters), counts(inputs.letters));
+    let for_engine = engine_order(order);
     measure(
         effort,
         &inputs.conditions,
         LONGEST_ENTRY,
-        |condition, out| layodegi::write_entry(7, letters, condition, out),
-        |condition, out| plain::write_entry::<Bytes>(7, u, g, condition, out),
-        |condition, out| plain::write_entry::<u64>(7, u, g, condition, out),
+        |condition, out| layodegi::write_entry(7, letters, for_engine, condition, out),
+        |condition, out| plain::write_entry::<Bytes>(7, u, g, order, condition, out),
+        |condition, out| plain::write_entry::<u64>(7, u, g, order, condition, out),
         |engine, plain| engine.is_ok() && engine.ok() == plain.ok(),
     )
 }
@@ -226,13 +279,22 @@ fn read_entry(inputs: &Inputs, effort: Effort) -> Compared {
         },
         |entry, out| {
             let (condition, answers) = out.split_at_mut(length);
-            plain::read_entry::<Bytes>(entry, condition, answers)
+            let mut order = Order([0; 6]);
+            let read = plain::read_entry::<Bytes>(entry, &mut order, condition, answers);
+            read.map(|reading| (reading, order))
         },
         |entry, out| {
             let (condition, answers) = out.split_at_mut(length);
-            plain::read_entry::<u64>(entry, condition, answers)
+            let mut order = Order([0; 6]);
+            let read = plain::read_entry::<u64>(entry, &mut order, condition, answers);
+            read.map(|reading| (reading, order))
         },
-        same_entry,
+        |engine, plain| match (engine, plain) {
+            (Ok(engine), Ok((plain, order))) => {
+                engine.order == engine_order(order) && same_entry(Ok(engine.entry), Ok(plain))
+            }
+            _ => false,
+        },
     )
 }
 

@@ -1,13 +1,12 @@
 //! What the calls are measured on: texts, tables, entries and a volume, from a fixed seed.
 
 use reference::plain;
-use reference::{Letters, Solved};
+use reference::{Letters, Order, Solved, LONGEST_ENTRY};
 
 /// So many of each.
 const COUNT: usize = 8;
 
 pub const LONGEST_TEXT: usize = 200;
-pub const LONGEST_ENTRY: usize = 27_654;
 
 /// A small xorshift.
 pub struct Random(u64);
@@ -80,6 +79,16 @@ pub fn letters_of(count: usize) -> Letters {
 /// The counts as the calls take them.
 pub fn counts(letters: Letters) -> (u64, u64) {
     (letters.unknowns as u64, letters.givens as u64)
+}
+
+/// The order 0, 1, 2 and so on, in which every row is measured that names no other.
+pub fn default_order(letters: Letters) -> Order {
+    Order::default_for(letters.unknowns)
+}
+
+/// The same backwards.
+pub fn reverse_order(letters: Letters) -> Order {
+    Order::of(&(0..letters.unknowns).rev().collect::<Vec<_>>())
 }
 
 fn text(letters: Letters, kind: Kind, random: &mut Random) -> Vec<u8> {
@@ -156,7 +165,8 @@ fn solvable(letters: Letters, kind: Kind, random: &mut Random) -> Vec<u8> {
         let text = route_condition(letters, random);
         plain::read_text::<u64>(u, g, &text, &mut condition).expect("a text of the grammar");
         let mut answers = vec![0; letters.answer_length()];
-        if plain::boole::<u64>(u, g, &condition, &mut answers) == Ok(Solved::Done) {
+        let solved = plain::boole::<u64>(u, g, default_order(letters), &condition, &mut answers);
+        if solved == Ok(Solved::Done) {
             return condition;
         }
     }
@@ -165,14 +175,17 @@ fn solvable(letters: Letters, kind: Kind, random: &mut Random) -> Vec<u8> {
 fn answers(letters: Letters, condition: &[u8]) -> Vec<u8> {
     let (u, g) = counts(letters);
     let mut answers = vec![0; letters.answer_length()];
-    assert_eq!(plain::boole::<u64>(u, g, condition, &mut answers), Ok(Solved::Done));
+    let solved = plain::boole::<u64>(u, g, default_order(letters), condition, &mut answers);
+    assert_eq!(solved, Ok(Solved::Done));
     answers
 }
 
 fn entry(route: u64, letters: Letters, condition: &[u8]) -> Vec<u8> {
     let (u, g) = counts(letters);
     let mut entry = vec![0; LONGEST_ENTRY];
-    let length = plain::write_entry::<u64>(route, u, g, condition, &mut entry).expect("an entry");
+    let order = default_order(letters);
+    let length =
+        plain::write_entry::<u64>(route, u, g, order, condition, &mut entry).expect("an entry");
     entry.truncate(length);
     entry
 }

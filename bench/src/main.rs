@@ -64,8 +64,8 @@ fn main() {
 }
 
 fn rows(inputs: &Inputs) -> Vec<Row> {
-    let row = |&Call { name, measure }: &Call| Row {
-        name,
+    let row = |&Call { name, note, measure }: &Call| Row {
+        name: format!("`{name}`{note}"),
         times: measure(black_box(inputs), TEN_LETTERS),
     };
     CALLS.iter().map(row).collect()

@@ -8,7 +8,7 @@ use std::ops::RangeInclusive;
 use std::process::Command;
 
 pub struct Row {
-    pub name: &'static str,
+    pub name: String,
     pub times: Compared,
 }
 
@@ -66,7 +66,7 @@ impl Report {
     fn head(&self) -> String {
         let Machine { date, processor, rustc, rattle } = &self.machine;
         let ratios = |side: usize| {
-            let row = |row: &Row| format!("`{}` {:.2}", row.name, row.times.ratios[side]);
+            let row = |row: &Row| format!("{} {:.2}", row.name, row.times.ratios[side]);
             self.typical.iter().map(row).collect::<Vec<_>>().join(", ")
         };
         format!(
@@ -98,7 +98,7 @@ At ten letters on typical inputs:
     fn unrest(&self) -> String {
         let named = |kind: &'static str, rows: &[Row]| {
             let restless = rows.iter().filter(|row| !row.times.is_quiet());
-            restless.map(|row| format!("`{}` ({kind})", row.name)).collect::<Vec<_>>()
+            restless.map(|row| format!("{} ({kind})", row.name)).collect::<Vec<_>>()
         };
         let mut names = [named("typical", &self.typical), named("dense", &self.dense)].concat();
         names.extend((!self.sheet.net.is_quiet()).then(|| "the whole sheet".to_string()));
@@ -121,7 +121,7 @@ At ten letters on typical inputs:
         format!(
             "## What is measured
 
-- **Engine**: the archive of the proved library, called through the safe wrapper in `bindings/rust`, all thirteen calls; for the whole sheet the program `target/bin/sheet`.
+- **Engine**: the archive of the proved library, called through the safe wrapper in `bindings/rust`, all thirteen calls, the unknowns going as 0, 1, 2 and so on but where a row says 'in reverse order'; for the whole sheet the program `target/bin/sheet`.
 - **Plain Rust**: `reference/src/plain`, safe Rust from its standard library alone, which does the same job and asks the same questions, built with link-time optimisation in one unit. Two forms share all methods: on **bytes**, one byte a value, by the usual step per letter; and on **words**, 64 values to a word.
 - **Techniques of all three**: values and back by the usual step per letter, with literal widths; a text decoded once, without unpredictable branches, and worked out at all points at once; question 8 as one union of all bytes; the value of a table a block of 64 masks at a time, each mask a byte; on words, eight bytes of a table as one shifted load or store, the two halves of a word's letters exchanged meanwhile; elimination that keeps the values before each unknown goes, and puts later answers in one letter at a time from the last on; records looked at in one pass for all questions, the number of letters of a mask from a table.
 - **Of plain Rust alone**: tables whose length the compiler knows, so that it holds them in registers; a letter, negated or not, multiplied in where it stands without a branch, each `!` being counted onto the sign behind it; the masks present counted by their number of letters, eight masks at a time out of a table, so that each record goes straight to its place in the output, which needs no copy, and sparse tables are quick; the digits of a mask from a table; a sheet read line by line and printed in pieces that stay in the cache; on bytes, polynomials put in by looking values up point by point. **Of the engine alone**: polynomials put in by choices, the two lowest letters at once by what stands for each four bits; a loop for each kind of record that holds a monomial, which goes on as long as each passes question 12; the masks present are listed without a branch out of the written order, each mask of which it works out from counts of letters, as the paper has it. Tried in plain Rust and slower there: that listing, the masks taken out one number of letters after another, and eight masks at a time listed out of a table.
@@ -136,9 +136,7 @@ At ten letters on typical inputs:
 
     fn calls(&self) -> String {
         let Letters { unknowns, givens } = self.letters;
-        let rows = |rows: &[Row]| {
-            rows.iter().map(|row| table_line(&format!("`{}`", row.name), row.times)).collect()
-        };
+        let rows = |rows: &[Row]| rows.iter().map(|row| table_line(&row.name, row.times)).collect();
         let (typical, dense): (String, String) = (rows(&self.typical), rows(&self.dense));
         let head = table_head("call");
         format!(

@@ -1,11 +1,12 @@
 /*
  * Reads a text, writes its entry, reads the entry back and prints it.
  *
- *     example [ROUTE U G TEXT]
+ *     example [ROUTE U G TEXT [ORDER]]
  *
- * Without arguments: the row (2,0) `u+v+1` of the paper's bench table, as route 7. Prints the condition and the
- * answers as polynomials, or 'none' and the state. Exit status: 0 if the entry is written and read back, 1 if a call
- * refuses, 2 if the arguments are not three numbers and a text.
+ * Without arguments: the row (2,0) `u+v+1` of the paper's bench table, as route 7. ORDER is the unknowns, first
+ * eliminated first, as `vu`; without it they go as `uvwxyz`. Prints the order where the entry holds one, the
+ * condition and the answers as polynomials, or 'none' and the state. Exit status: 0 if the entry is written and read
+ * back, 1 if a call refuses, 2 if the arguments are not three numbers, a text and at most six letters.
  */
 #include "layodegi.h"
 
@@ -19,11 +20,13 @@ struct route_condition {
     size_t unknowns;
     size_t givens;
     const char *text;
+    uint8_t order[LAYODEGI_ORDER_LENGTH];
 };
 
 /* An entry as it is read back; the tables are as long as any can be. */
 struct entry {
     uint64_t code;
+    uint8_t order[LAYODEGI_ORDER_LENGTH];
     uint8_t condition[LAYODEGI_LONGEST_TABLE];
     uint8_t answers[LAYODEGI_LONGEST_ANSWERS];
 };
@@ -41,15 +44,30 @@ static int read_number(const char *word, size_t *number)
     return 1;
 }
 
+/* The unknowns that letters name, first eliminated first, then 255. */
+static int read_order(const char *letters, uint8_t order[LAYODEGI_ORDER_LENGTH])
+{
+    size_t length = strlen(letters);
+    if (length > LAYODEGI_ORDER_LENGTH || letters[strspn(letters, "uvwxyz")] != '\0')
+        return 0;
+    memset(order, LAYODEGI_UNUSED, LAYODEGI_ORDER_LENGTH);
+    for (size_t place = 0; place < length; place++)
+        order[place] = (uint8_t)(letters[place] - 'u');
+    return 1;
+}
+
 static int read_arguments(int count, char **words, struct route_condition *asked)
 {
-    if (count == 1)
-        return 1;
-    if (count != 5)
+    if (count != 1 && count != 5 && count != 6)
         return 0;
-    asked->text = words[4];
-    return read_number(words[1], &asked->route) && read_number(words[2], &asked->unknowns)
-           && read_number(words[3], &asked->givens);
+    if (count != 1) {
+        asked->text = words[4];
+        if (!read_number(words[1], &asked->route) || !read_number(words[2], &asked->unknowns)
+            || !read_number(words[3], &asked->givens))
+            return 0;
+    }
+    layodegi_default_order(asked->unknowns, asked->order);
+    return count != 6 || read_order(words[5], asked->order);
 }
 
 /* From the text to the entry and back. Answers the first code with a no, else that of reading back. */
@@ -60,12 +78,12 @@ static uint64_t write_and_read_back(const struct route_condition *asked, struct 
                                        strlen(asked->text), entry->condition, sizeof entry->condition);
     if (layodegi_code_question(code) != LAYODEGI_YES)
         return code;
-    code = layodegi_write_entry(asked->route, asked->unknowns, asked->givens, entry->condition,
+    code = layodegi_write_entry(asked->route, asked->unknowns, asked->givens, asked->order, entry->condition,
                                 sizeof entry->condition, bytes, sizeof bytes);
     if (layodegi_code_question(code) != LAYODEGI_YES)
         return code;
-    return layodegi_read_entry(bytes, layodegi_code_number(code), entry->condition, sizeof entry->condition,
-                               entry->answers, sizeof entry->answers);
+    return layodegi_read_entry(bytes, layodegi_code_number(code), entry->order, entry->condition,
+                               sizeof entry->condition, entry->answers, sizeof entry->answers);
 }
 
 static unsigned count_letters(size_t mask)
@@ -116,12 +134,26 @@ static void print_state(unsigned state, size_t givens)
     puts("");
 }
 
+/* An order that is not 0, 1, 2 and so on, as the letters of its unknowns. */
+static void print_order(const uint8_t order[LAYODEGI_ORDER_LENGTH], size_t unknowns)
+{
+    uint8_t usual[LAYODEGI_ORDER_LENGTH];
+    layodegi_default_order(unknowns, usual);
+    if (memcmp(order, usual, sizeof usual) == 0)
+        return;
+    fputs("order: ", stdout);
+    for (size_t place = 0; place < unknowns; place++)
+        putchar("uvwxyz"[order[place]]);
+    puts("");
+}
+
 static void print_entry(const struct entry *entry)
 {
     size_t unknowns = layodegi_entry_unknowns(entry->code);
     size_t givens = layodegi_entry_givens(entry->code);
     printf("route %u, U %zu, G %zu, %zu bytes\n", layodegi_entry_route(entry->code), unknowns, givens,
            layodegi_entry_length(entry->code));
+    print_order(entry->order, unknowns);
     fputs("condition: ", stdout);
     print_polynomial(entry->condition, unknowns, givens);
     if (layodegi_entry_is_none(entry->code)) {
@@ -137,9 +169,9 @@ static void print_entry(const struct entry *entry)
 int main(int count, char **words)
 {
     static struct entry entry;
-    struct route_condition asked = {7, 2, 0, "u+v+1"};
+    struct route_condition asked = {7, 2, 0, "u+v+1", {0}};
     if (!read_arguments(count, words, &asked)) {
-        fputs("usage: example [ROUTE U G TEXT]\n", stderr);
+        fputs("usage: example [ROUTE U G TEXT [ORDER]]\n", stderr);
         return 2;
     }
     entry.code = write_and_read_back(&asked, &entry);

@@ -11,18 +11,20 @@
  * A table is a polynomial as 2^n bytes: byte m is 1 if the monomial with the mask m is present, else 0. Bit j of a
  * mask is unknown j, bit U + i is given i; mask 0 is the monomial 1.
  * An answer table is U tables one after another, unknown 0 first: U * 2^n bytes.
+ * An order is six bytes: the unknown numbers, first eliminated first, then 255 in unused places. An unknown is
+ * expressed by those that go after it. General solutions in any two orders are instances of each other.
  *
  * What each function shares:
  * - A buffer passes as a pointer, then its length in bytes. It may be longer than it has to be; the bytes behind
- *   are neither read nor changed.
+ *   are neither read nor changed. An order passes as a pointer alone, to its six bytes.
  * - It allocates nothing and keeps nothing, so that threads may call at once. Measured, it uses at most 105 KiB of
  *   stack (reading a text of 200 opening brackets; every other call 21 KiB).
  * - It asks its questions in the order named with it. The first no is its answer, and then no byte is changed.
  *   So every number and every byte may be passed: the function tests them itself.
  * - It returns a code of 64 bits: in the low byte the number of the first no, 0 if there is none; above it what
  *   the comment names, else 0. The inline functions below take a code apart.
- * - The caller owes this much: each pointer is not null, even where the length is 0, and points to that many bytes;
- *   a buffer that is written overlaps no other buffer of the call; and nothing else changes them meanwhile.
+ * - The caller owes this much: each pointer is not null, even where the length is 0, and points to that many bytes
+ *   (an order to six); a buffer that is written overlaps no other buffer of the call; and nothing else changes them meanwhile.
  */
 #ifndef LAYODEGI_H
 #define LAYODEGI_H
@@ -42,7 +44,9 @@ extern "C" {
 #define LAYODEGI_LONGEST_TEXT 200
 #define LAYODEGI_LONGEST_TABLE 1024
 #define LAYODEGI_LONGEST_ANSWERS 6144
-#define LAYODEGI_LONGEST_ENTRY 27654
+#define LAYODEGI_LONGEST_ENTRY 27661
+#define LAYODEGI_ORDER_LENGTH 6
+#define LAYODEGI_UNUSED 255 /* in the places of an order that no unknown needs */
 
 /* The questions, and the number if the answer is no. */
 enum layodegi_question {
@@ -57,15 +61,16 @@ enum layodegi_question {
     LAYODEGI_GRAMMAR = 7,     /* Does the grammar read the whole text? */
     LAYODEGI_BITS = 8,        /* Is each byte of a table lent to be read, as far as question 4's length, 0 or 1? */
     LAYODEGI_SOLUTION = 9,    /* Has the condition a solution? (a no also gives the state) */
-    LAYODEGI_RECORDS = 10,    /* Does every record, to the first kind 4, have kind 1 to 5 and a whole body, and is
+    LAYODEGI_RECORDS = 10,    /* Does every record, to the first kind 4, have kind 1 to 6 and a whole body, and is
                                  there a kind 4? */
     LAYODEGI_KINDS = 11,      /* Are the kinds in the entry's order, both routes equal? */
     LAYODEGI_NUMBERS = 12,    /* Are masks below 2^n, unknowns below U, the state below 2^G, all in order, none
-                                 twice? */
+                                 twice, and is no kind 6 there for the order 0, 1, 2 and so on? */
     LAYODEGI_AFRESH = 13,     /* Do the answers, or the state, equal those solved afresh? */
     LAYODEGI_OUTPUT = 14,     /* Is the output at least as long as what is to be written? */
     LAYODEGI_RISING = 15,     /* Is the route above the one before? */
-    LAYODEGI_RANGE = 16       /* Is the state below 2^G and the choice below 2^U? */
+    LAYODEGI_RANGE = 16,      /* Is the state below 2^G and the choice below 2^U? */
+    LAYODEGI_ORDER = 17       /* Does the order hold each unknown once and then only 255? */
 };
 
 /*
@@ -104,29 +109,34 @@ uint64_t layodegi_substitute(size_t u, size_t g, const uint8_t *condition, size_
                              const uint8_t *handed, size_t handed_length, uint8_t *out, size_t out_length);
 
 /*
- * Boole's answers: the general solution, each unknown itself being the parameter. Questions 1, 4, 8, 9.
- * condition: 2^n bytes; answers, written: U * 2^n bytes. With a no to 9 the code holds the smallest state in which
- * every choice gives the condition the value 1 (layodegi_code_number).
+ * Boole's answers: the general solution, each unknown itself being the parameter, the unknowns eliminated in an
+ * order. Questions 1, 17, 4, 8, 9.
+ * order: six bytes; condition: 2^n bytes; answers, written: U * 2^n bytes. With a no to 9 the code holds the smallest
+ * state in which every choice gives the condition the value 1 (layodegi_code_number); it is the same in any order.
  */
-uint64_t layodegi_boole(size_t u, size_t g, const uint8_t *condition, size_t condition_length,
+uint64_t layodegi_boole(size_t u, size_t g, const uint8_t order[6],
+                        const uint8_t *condition, size_t condition_length,
                         uint8_t *answers, size_t answers_length);
 
 /*
- * The particular solution: Boole's answers with 0 put for all parameters. Questions 1, 4, 8, 9.
- * Buffers and code as for layodegi_boole.
+ * The particular solution: Boole's answers with 0 put for all parameters. Questions 1, 17, 4, 8, 9.
+ * Order, buffers and code as for layodegi_boole.
  */
-uint64_t layodegi_particular(size_t u, size_t g, const uint8_t *condition, size_t condition_length,
+uint64_t layodegi_particular(size_t u, size_t g, const uint8_t order[6],
+                             const uint8_t *condition, size_t condition_length,
                              uint8_t *answers, size_t answers_length);
 
 /*
- * Loewenheim's answers, from the particular solution. Questions 1, 4, 8, 9.
- * Buffers and code as for layodegi_boole.
+ * Loewenheim's answers, from the particular solution. Questions 1, 17, 4, 8, 9.
+ * Order, buffers and code as for layodegi_boole.
  */
-uint64_t layodegi_lowenheim(size_t u, size_t g, const uint8_t *condition, size_t condition_length,
+uint64_t layodegi_lowenheim(size_t u, size_t g, const uint8_t order[6],
+                            const uint8_t *condition, size_t condition_length,
                             uint8_t *answers, size_t answers_length);
 
 /*
- * Loewenheim's formula on handed polynomials, whether or not they solve the condition. Questions 1, 4, 8.
+ * Loewenheim's formula on handed polynomials, whether or not they solve the condition; it needs no order.
+ * Questions 1, 4, 8.
  * condition: 2^n bytes; handed: U * 2^n bytes; answers, written: U * 2^n bytes.
  */
 uint64_t layodegi_lowenheim_handed(size_t u, size_t g,
@@ -135,32 +145,33 @@ uint64_t layodegi_lowenheim_handed(size_t u, size_t g,
                                    uint8_t *answers, size_t answers_length);
 
 /*
- * Writes the entry of a condition, with Boole's answers or 'none'. Questions 1, 2, 4, 8, 14.
- * condition: 2^n bytes; out, written: as long as the entry, LAYODEGI_LONGEST_ENTRY is always enough. The code holds
+ * Writes the entry of a condition, with Boole's answers in an order or 'none'. Questions 1, 2, 17, 4, 8, 14.
+ * order: six bytes; condition: 2^n bytes; out, written: as long as the entry, LAYODEGI_LONGEST_ENTRY is always enough. The code holds
  * the entry's length (layodegi_code_number).
  */
-uint64_t layodegi_write_entry(size_t route, size_t u, size_t g,
+uint64_t layodegi_write_entry(size_t route, size_t u, size_t g, const uint8_t order[6],
                               const uint8_t *condition, size_t condition_length,
                               uint8_t *out, size_t out_length);
 
 /*
- * Reads the entry at the start of the bytes; later bytes play no part. Questions 10, 11, 1, 2, 12, 4.
- * condition, written: 2^n bytes; answers, written if the entry is solved: U * 2^n bytes. The code holds what the
- * entry says (layodegi_entry_ functions).
+ * Reads the entry at the start of the bytes; later bytes play no part. Questions 10, 11, 1, 2, 12, 17, 4.
+ * order, written: six bytes, 0, 1, 2 and so on where the entry holds no order; condition, written: 2^n bytes;
+ * answers, written if the entry is solved: U * 2^n bytes. The code holds what the entry says (layodegi_entry_
+ * functions).
  */
-uint64_t layodegi_read_entry(const uint8_t *bytes, size_t bytes_length,
+uint64_t layodegi_read_entry(const uint8_t *bytes, size_t bytes_length, uint8_t order[6],
                              uint8_t *condition, size_t condition_length,
                              uint8_t *answers, size_t answers_length);
 
 /*
- * Reads the entry at the start of the bytes, solves its condition afresh and compares. Questions 10, 11, 1, 2, 12,
- * 13. The code holds what the entry says (layodegi_entry_ functions).
+ * Reads the entry at the start of the bytes, solves its condition afresh in its order and compares. Questions 10, 11,
+ * 1, 2, 12, 17, 13. The code holds what the entry says (layodegi_entry_ functions).
  */
 uint64_t layodegi_audit(const uint8_t *bytes, size_t bytes_length);
 
 /*
  * Audits the entries of a volume from a place to its end; a place at or past the end gives 0 entries. Questions 10,
- * 11, 1, 2, 12, 13, 15, per entry. The code holds the count of entries, after a no the count that passed before it
+ * 11, 1, 2, 12, 17, 13, 15, per entry. The code holds the count of entries, after a no the count that passed before it
  * (layodegi_code_number).
  */
 uint64_t layodegi_walk(const uint8_t *volume, size_t volume_length, size_t place);
@@ -175,6 +186,13 @@ static inline size_t layodegi_table_length(size_t u, size_t g)
 static inline size_t layodegi_answers_length(size_t u, size_t g)
 {
     return u * layodegi_table_length(u, g);
+}
+
+/* Puts the order 0, 1, 2 and so on of u unknowns, of six if there are more. */
+static inline void layodegi_default_order(size_t u, uint8_t order[6])
+{
+    for (size_t place = 0; place < LAYODEGI_ORDER_LENGTH; place++)
+        order[place] = place < u ? (uint8_t)place : LAYODEGI_UNUSED;
 }
 
 /* Of any code: the number of the first no, LAYODEGI_YES if there is none. */
@@ -247,12 +265,13 @@ static inline const char *layodegi_question_words(unsigned question)
     case LAYODEGI_SOLUTION:
         return "Has the condition a solution?";
     case LAYODEGI_RECORDS:
-        return "Does every record, to the first kind 4, have kind 1 to 5 and a whole body, "
+        return "Does every record, to the first kind 4, have kind 1 to 6 and a whole body, "
                "and is there a kind 4?";
     case LAYODEGI_KINDS:
         return "Are the kinds in the entry's order, both routes equal?";
     case LAYODEGI_NUMBERS:
-        return "Are masks below 2^n, unknowns below U, the state below 2^G, all in order, none twice?";
+        return "Are masks below 2^n, unknowns below U, the state below 2^G, all in order, none twice, "
+               "and is no kind 6 there for the order 0, 1, 2 and so on?";
     case LAYODEGI_AFRESH:
         return "Do the answers, or the state, equal those solved afresh?";
     case LAYODEGI_OUTPUT:
@@ -261,6 +280,8 @@ static inline const char *layodegi_question_words(unsigned question)
         return "Is the route above the one before?";
     case LAYODEGI_RANGE:
         return "Is the state below 2^G and the choice below 2^U?";
+    case LAYODEGI_ORDER:
+        return "Does the order hold each unknown once and then only 255?";
     default:
         return "no question of the paper";
     }

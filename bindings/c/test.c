@@ -35,6 +35,10 @@ static const uint8_t U_TIMES_V[4] = {0, 0, 0, 1};
 static const uint8_t SAME[8] = {0, 0, 1, 0, 0, 0, 1, 0}; /* u = v, v = v */
 /* Over the letters u and a. */
 static const uint8_t A[4] = {0, 0, 1, 0};
+static const uint8_t U_ALONE[6] = {0, 255, 255, 255, 255, 255};
+static const uint8_t U_FIRST[6] = {0, 1, 255, 255, 255, 255};
+static const uint8_t V_FIRST[6] = {1, 0, 255, 255, 255, 255};
+static const uint8_t V_TWICE[6] = {1, 1, 255, 255, 255, 255};
 
 static void check_tables(void)
 {
@@ -60,16 +64,23 @@ static void check_solving(void)
 {
     uint8_t answers[9];
     memset(answers, OLD, sizeof answers);
-    CHECK(layodegi_boole(2, 0, U_PLUS_V, 4, answers, 8) == 0);
+    CHECK(layodegi_boole(2, 0, V_FIRST, U_PLUS_V, 4, answers, 8) == 0);
+    CHECK(holds(answers, "\0\1\0\0\0\1\0\0", 8)); /* u = u, v = u */
+    CHECK(layodegi_boole(2, 0, U_FIRST, U_PLUS_V, 4, answers, 8) == 0);
     CHECK(holds(answers, SAME, 8));
-    CHECK(layodegi_particular(2, 0, U_PLUS_V, 4, answers, 8) == 0);
+    CHECK(layodegi_particular(2, 0, U_FIRST, U_PLUS_V, 4, answers, 8) == 0);
     CHECK(holds(answers, "\0\0\0\0\0\0\0\0", 8));
-    CHECK(layodegi_lowenheim(2, 0, U_PLUS_V, 4, answers, 8) == 0);
+    CHECK(layodegi_lowenheim(2, 0, V_FIRST, U_PLUS_V, 4, answers, 8) == 0);
     CHECK(holds(answers, "\0\0\0\1\0\0\0\1", 8));
     /* u + (u + v)*(u + v) = v, v + (u + v)*(v + v) = v */
     CHECK(layodegi_lowenheim_handed(2, 0, U_PLUS_V, 4, SAME, 8, answers, 8) == 0);
     CHECK(holds(answers, SAME, 8));
-    uint64_t none = layodegi_boole(1, 1, A, 4, answers, 4);
+    CHECK(layodegi_boole(2, 0, V_TWICE, U_PLUS_V, 4, answers, 8) == LAYODEGI_ORDER);
+    CHECK(layodegi_particular(2, 0, U_ALONE, U_PLUS_V, 3, answers, 8) == LAYODEGI_ORDER);
+    CHECK(layodegi_lowenheim(1, 0, U_FIRST, U_PLUS_V, 4, answers, 8) == LAYODEGI_ORDER);
+    CHECK(layodegi_boole(7, 0, V_TWICE, U_PLUS_V, 4, answers, 8) == LAYODEGI_LETTERS);
+    CHECK(holds(answers, SAME, 8));
+    uint64_t none = layodegi_boole(1, 1, U_ALONE, A, 4, answers, 4);
     CHECK(layodegi_code_question(none) == LAYODEGI_SOLUTION && layodegi_code_number(none) == 1);
     CHECK(holds(answers, SAME, 8));
 }
@@ -79,28 +90,30 @@ static void check_entries(void)
     /* the paper's sheet: routes 7 and 8 */
     static const uint8_t SHEET[] = {1, 7, 2, 0, 2, 1, 0, 2, 2, 0, 3, 0, 2, 0, 3, 1, 2, 0, 4, 7,
                                     1, 8, 1, 1, 2, 2, 0, 5, 1, 4, 8};
-    uint8_t volume[32], condition[5], answers[9];
+    uint8_t volume[32], order[7], condition[5], answers[9];
     memset(volume, OLD, sizeof volume);
+    memset(order, OLD, sizeof order);
     memset(condition, OLD, sizeof condition);
     memset(answers, OLD, sizeof answers);
-    CHECK(layodegi_code_number(layodegi_write_entry(7, 2, 0, U_PLUS_V, 4, volume, 32)) == 20);
-    CHECK(layodegi_code_number(layodegi_write_entry(8, 1, 1, A, 4, volume + 20, 11)) == 11);
+    CHECK(layodegi_code_number(layodegi_write_entry(7, 2, 0, U_FIRST, U_PLUS_V, 4, volume, 32)) == 20);
+    CHECK(layodegi_code_number(layodegi_write_entry(8, 1, 1, U_ALONE, A, 4, volume + 20, 11)) == 11);
     CHECK(holds(volume, SHEET, 31));
-    CHECK(layodegi_write_entry(251, 2, 0, U_PLUS_V, 4, volume, 32) == LAYODEGI_ROUTE);
-    CHECK(layodegi_write_entry(263, 2, 0, U_PLUS_V, 4, volume, 32) == LAYODEGI_ROUTE);
-    CHECK(layodegi_write_entry(7, 2, 0, U_PLUS_V, 4, volume, 19) == LAYODEGI_OUTPUT);
+    CHECK(layodegi_write_entry(251, 2, 0, V_TWICE, U_PLUS_V, 4, volume, 32) == LAYODEGI_ROUTE);
+    CHECK(layodegi_write_entry(263, 2, 0, U_FIRST, U_PLUS_V, 4, volume, 32) == LAYODEGI_ROUTE);
+    CHECK(layodegi_write_entry(7, 2, 0, V_TWICE, U_PLUS_V, 3, volume, 32) == LAYODEGI_ORDER);
+    CHECK(layodegi_write_entry(7, 2, 0, U_FIRST, U_PLUS_V, 4, volume, 19) == LAYODEGI_OUTPUT);
 
-    uint64_t solved = layodegi_read_entry(volume, 31, condition, 4, answers, 8);
+    uint64_t solved = layodegi_read_entry(volume, 31, order, condition, 4, answers, 8);
     CHECK(layodegi_code_question(solved) == LAYODEGI_YES && layodegi_entry_route(solved) == 7);
     CHECK(layodegi_entry_unknowns(solved) == 2 && layodegi_entry_givens(solved) == 0);
     CHECK(layodegi_entry_length(solved) == 20 && !layodegi_entry_is_none(solved));
-    CHECK(holds(condition, U_PLUS_V, 4) && holds(answers, SAME, 8));
+    CHECK(holds(order, U_FIRST, 6) && holds(condition, U_PLUS_V, 4) && holds(answers, SAME, 8));
     CHECK(layodegi_audit(volume, 31) == solved);
 
-    uint64_t none = layodegi_read_entry(volume + 20, 11, condition, 4, answers, 4);
+    uint64_t none = layodegi_read_entry(volume + 20, 11, order, condition, 4, answers, 4);
     CHECK(layodegi_entry_is_none(none) && layodegi_entry_state(none) == 1);
     CHECK(layodegi_entry_length(none) == 11);
-    CHECK(holds(condition, A, 4) && holds(answers, SAME, 8));
+    CHECK(holds(order, U_ALONE, 6) && holds(condition, A, 4) && holds(answers, SAME, 8));
 
     CHECK(layodegi_walk(volume, 31, 0) == 2 << 8);
     CHECK(layodegi_walk(volume, 31, 20) == 1 << 8);
@@ -110,11 +123,41 @@ static void check_entries(void)
     CHECK(layodegi_walk(volume, 31, 0) == (LAYODEGI_AFRESH | 1 << 8));
 }
 
+/* Route 7, u*v, with v eliminated first: a kind 6 behind the start. */
+static void check_orders(void)
+{
+    static const uint8_t ENTRY[28] = {1, 7, 2, 0, 6, 1, 0, 255, 255, 255, 255, 2, 3, 0,
+                                      3, 0, 1, 0, 3, 1, 2, 0, 3, 1, 3, 0, 4, 7};
+    uint8_t bytes[29], order[7], condition[5], answers[9];
+    memset(bytes, OLD, sizeof bytes);
+    memset(order, OLD, sizeof order);
+    memset(condition, OLD, sizeof condition);
+    memset(answers, OLD, sizeof answers);
+    CHECK(layodegi_code_number(layodegi_write_entry(7, 2, 0, V_FIRST, U_TIMES_V, 4, bytes, 28)) == 28);
+    CHECK(holds(bytes, ENTRY, 28));
+    uint64_t solved = layodegi_read_entry(bytes, 28, order, condition, 4, answers, 8);
+    CHECK(layodegi_code_question(solved) == LAYODEGI_YES && layodegi_entry_length(solved) == 28);
+    CHECK(holds(order, V_FIRST, 6) && holds(condition, U_TIMES_V, 4));
+    CHECK(holds(answers, "\0\1\0\0\0\0\1\1", 8)); /* u = u, v = v + u*v */
+    CHECK(layodegi_audit(bytes, 28) == solved);
+    CHECK(layodegi_walk(bytes, 28, 0) == 1 << 8);
+
+    bytes[5] = 0; /* u twice */
+    CHECK(layodegi_read_entry(bytes, 28, order, condition, 4, answers, 7) == LAYODEGI_ORDER);
+    CHECK(layodegi_audit(bytes, 28) == LAYODEGI_ORDER);
+    CHECK(holds(order, V_FIRST, 6));
+    bytes[6] = 1; /* the order 0, 1, in which kind 6 is left out */
+    CHECK(layodegi_read_entry(bytes, 28, order, condition, 4, answers, 8) == LAYODEGI_NUMBERS);
+    layodegi_default_order(2, order);
+    CHECK(holds(order, U_FIRST, 6));
+}
+
 int main(void)
 {
     check_tables();
     check_solving();
     check_entries();
+    check_orders();
     if (failed != 0)
         return EXIT_FAILURE;
     puts("each function of the header: as expected");

@@ -1,11 +1,12 @@
-//! The calls on lent tables. Each asks its questions in document 01's order,
-//! works out the whole result, and only then changes a lent byte.
+//! The calls on lent tables. Each asks its questions in the papers' order, works
+//! out the whole result, and only then changes a lent byte.
 //! Question 4 goes to all buffers before 8 goes to all tables to be read;
 //! bytes behind the asked length are neither asked nor changed.
 
 use crate::polynomial::Polynomial;
 use crate::questions::{
-    ask, ask_bytes, ask_length, ask_letters, ask_text_length, Choice, Letters, Refusal, State,
+    ask, ask_bytes, ask_length, ask_letters, ask_order, ask_text_length, Choice, Letters, Order,
+    Refusal, State,
 };
 use crate::solution::{formula, solve_boole, solve_lowenheim, solve_particular, Solution, Solved};
 use crate::text::read_tree;
@@ -59,19 +60,37 @@ pub fn substitute(
     Ok(())
 }
 
-/// Boole's answer. Questions 1, 4, 8, 9.
-pub fn boole(u: u64, g: u64, condition: &[u8], answers: &mut [u8]) -> Result<Solved, Refusal> {
-    solve(u, g, condition, answers, solve_boole)
+/// Boole's answer, the unknowns going in an order. Questions 1, 17, 4, 8, 9.
+pub fn boole(
+    u: u64,
+    g: u64,
+    order: Order,
+    condition: &[u8],
+    answers: &mut [u8],
+) -> Result<Solved, Refusal> {
+    solve(u, g, order, condition, answers, solve_boole)
 }
 
-/// The particular solution. Questions 1, 4, 8, 9.
-pub fn particular(u: u64, g: u64, condition: &[u8], answers: &mut [u8]) -> Result<Solved, Refusal> {
-    solve(u, g, condition, answers, solve_particular)
+/// The particular solution. Questions 1, 17, 4, 8, 9.
+pub fn particular(
+    u: u64,
+    g: u64,
+    order: Order,
+    condition: &[u8],
+    answers: &mut [u8],
+) -> Result<Solved, Refusal> {
+    solve(u, g, order, condition, answers, solve_particular)
 }
 
-/// The engine's own Löwenheim answer. Questions 1, 4, 8, 9.
-pub fn lowenheim(u: u64, g: u64, condition: &[u8], answers: &mut [u8]) -> Result<Solved, Refusal> {
-    solve(u, g, condition, answers, solve_lowenheim)
+/// The engine's own Löwenheim answer. Questions 1, 17, 4, 8, 9.
+pub fn lowenheim(
+    u: u64,
+    g: u64,
+    order: Order,
+    condition: &[u8],
+    answers: &mut [u8],
+) -> Result<Solved, Refusal> {
+    solve(u, g, order, condition, answers, solve_lowenheim)
 }
 
 /// Löwenheim's formula with handed polynomials. Questions 1, 4, 8.
@@ -93,15 +112,17 @@ pub fn lowenheim_handed(
 fn solve(
     u: u64,
     g: u64,
+    order: Order,
     condition: &[u8],
     answers: &mut [u8],
-    method: fn(Letters, &Polynomial) -> Solution,
+    method: fn(Letters, &[usize], &Polynomial) -> Solution,
 ) -> Result<Solved, Refusal> {
     let letters = ask_letters(u, g)?;
+    let unknowns = ask_order(letters, order)?;
     ask_length(condition, letters.table_length())?;
     ask_length(answers, letters.answer_length())?;
     ask_bytes(condition, letters.table_length())?;
-    match method(letters, &lent(condition, letters)) {
+    match method(letters, &unknowns, &lent(condition, letters)) {
         Solution::Answers(polynomials) => {
             fill(answers, letters, &polynomials);
             Ok(Solved::Done)

@@ -1,6 +1,7 @@
-//! What test cases are made from: random numbers, tables, bounds and bench rows.
+//! What test cases are made from: random numbers, tables, bounds, orders and bench rows.
 
 pub mod entries;
+pub mod orders;
 pub mod texts;
 
 use crate::plain::transform;

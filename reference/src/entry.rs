@@ -4,7 +4,7 @@
 use crate::calls::{fill, lent};
 use crate::polynomial::Polynomial;
 use crate::questions::{
-    ask, ask_bytes, ask_length, ask_letters, ask_route, Letters, Refusal, State,
+    ask, ask_bytes, ask_length, ask_letters, ask_order, ask_route, Letters, Order, Refusal, State,
 };
 use crate::solution::{solve_boole, Solution};
 
@@ -21,6 +21,8 @@ pub enum Record {
     End(u8),
     /// Kind 5: 'none', the state.
     None(u8),
+    /// Kind 6: the order of elimination.
+    Order(Order),
 }
 
 impl Record {
@@ -31,6 +33,7 @@ impl Record {
             Record::Answer(unknown, mask) => vec![3, unknown, mask as u8, (mask >> 8) as u8],
             Record::End(route) => vec![4, route],
             Record::None(state) => vec![5, state],
+            Record::Order(order) => [&[6], &order.0[..]].concat(),
         }
     }
 
@@ -39,10 +42,11 @@ impl Record {
             Record::Start(..) | Record::Answer(..) => 4,
             Record::Monomial(_) => 3,
             Record::End(_) | Record::None(_) => 2,
+            Record::Order(_) => 7,
         }
     }
 
-    /// The record at the start of bytes: a kind 1 to 5 and a whole body, or nothing.
+    /// The record at the start of bytes: a kind 1 to 6 and a whole body, or nothing.
     fn first(bytes: &[u8]) -> Option<Record> {
         match *bytes {
             [1, route, u, g, ..] => Some(Record::Start(route, u, g)),
@@ -52,16 +56,26 @@ impl Record {
             }
             [4, route, ..] => Some(Record::End(route)),
             [5, state, ..] => Some(Record::None(state)),
+            [6, a, b, c, d, e, f, ..] => Some(Record::Order(Order([a, b, c, d, e, f]))),
             _ => None,
         }
     }
 }
 
-/// The records of the entry for a route and a condition, solved by Boole's method.
-pub fn entry_records(route: u8, letters: Letters, condition: &Polynomial) -> Vec<Record> {
+/// The records of the entry for a route and a condition, solved by Boole's method, the unknowns
+/// going as an order that has passed question 17 says. Kind 6 is left out for 0, 1, 2 and so on.
+pub fn entry_records(
+    route: u8,
+    letters: Letters,
+    order: &[usize],
+    condition: &Polynomial,
+) -> Vec<Record> {
     let mut records = vec![Record::Start(route, letters.unknowns as u8, letters.givens as u8)];
+    if !order.iter().copied().eq(0..letters.unknowns) {
+        records.push(Record::Order(Order::of(order)));
+    }
     records.extend(condition.written().into_iter().map(Record::Monomial));
-    match solve_boole(letters, condition) {
+    match solve_boole(letters, order, condition) {
         Solution::Answers(answers) => {
             for (unknown, answer) in answers.iter().enumerate() {
                 let record = |mask| Record::Answer(unknown as u8, mask);
@@ -74,19 +88,22 @@ pub fn entry_records(route: u8, letters: Letters, condition: &Polynomial) -> Vec
     records
 }
 
-/// Writes the entry of a condition and gives its length. Questions 1, 2, 4, 8, 14.
+/// Writes the entry of a condition and an order and gives its length.
+/// Questions 1, 2, 17, 4, 8, 14.
 pub fn write_entry(
     route: u64,
     u: u64,
     g: u64,
+    order: Order,
     condition: &[u8],
     output: &mut [u8],
 ) -> Result<usize, Refusal> {
     let letters = ask_letters(u, g)?;
     ask_route(route)?;
+    let unknowns = ask_order(letters, order)?;
     ask_length(condition, letters.table_length())?;
     ask_bytes(condition, letters.table_length())?;
-    let records = entry_records(route as u8, letters, &lent(condition, letters));
+    let records = entry_records(route as u8, letters, &unknowns, &lent(condition, letters));
     let bytes: Vec<u8> = records.into_iter().flat_map(Record::bytes).collect();
     ask(14, output.len() >= bytes.len())?;
     output[..bytes.len()].copy_from_slice(&bytes);
@@ -100,7 +117,7 @@ pub enum Contents {
     None(State),
 }
 
-/// What reading an entry gives, beside the tables.
+/// What reading an entry gives, beside the order and the tables.
 #[derive(Clone, Copy, Debug, PartialEq, Eq)]
 pub struct Reading {
     pub route: u8,
@@ -110,23 +127,27 @@ pub struct Reading {
     pub length: usize,
 }
 
-/// An entry for which questions 10, 11, 1, 2 and 12 are answered yes.
+/// An entry for which questions 10, 11, 1, 2, 12 and 17 are answered yes.
 pub struct Entry {
     pub reading: Reading,
     pub letters: Letters,
+    /// The unknowns, first eliminated first.
+    pub order: Vec<usize>,
     pub records: Vec<Record>,
 }
 
-/// Reads an entry into the two buffers. Questions 10, 11, 1, 2, 12, 4.
+/// Reads an entry into the order and the two buffers. Questions 10, 11, 1, 2, 12, 17, 4.
 /// A 'none' entry leaves the answer buffer untouched, but 4 is asked of it.
 pub fn read_entry(
     bytes: &[u8],
+    order: &mut Order,
     condition: &mut [u8],
     answers: &mut [u8],
 ) -> Result<Reading, Refusal> {
     let entry = examine(bytes)?;
     ask_length(condition, entry.letters.table_length())?;
     ask_length(answers, entry.letters.answer_length())?;
+    *order = Order::of(&entry.order);
     fill(condition, entry.letters, &[condition_of(&entry.records)]);
     if let Solution::Answers(polynomials) = solution_of(entry.letters, &entry.records) {
         fill(answers, entry.letters, &polynomials);
@@ -134,29 +155,33 @@ pub fn read_entry(
     Ok(entry.reading)
 }
 
-/// Reads an entry, solves its condition afresh and compares.
-/// Questions 10, 11, 1, 2, 12, 13.
+/// Reads an entry, solves its condition afresh in its order and compares.
+/// Questions 10, 11, 1, 2, 12, 17, 13.
 pub fn audit(bytes: &[u8]) -> Result<Reading, Refusal> {
     let entry = examine(bytes)?;
-    let afresh = solve_boole(entry.letters, &condition_of(&entry.records));
+    let afresh = solve_boole(entry.letters, &entry.order, &condition_of(&entry.records));
     ask(13, solution_of(entry.letters, &entry.records) == afresh)?;
     Ok(entry.reading)
 }
 
-/// Asks 10, 11, 1, 2 and 12.
+/// Asks 10, 11, 1, 2, 12 and 17.
 pub fn examine(bytes: &[u8]) -> Result<Entry, Refusal> {
     let records = records_to_end(bytes).ok_or(Refusal(10))?;
-    let (route, unknowns, givens) = ask_order_of_kinds(&records)?;
+    let (route, unknowns, givens) = ask_kinds(&records)?;
     let letters = ask_letters(unknowns as u64, givens as u64)?;
     ask_route(route as u64)?;
     ask(12, are_numbers_right(letters, &records))?;
+    let order = match records[1] {
+        Record::Order(order) => ask_order(letters, order)?,
+        _ => (0..letters.unknowns).collect(),
+    };
     let contents = match records[records.len() - 2] {
         Record::None(state) => Contents::None(State(state as u64)),
         _ => Contents::Solved,
     };
     let length = records.iter().map(|record| record.length()).sum();
     let reading = Reading { route, unknowns, givens, contents, length };
-    Ok(Entry { reading, letters, records })
+    Ok(Entry { reading, letters, order, records })
 }
 
 /// 10. The records to the first kind 4, or nothing.
@@ -173,10 +198,14 @@ fn records_to_end(bytes: &[u8]) -> Option<Vec<Record>> {
     }
 }
 
-/// 11. One kind 1; kind 2; kind 3 or one kind 5; one kind 4; both routes equal.
-fn ask_order_of_kinds(records: &[Record]) -> Result<(u8, u8, u8), Refusal> {
+/// 11. One kind 1; at most one kind 6; kind 2; kind 3 or one kind 5; one kind 4; both routes equal.
+fn ask_kinds(records: &[Record]) -> Result<(u8, u8, u8), Refusal> {
     let [Record::Start(route, u, g), inner @ .., Record::End(again)] = records else {
         return Err(Refusal(11));
+    };
+    let inner = match inner {
+        [Record::Order(_), others @ ..] => others,
+        all => all,
     };
     let is_monomial = |record: &Record| matches!(record, Record::Monomial(_));
     let is_answer = |record: &Record| matches!(record, Record::Answer(..));
@@ -187,17 +216,19 @@ fn ask_order_of_kinds(records: &[Record]) -> Result<(u8, u8, u8), Refusal> {
     Ok((*route, *u, *g))
 }
 
-/// 12. Masks below 2^n, unknowns below U, the state below 2^G, all in order, none twice.
+/// 12. Masks below 2^n, unknowns below U, the state below 2^G, all in order, none twice; and no
+/// kind 6 with the order 0, 1, 2 and so on.
 fn are_numbers_right(letters: Letters, records: &[Record]) -> bool {
-    let below = records.iter().all(|record| match *record {
+    let right = records.iter().all(|record| match *record {
         Record::Monomial(mask) => (mask as usize) < letters.table_length(),
         Record::Answer(unknown, mask) => {
             (unknown as usize) < letters.unknowns && (mask as usize) < letters.table_length()
         }
         Record::None(state) => (state as u64) < letters.states(),
+        Record::Order(order) => order != Order::default_for(letters.unknowns),
         Record::Start(..) | Record::End(_) => true,
     });
-    below && records.windows(2).all(|pair| are_rising(pair[0], pair[1]))
+    right && records.windows(2).all(|pair| are_rising(pair[0], pair[1]))
 }
 
 /// By unknown, then fewer letters, then the smaller mask; other pairs of kinds pass.

@@ -1,7 +1,8 @@
-//! A plain implementation of document 01, the thirty-year route volume.
+//! A plain implementation of document 01, the thirty-year route volume, and of
+//! request C-11 of document 02, the order of elimination.
 //!
-//! Written from the paper alone, to test the engine against: polynomials are
-//! sets of monomials and every step is worked out in the paper's own words.
+//! Written from the papers alone, to test the engine against: polynomials are
+//! sets of monomials and every step is worked out in the papers' own words.
 //! Module `plain` works out the same answers by values, for speed; module `cases`
 //! has what test cases are made from.
 //! The public calls are the functions and types named below.
@@ -22,6 +23,6 @@ pub use calls::{
 pub use entry::{audit, read_entry, write_entry, Contents, Count, Reading, Walk};
 pub use polynomial::Polynomial;
 pub use programs::{sheet, walk_output};
-pub use questions::{Choice, Letters, Refusal, State};
+pub use questions::{Choice, Letters, Order, Refusal, State, LONGEST_ENTRY};
 pub use solution::{Solution, Solved};
 pub use text::{read_tree, Tree};

@@ -71,7 +71,8 @@ fn entry_of(fields: &Fields, last_route: u64) -> Result<Vec<Record>, Refusal> {
     let tree = read_tree(letters, fields.text)?;
     ask(15, fields.route > last_route)?;
     let table = tree.polynomial().to_table(letters.table_length());
-    Ok(entry_records(fields.route as u8, letters, &lent(&table, letters)))
+    let order: Vec<usize> = (0..letters.unknowns).collect();
+    Ok(entry_records(fields.route as u8, letters, &order, &lent(&table, letters)))
 }
 
 /// Two lower-case hexadecimal digits a byte, one record on a line.

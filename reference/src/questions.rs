@@ -1,5 +1,5 @@
-//! The questions of document 01 that more than one call asks, their numbers,
-//! and the letters, states and choices that they speak of.
+//! The questions of documents 01 and 02 that more than one call asks, their numbers,
+//! and the letters, states, choices and orders that they speak of.
 
 /// U counts the unknowns, 0 to 6.
 pub const MOST_UNKNOWNS: u64 = 6;
@@ -11,6 +11,10 @@ pub const MOST_LETTERS: u64 = 10;
 pub const LAST_ROUTE: u64 = 250;
 /// The text has 1 to 200 bytes.
 pub const LONGEST_TEXT: usize = 200;
+/// The bound on an entry.
+pub const LONGEST_ENTRY: usize = 27_661;
+/// Stands in the places of an order that no unknown needs.
+pub const UNUSED: u8 = 255;
 
 /// The number of the first question answered no.
 #[derive(Clone, Copy, Debug, PartialEq, Eq)]
@@ -23,6 +27,27 @@ pub struct State(pub u64);
 /// A number below 2^U: bit j is the value of unknown j.
 #[derive(Clone, Copy, Debug, PartialEq, Eq)]
 pub struct Choice(pub u64);
+
+/// Six bytes: the unknown numbers, first eliminated first, then 255 in unused places. Question 17
+/// asks whether they are that, so any bytes may stand here.
+#[derive(Clone, Copy, Debug, PartialEq, Eq)]
+pub struct Order(pub [u8; MOST_UNKNOWNS as usize]);
+
+impl Order {
+    /// The bytes for unknowns, first eliminated first.
+    pub fn of(unknowns: &[usize]) -> Order {
+        let mut bytes = [UNUSED; MOST_UNKNOWNS as usize];
+        for (byte, &unknown) in bytes.iter_mut().zip(unknowns) {
+            *byte = unknown as u8;
+        }
+        Order(bytes)
+    }
+
+    /// The order 0, 1, 2 and so on.
+    pub fn default_for(unknowns: usize) -> Order {
+        Order(std::array::from_fn(|place| if place < unknowns { place as u8 } else { UNUSED }))
+    }
+}
 
 /// Counts of unknowns and givens for which question 1 is answered yes.
 #[derive(Clone, Copy, Debug, PartialEq, Eq)]
@@ -106,4 +131,14 @@ pub fn ask_length(buffer: &[u8], length: usize) -> Result<(), Refusal> {
 /// 8, of one table: is each byte, as far as the length, 0 or 1?
 pub fn ask_bytes(table: &[u8], length: usize) -> Result<(), Refusal> {
     ask(8, table[..length].iter().all(|&byte| byte <= 1))
+}
+
+/// 17. Does the order hold each unknown once and then only 255?
+///
+/// Answers the unknowns, first eliminated first.
+pub fn ask_order(letters: Letters, order: Order) -> Result<Vec<usize>, Refusal> {
+    let (used, unused) = order.0.split_at(letters.unknowns);
+    let once = |unknown: usize| used.iter().filter(|&&byte| byte as usize == unknown).count() == 1;
+    ask(17, (0..letters.unknowns).all(once) && unused.iter().all(|&byte| byte == UNUSED))?;
+    Ok(used.iter().map(|&byte| byte as usize).collect())
 }

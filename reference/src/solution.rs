@@ -19,19 +19,20 @@ pub enum Solved {
     None(State),
 }
 
-/// f with x = 1 and f with x = 0.
+/// An unknown x that goes: f with x = 1 and f with x = 0.
 struct Step {
+    unknown: usize,
     r: Polynomial,
     s: Polynomial,
 }
 
-/// Unknown 0 goes first; the answers are found from the last unknown back.
-pub fn solve_boole(letters: Letters, condition: &Polynomial) -> Solution {
+/// The unknowns go in the order given; the answers are found from the last that went back.
+pub fn solve_boole(letters: Letters, order: &[usize], condition: &Polynomial) -> Solution {
     let mut steps = Vec::new();
     let mut current = condition.clone();
-    for j in 0..letters.unknowns {
-        let x = letters.unknown(j);
-        let step = Step { r: current.with_one(x), s: current.with_zero(x) };
+    for &unknown in order {
+        let x = letters.unknown(unknown);
+        let step = Step { unknown, r: current.with_one(x), s: current.with_zero(x) };
         current = step.r.product(&step.s);
         steps.push(step);
     }
@@ -46,11 +47,11 @@ fn go_back(letters: Letters, steps: &[Step]) -> Vec<Polynomial> {
     // An unknown that has gone is in no later r or s; it stands for itself.
     let itself = |j| Polynomial::monomial(letters.unknown(j));
     let mut answers: Vec<Polynomial> = (0..letters.unknowns).map(itself).collect();
-    for j in (0..letters.unknowns).rev() {
-        let r = steps[j].r.substitute(&answers);
-        let s = steps[j].s.substitute(&answers);
+    for step in steps.iter().rev() {
+        let r = step.r.substitute(&answers);
+        let s = step.s.substitute(&answers);
         let factor = r.sum(&s).sum(&Polynomial::one());
-        answers[j] = itself(j).product(&factor).sum(&s);
+        answers[step.unknown] = itself(step.unknown).product(&factor).sum(&s);
     }
     answers
 }
@@ -65,8 +66,8 @@ fn blocked_state(letters: Letters, condition: &Polynomial) -> State {
 }
 
 /// Boole's answer with 0 put for all parameters.
-pub fn solve_particular(letters: Letters, condition: &Polynomial) -> Solution {
-    match solve_boole(letters, condition) {
+pub fn solve_particular(letters: Letters, order: &[usize], condition: &Polynomial) -> Solution {
+    match solve_boole(letters, order, condition) {
         Solution::Answers(answers) => {
             let zeros = vec![Polynomial::zero(); letters.unknowns];
             Solution::Answers(answers.iter().map(|answer| answer.substitute(&zeros)).collect())
@@ -76,8 +77,8 @@ pub fn solve_particular(letters: Letters, condition: &Polynomial) -> Solution {
 }
 
 /// Löwenheim's formula with the particular solution.
-pub fn solve_lowenheim(letters: Letters, condition: &Polynomial) -> Solution {
-    match solve_particular(letters, condition) {
+pub fn solve_lowenheim(letters: Letters, order: &[usize], condition: &Polynomial) -> Solution {
+    match solve_particular(letters, order, condition) {
         Solution::Answers(b) => Solution::Answers(formula(letters, condition, &b)),
         none => none,
     }

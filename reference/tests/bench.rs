@@ -1,6 +1,10 @@
 //! The rows of the bench table, the slips to shut out, and the two programs.
 
+use reference::cases::orders::{every_order, wrong_orders};
 use reference::*;
+
+/// v first, then u.
+const V_FIRST: Order = Order([1, 0, 255, 255, 255, 255]);
 
 /// The condition table of a text.
 fn condition(u: u64, g: u64, text: &str) -> Vec<u8> {
@@ -16,16 +20,27 @@ fn refusal(u: u64, g: u64, text: &str) -> u8 {
     result.expect_err("a refusal").0
 }
 
-/// Checks an answer against texts for its polynomials.
+/// Checks an answer in the order 0, 1, 2 and so on against texts for its polynomials.
 fn assert_answers(u: u64, g: u64, text: &str, boole_texts: &[&str], lowenheim_texts: &[&str]) {
+    assert_answers_in(Order::default_for(u as usize), u, g, text, boole_texts, lowenheim_texts);
+}
+
+fn assert_answers_in(
+    order: Order,
+    u: u64,
+    g: u64,
+    text: &str,
+    boole_texts: &[&str],
+    lowenheim_texts: &[&str],
+) {
     let table = condition(u, g, text);
     let tables =
         |texts: &[&str]| -> Vec<u8> { texts.iter().flat_map(|t| condition(u, g, t)).collect() };
     let mut answers = vec![7; u as usize * table.len()];
-    assert_eq!(boole(u, g, &table, &mut answers), Ok(Solved::Done));
+    assert_eq!(boole(u, g, order, &table, &mut answers), Ok(Solved::Done));
     assert_eq!(answers, tables(boole_texts), "{text}");
     if !lowenheim_texts.is_empty() {
-        assert_eq!(lowenheim(u, g, &table, &mut answers), Ok(Solved::Done));
+        assert_eq!(lowenheim(u, g, order, &table, &mut answers), Ok(Solved::Done));
         assert_eq!(answers, tables(lowenheim_texts), "{text}");
     }
 }
@@ -34,8 +49,11 @@ fn assert_none(u: u64, g: u64, text: &str, state: u64) {
     let table = condition(u, g, text);
     let mut answers = vec![7; u as usize * table.len()];
     for method in [boole, particular, lowenheim] {
-        assert_eq!(method(u, g, &table, &mut answers), Ok(Solved::None(State(state))));
-        assert!(answers.iter().all(|&byte| byte == 7));
+        for order in every_order(u) {
+            let solved = method(u, g, order, &table, &mut answers);
+            assert_eq!(solved, Ok(Solved::None(State(state))));
+            assert!(answers.iter().all(|&byte| byte == 7));
+        }
     }
 }
 
@@ -55,6 +73,104 @@ fn starred_rows() {
     assert_eq!(condition(2, 0, "(v+1)*(u+v)+(v+1)*u"), [0; 4]);
 }
 
+/// Rows of two and three unknowns, worked out by hand in other orders.
+#[test]
+fn rows_in_other_orders() {
+    assert_answers_in(V_FIRST, 2, 0, "u+v", &["u", "u"], &["u*v", "u*v"]);
+    assert_answers_in(V_FIRST, 2, 0, "u*v", &["u", "v+u*v"], &[]);
+    assert_answers_in(V_FIRST, 2, 0, "u+v+1", &["u", "1+u"], &["u+u*v", "1+u+u*v"]);
+    assert_answers_in(V_FIRST, 2, 1, "(u+v)|(v+a)", &["a", "a"], &[]);
+    assert_answers_in(V_FIRST, 2, 1, "a+v+u*v", &["u+u*a", "a+u*v+u*v*a"], &[]);
+    let w_u_v = Order([2, 0, 1, 255, 255, 255]);
+    assert_answers_in(w_u_v, 3, 0, "u*v+w", &["u", "v", "u*v"], &[]);
+    assert_answers_in(w_u_v, 3, 0, "u*v*w", &["u", "v", "w+u*v*w"], &[]);
+}
+
+/// 1, 17, 4, 8, 9 when solving; 1, 2, 17, 4, 8, 14 when writing.
+#[test]
+fn place_of_question_17() {
+    let wrong = Order([0; 6]);
+    for method in [boole, particular, lowenheim] {
+        assert_eq!(method(7, 0, wrong, &[], &mut []), Err(Refusal(1)));
+        assert_eq!(method(2, 0, wrong, &[], &mut []), Err(Refusal(17)));
+        assert_eq!(method(2, 0, V_FIRST, &[0, 2, 0], &mut [7; 8]), Err(Refusal(4)));
+        assert_eq!(method(2, 0, V_FIRST, &[0, 2, 0, 0], &mut [7; 7]), Err(Refusal(4)));
+        assert_eq!(method(2, 0, V_FIRST, &[0, 2, 0, 0], &mut [7; 8]), Err(Refusal(8)));
+    }
+    assert_eq!(write_entry(0, 7, 0, wrong, &[], &mut []), Err(Refusal(1)));
+    assert_eq!(write_entry(0, 2, 0, wrong, &[], &mut []), Err(Refusal(2)));
+    assert_eq!(write_entry(1, 2, 0, wrong, &[], &mut []), Err(Refusal(17)));
+    assert_eq!(write_entry(1, 2, 0, V_FIRST, &[], &mut []), Err(Refusal(4)));
+    assert_eq!(write_entry(1, 2, 0, V_FIRST, &[2; 4], &mut []), Err(Refusal(8)));
+    assert_eq!(write_entry(1, 2, 0, V_FIRST, &[0; 4], &mut [7; 20]), Err(Refusal(14)));
+    for u in 0..=6 {
+        assert!(wrong_orders(u).len() > 10);
+        for order in wrong_orders(u) {
+            let table = vec![0; 1 << u];
+            let refused = boole(u, 0, order, &table, &mut vec![7; u as usize * table.len()]);
+            assert_eq!(refused, Err(Refusal(17)), "{order:?}");
+        }
+    }
+}
+
+/// The bytes of route 7 with the condition u*v, v first, and each way in which kind 6 is wrong.
+#[test]
+fn kind_6() {
+    let entry = [
+        &[1, 7, 2, 0][..],
+        &[6, 1, 0, 255, 255, 255, 255],
+        &[2, 3, 0],
+        &[3, 0, 1, 0],
+        &[3, 1, 2, 0],
+        &[3, 1, 3, 0],
+        &[4, 7],
+    ];
+    let mut bytes = [7; 40];
+    assert_eq!(write_entry(7, 2, 0, V_FIRST, &[0, 0, 0, 1], &mut bytes), Ok(28));
+    assert_eq!(bytes[..28], entry.concat());
+    assert_eq!(bytes[28..], [7; 12]);
+    let read = |records: &[&[u8]]| {
+        let (mut order, mut condition, mut answers) = (Order([7; 6]), [7; 64], [7; 384]);
+        let result = read_entry(&records.concat(), &mut order, &mut condition, &mut answers);
+        if result.is_err() {
+            assert_eq!((order, condition, answers), (Order([7; 6]), [7; 64], [7; 384]));
+        }
+        (result.map(|reading| reading.length), order)
+    };
+    let refused = |records: &[&[u8]]| {
+        let (result, _) = read(records);
+        assert_eq!(audit(&records.concat()).map(|reading| reading.length), result);
+        result.expect_err("a refusal").0
+    };
+    let [start, order, monomial, u, v, uv, end] = entry;
+    assert_eq!(read(&entry), (Ok(28), V_FIRST));
+    assert_eq!(audit(&entry.concat()).map(|reading| reading.length), Ok(28));
+    assert_eq!(read(&[start, monomial, u, v, uv, end]).1, Order::default_for(2));
+    // its place, and at most one
+    assert_eq!(refused(&[order, start, monomial, u, v, uv, end]), 11);
+    assert_eq!(refused(&[start, order, order, monomial, u, v, uv, end]), 11);
+    assert_eq!(refused(&[start, monomial, order, u, v, uv, end]), 11);
+    assert_eq!(refused(&[start, monomial, u, order, v, uv, end]), 11);
+    assert_eq!(refused(&[start, monomial, u, v, uv, order, end]), 11);
+    assert_eq!(refused(&[start, monomial, &[5, 0], order, end]), 11);
+    // its body: the missing byte is taken from what follows
+    assert_eq!(refused(&[start, &order[..6], end]), 10);
+    assert_eq!(refused(&[start, &order[..6]]), 10);
+    // the order 0, 1, 2 and so on, with the U of the entry
+    for (u, order) in (0..=6u8).map(|u| (u, Order::default_for(u.into()))) {
+        assert_eq!(refused(&[&[1, 7, u, 0], &[6], &order.0, end]), 12);
+    }
+    // every other wrong order is 17, after all of 12 and before 4 and 13
+    for (u, number) in [(0, 17), (1, 17), (2, 12), (3, 17), (6, 17)] {
+        let default = Order::default_for(2);
+        assert_eq!(refused(&[&[1, 7, u, 0], &[6], &default.0, end]), number);
+        assert_eq!(refused(&[&[1, 7, u, 0], &[6], &default.0, &[2, 64, 0], end]), 12);
+    }
+    assert_eq!(refused(&[start, &[6, 0, 0, 255, 255, 255, 255], &[5, 0], end]), 17);
+    let wrong = [start, &[6, 0, 0, 255, 255, 255, 255], end].concat();
+    assert_eq!(read_entry(&wrong, &mut Order([7; 6]), &mut [], &mut []), Err(Refusal(17)));
+}
+
 #[test]
 fn other_rows() {
     let mut buffer = [0; 1024];
@@ -64,9 +180,10 @@ fn other_rows() {
     assert_eq!(refusal(6, 5, "u"), 1);
     assert_eq!(refusal(2, 0, "w"), 6);
     assert_eq!(refusal(2, 0, "()"), 7);
-    assert_eq!(write_entry(250, 1, 0, &[0, 1], &mut buffer), Ok(9));
-    assert_eq!(write_entry(251, 1, 0, &[0, 1], &mut buffer), Err(Refusal(2)));
-    assert_eq!(write_entry(0, 1, 0, &[0, 1], &mut buffer), Err(Refusal(2)));
+    let order = Order::default_for(1);
+    assert_eq!(write_entry(250, 1, 0, order, &[0, 1], &mut buffer), Ok(9));
+    assert_eq!(write_entry(251, 1, 0, order, &[0, 1], &mut buffer), Err(Refusal(2)));
+    assert_eq!(write_entry(0, 1, 0, order, &[0, 1], &mut buffer), Err(Refusal(2)));
 }
 
 #[test]

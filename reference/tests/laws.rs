@@ -3,15 +3,22 @@
 mod common;
 
 use common::{all_letters, Random};
+use reference::cases::orders::{every_order, reverse_order};
 use reference::*;
+use std::collections::HashSet;
 
-type Method = fn(u64, u64, &[u8], &mut [u8]) -> Result<Solved, Refusal>;
+type Method = fn(u64, u64, Order, &[u8], &mut [u8]) -> Result<Solved, Refusal>;
 
 /// The answer tables, or the state.
-fn solved(letters: Letters, condition: &[u8], method: Method) -> Result<Vec<u8>, State> {
+fn solved(
+    letters: Letters,
+    order: Order,
+    condition: &[u8],
+    method: Method,
+) -> Result<Vec<u8>, State> {
     let mut answers = vec![7; letters.answer_length()];
     let (u, g) = (letters.unknowns as u64, letters.givens as u64);
-    match method(u, g, condition, &mut answers).expect("no refusal") {
+    match method(u, g, order, condition, &mut answers).expect("no refusal") {
         Solved::Done => Ok(answers),
         Solved::None(state) => Err(state),
     }
@@ -55,7 +62,7 @@ fn put(letters: Letters, answers: &[u8], substitution: &[usize]) -> Vec<usize> {
     substitution.iter().enumerate().map(at).collect()
 }
 
-/// 'None' exactly where no substitution solves; every answer solves; every
+/// In every order: 'none' exactly where no substitution solves; every answer solves; every
 /// substitution that solves is an instance.
 #[test]
 fn every_solution_is_an_instance() {
@@ -81,14 +88,16 @@ fn every_solution_is_an_instance() {
                 if round % 3 == 0 { random.table(length) } else { random.solvable(letters) };
             let solutions: Vec<_> =
                 all.iter().filter(|s| makes_zero(letters, &condition, s)).collect();
-            for method in [boole as Method, lowenheim] {
-                match solved(letters, &condition, method) {
-                    Err(_) => assert!(solutions.is_empty()),
-                    Ok(answers) => {
-                        let instances: Vec<_> =
-                            all.iter().map(|s| put(letters, &answers, s)).collect();
-                        assert!(solutions.iter().all(|s| instances.contains(s)));
-                        assert!(instances.iter().all(|s| makes_zero(letters, &condition, s)));
+            for order in every_order(unknowns as u64) {
+                for method in [boole as Method, lowenheim] {
+                    match solved(letters, order, &condition, method) {
+                        Err(_) => assert!(solutions.is_empty()),
+                        Ok(answers) => {
+                            let instances: HashSet<_> =
+                                all.iter().map(|s| put(letters, &answers, s)).collect();
+                            assert!(solutions.iter().all(|s| instances.contains(*s)));
+                            assert!(instances.iter().all(|s| makes_zero(letters, &condition, s)));
+                        }
                     }
                 }
             }
@@ -96,7 +105,8 @@ fn every_solution_is_an_instance() {
     }
 }
 
-/// The smallest state in which every choice has the value 1, and only where there is one.
+/// The smallest state in which every choice has the value 1, and only where there is one,
+/// whatever the order.
 #[test]
 fn none_names_the_smallest_state() {
     let mut random = Random(77);
@@ -108,13 +118,17 @@ fn none_names_the_smallest_state() {
                     .all(|choice| value_at(letters, &condition, *state, choice) == 1)
             };
             let expected = (0..1 << letters.givens).find(blocked).map(|state| State(state as u64));
-            assert_eq!(solved(letters, &condition, boole).err(), expected);
+            for method in [boole as Method, particular, lowenheim] {
+                let order = random.order(letters);
+                assert_eq!(solved(letters, order, &condition, method).err(), expected);
+            }
         }
     }
 }
 
-/// An answer put into the condition, or into itself, and Boole's and Löwenheim's
-/// put into each other: each keeps its values.
+/// An answer put into the condition, or into itself, and Boole's and Löwenheim's in any two
+/// orders put into each other: each keeps its values. So general solutions under any two orders are
+/// instances of each other.
 #[test]
 fn answers_are_reproductive() {
     let mut random = Random(4242);
@@ -127,17 +141,54 @@ fn answers_are_reproductive() {
             assert_eq!(substitute(u, g, table, handed, &mut result), Ok(()));
             result
         };
-        let first = solved(letters, &condition, boole).expect("a solution");
-        let second = solved(letters, &condition, lowenheim).expect("a solution");
-        for (outer, inner) in
-            [(&first, &first), (&first, &second), (&second, &first), (&second, &second)]
-        {
+        let orders = match letters.unknowns {
+            ..=3 => every_order(u),
+            _ => {
+                vec![Order::default_for(letters.unknowns), reverse_order(u), random.order(letters)]
+            }
+        };
+        let mut answers = Vec::new();
+        for order in orders {
+            answers.push(solved(letters, order, &condition, boole).expect("a solution"));
+            answers.push(solved(letters, order, &condition, lowenheim).expect("a solution"));
+        }
+        for inner in &answers {
             assert_eq!(put_into(&condition, inner), vec![0; length]);
-            let again: Vec<u8> =
-                outer.chunks(length).flat_map(|table| put_into(table, inner)).collect();
-            assert_eq!(&again, inner);
+            for outer in &answers {
+                let again: Vec<u8> =
+                    outer.chunks(length).flat_map(|table| put_into(table, inner)).collect();
+                assert_eq!(&again, inner);
+            }
         }
     }
+}
+
+/// Every condition over three unknowns: its orders do not all give the same answers, so that the
+/// order is no empty word; the particular solution is Boole's answer with 0 for the parameters.
+#[test]
+fn orders_differ() {
+    let letters = Letters { unknowns: 3, givens: 0 };
+    let mut differing = 0;
+    for bits in 1..256u32 {
+        let values: Vec<u8> = (0..8).map(|point| (bits >> point & 1) as u8).collect();
+        let condition = plain::transform(&values);
+        let answers = |method: Method| -> Vec<Result<Vec<u8>, State>> {
+            let orders = every_order(3).into_iter();
+            orders.map(|order| solved(letters, order, &condition, method)).collect()
+        };
+        let (general, particular) = (answers(boole), answers(particular));
+        differing += (general.iter().any(|other| *other != general[0])) as usize;
+        for (general, particular) in general.iter().zip(&particular) {
+            assert_eq!(general.is_ok(), bits != 255);
+            let (Ok(general), Ok(particular)) = (general, particular) else {
+                continue;
+            };
+            for (answer, constant) in general.chunks(8).zip(particular.chunks(8)) {
+                assert_eq!([answer[0], 0, 0, 0, 0, 0, 0, 0], *constant);
+            }
+        }
+    }
+    assert!(differing > 100, "{differing}");
 }
 
 /// Demand 2: a value of the table is the value of the tree, on all short texts.
@@ -169,7 +220,7 @@ fn a_text_keeps_its_values() {
     assert!(accepted > 1000);
 }
 
-/// An entry reads back and passes the audit with its own length, whatever follows.
+/// An entry reads back, its order too, and passes the audit with its own length, whatever follows.
 #[test]
 fn entries_read_back() {
     let mut random = Random(5);
@@ -177,16 +228,19 @@ fn entries_read_back() {
         let (u, g) = (letters.unknowns as u64, letters.givens as u64);
         for condition in [random.table(letters.table_length()), random.solvable(letters)] {
             let route = 1 + random.below(250) as u64;
-            let mut bytes = vec![random.below(256) as u8; 27_660];
-            let length = write_entry(route, u, g, &condition, &mut bytes).expect("an entry");
-            assert!(length <= 27_654);
+            let order = random.order(letters);
+            let mut bytes = vec![random.below(256) as u8; LONGEST_ENTRY + 6];
+            let length = write_entry(route, u, g, order, &condition, &mut bytes).expect("an entry");
+            assert!(length <= LONGEST_ENTRY);
+            let mut read_order = Order([7; 6]);
             let mut table = vec![7; letters.table_length()];
             let mut answers = vec![7; letters.answer_length()];
-            let reading = read_entry(&bytes, &mut table, &mut answers).expect("read");
+            let reading =
+                read_entry(&bytes, &mut read_order, &mut table, &mut answers).expect("read");
             assert_eq!(audit(&bytes), Ok(reading));
             assert_eq!((reading.route as u64, reading.length), (route, length));
-            assert_eq!(table, condition);
-            match solved(letters, &condition, boole) {
+            assert_eq!((read_order, &table), (order, &condition));
+            match solved(letters, order, &condition, boole) {
                 Ok(expected) => {
                     assert_eq!((reading.contents, answers), (Contents::Solved, expected))
                 }
@@ -199,27 +253,73 @@ fn entries_read_back() {
     }
 }
 
+/// Whether bytes pass the audit: then they are what the writer writes for what reading gives.
+fn passes(bytes: &[u8]) -> bool {
+    let Ok(reading) = audit(bytes) else {
+        return false;
+    };
+    let (mut order, mut table, mut answers) = (Order([7; 6]), [7; 1024], [7; 6144]);
+    assert_eq!(read_entry(bytes, &mut order, &mut table, &mut answers), Ok(reading));
+    let (u, g) = (reading.unknowns as u64, reading.givens as u64);
+    let mut again = vec![0; reading.length];
+    let written = write_entry(reading.route as u64, u, g, order, &table, &mut again);
+    assert_eq!(written, Ok(reading.length));
+    assert_eq!(again, bytes[..reading.length]);
+    true
+}
+
 /// Of all bytes that differ from an entry in one, the audit passes only what the writer writes.
 #[test]
 fn audit_passes_only_entries() {
-    let mut bytes = [0; 64];
-    let length = write_entry(7, 2, 1, &[0, 1, 1, 0, 1, 0, 0, 1], &mut bytes).expect("an entry");
-    for place in 0..length {
-        for byte in 0..=255 {
-            let mut changed = bytes[..length].to_vec();
-            changed[place] = byte;
-            if let Ok(reading) = audit(&changed) {
-                let mut table = [7; 1024];
-                let mut answers = [7; 6144];
-                assert_eq!(read_entry(&changed, &mut table, &mut answers), Ok(reading));
-                let (u, g) = (reading.unknowns as u64, reading.givens as u64);
-                let mut again = vec![0; reading.length];
-                assert_eq!(
-                    write_entry(reading.route as u64, u, g, &table, &mut again),
-                    Ok(reading.length)
-                );
-                assert_eq!(again, changed[..reading.length]);
+    for order in every_order(2) {
+        let mut bytes = [0; 64];
+        let condition = [0, 1, 1, 0, 1, 0, 0, 1];
+        let length = write_entry(7, 2, 1, order, &condition, &mut bytes).expect("an entry");
+        assert!(passes(&bytes));
+        for place in 0..length {
+            for byte in 0..=255 {
+                let mut changed = bytes[..length].to_vec();
+                changed[place] = byte;
+                passes(&changed);
             }
         }
     }
+}
+
+/// For a condition over three unknowns, of all orders, right or wrong, put into kind 6, and of none,
+/// each that passes is the one in which the answers were found, and has no other form.
+#[test]
+fn an_order_has_one_form() {
+    let condition = [0, 1, 0, 1, 1, 0, 1, 1];
+    let mut found = Vec::new();
+    for order in every_order(3) {
+        let mut bytes = [0; 128];
+        let length = write_entry(7, 3, 0, order, &condition, &mut bytes).expect("an entry");
+        let start = if bytes[4] == 6 { 11 } else { 4 };
+        assert_eq!(start == 11, order != Order::default_for(3));
+        found.push(bytes[start..length].to_vec());
+    }
+    for (held, rest) in found.iter().enumerate() {
+        let head = [1, 7, 3, 0];
+        assert_eq!(passes(&[&head[..], rest].concat()), *rest == found[0]);
+        for number in 0..5usize.pow(6) {
+            let byte = |place| [0, 1, 2, 3, 255][number / 5usize.pow(place) % 5];
+            let order = Order([0, 1, 2, 3, 4, 5].map(byte));
+            let named = every_order(3).iter().position(|right| *right == order);
+            let is_right = named.is_some_and(|named| named > 0 && found[named] == found[held]);
+            assert_eq!(passes(&[&head[..], &[6], &order.0, rest].concat()), is_right);
+        }
+    }
+}
+
+/// An entry of every monomial, as long as the bound allows, is read whole.
+#[test]
+fn the_longest_entry() {
+    let order = reverse_order(6);
+    let bytes = cases::entries::built(order, 250, 6, 4, &[1; 1024], &[1; 6144]);
+    assert_eq!(bytes.len(), LONGEST_ENTRY);
+    let (mut read_order, mut table, mut answers) = (Order([7; 6]), [7; 1024], [7; 6144]);
+    let reading = read_entry(&bytes, &mut read_order, &mut table, &mut answers).expect("read");
+    assert_eq!((reading.length, read_order), (LONGEST_ENTRY, order));
+    assert_eq!((table, answers), ([1; 1024], [1; 6144]));
 }

@@ -4,6 +4,7 @@
 mod common;
 
 use common::{all_letters, Random};
+use reference::cases::orders::wrong_orders;
 use reference::plain::{self, Block, Bytes};
 use reference::*;
 use std::fmt::Debug;
@@ -67,25 +68,38 @@ fn assert_operations_agree<E: Block>(letters: Letters, random: &mut Random) {
     assert_eq!(value(u, g, &a, state, choice), plain::value::<E>(u, g, &a, state, choice));
 }
 
+/// Mostly a right order; else a wrong one.
+fn perhaps_wrong(letters: Letters, random: &mut Random) -> Order {
+    match random.below(6) {
+        0 => {
+            let wrong = wrong_orders(letters.unknowns as u64);
+            wrong[random.below(wrong.len())]
+        }
+        1 => Order([(); 6].map(|()| [0, 1, 2, 5, 6, 64, 255][random.below(7)])),
+        _ => random.order(letters),
+    }
+}
+
 fn assert_solving_agrees<E: Block>(letters: Letters, random: &mut Random) {
     let (u, g) = (letters.unknowns as u64, letters.givens as u64);
     for condition in [random.table(letters.table_length()), random.solvable(letters)] {
         let condition = perhaps_damaged(condition, random);
         let answers = room(letters.answer_length(), random);
+        let order = perhaps_wrong(letters, random);
         assert_agree(
             answers,
-            |out| boole(u, g, &condition, out),
-            |out| plain::boole::<E>(u, g, &condition, out),
+            |out| boole(u, g, order, &condition, out),
+            |out| plain::boole::<E>(u, g, order, &condition, out),
         );
         assert_agree(
             answers,
-            |out| particular(u, g, &condition, out),
-            |out| plain::particular::<E>(u, g, &condition, out),
+            |out| particular(u, g, order, &condition, out),
+            |out| plain::particular::<E>(u, g, order, &condition, out),
         );
         assert_agree(
             answers,
-            |out| lowenheim(u, g, &condition, out),
-            |out| plain::lowenheim::<E>(u, g, &condition, out),
+            |out| lowenheim(u, g, order, &condition, out),
+            |out| plain::lowenheim::<E>(u, g, order, &condition, out),
         );
     }
 }
@@ -95,11 +109,13 @@ fn assert_read_agrees<E: Block>(bytes: &[u8], condition: usize, answers: usize) 
         condition + answers,
         |out| {
             let (condition, answers) = out.split_at_mut(condition);
-            read_entry(bytes, condition, answers)
+            let mut order = Order([7; 6]);
+            (read_entry(bytes, &mut order, condition, answers), order)
         },
         |out| {
             let (condition, answers) = out.split_at_mut(condition);
-            plain::read_entry::<E>(bytes, condition, answers)
+            let mut order = Order([7; 6]);
+            (plain::read_entry::<E>(bytes, &mut order, condition, answers), order)
         },
     );
     assert_eq!(audit(bytes), plain::audit::<E>(bytes));
@@ -110,14 +126,17 @@ fn assert_entries_agree<E: Block>(letters: Letters, random: &mut Random) {
     let (u, g) = (letters.unknowns as u64, letters.givens as u64);
     for condition in [random.table(letters.table_length()), random.solvable(letters)] {
         let route = random.below(256) as u64;
-        let mut entry = vec![7; 27_654];
-        let length = write_entry(1 + route % 250, u, g, &condition, &mut entry).expect("an entry");
+        let mut entry = vec![7; LONGEST_ENTRY];
+        let order = random.order(letters);
+        let length =
+            write_entry(1 + route % 250, u, g, order, &condition, &mut entry).expect("an entry");
         entry.truncate(length);
         let lent = perhaps_damaged(condition, random);
+        let order = if random.below(4) == 0 { perhaps_wrong(letters, random) } else { order };
         assert_agree(
             room(length, random),
-            |out| write_entry(route, u, g, &lent, out),
-            |out| plain::write_entry::<E>(route, u, g, &lent, out),
+            |out| write_entry(route, u, g, order, &lent, out),
+            |out| plain::write_entry::<E>(route, u, g, order, &lent, out),
         );
         let rooms = (room(letters.table_length(), random), room(letters.answer_length(), random));
         assert_read_agrees::<E>(&entry, rooms.0, rooms.1);
@@ -127,6 +146,13 @@ fn assert_entries_agree<E: Block>(letters: Letters, random: &mut Random) {
             let place = random.below(length);
             changed[place] =
                 [changed[place] ^ 1 << random.below(8), random.below(8) as u8][random.below(2)];
+            assert_read_agrees::<E>(&changed, rooms.0, rooms.1);
+        }
+        for _ in 0..5 {
+            // a kind 6 of any order, right or wrong, in place of the one that is there or of none
+            let rest = if entry[4] == 6 { &entry[11..] } else { &entry[4..] };
+            let order = perhaps_wrong(letters, random);
+            let changed = [&entry[..4], &[6], &order.0[..], rest].concat();
             assert_read_agrees::<E>(&changed, rooms.0, rooms.1);
         }
     }
@@ -167,8 +193,9 @@ fn too_many_letters_agree_as<E: Block>() {
         let table = [0; 2048];
         assert_eq!(plain::read_text::<E>(u, g, b"u", &mut buffer), Err(Refusal(1)));
         assert_eq!(plain::sum::<E>(u, g, &table, &table, &mut buffer), Err(Refusal(1)));
-        assert_eq!(plain::boole::<E>(u, g, &table, &mut buffer), Err(Refusal(1)));
-        assert_eq!(plain::write_entry::<E>(0, u, g, &table, &mut buffer), Err(Refusal(1)));
+        let order = Order([7; 6]);
+        assert_eq!(plain::boole::<E>(u, g, order, &table, &mut buffer), Err(Refusal(1)));
+        assert_eq!(plain::write_entry::<E>(0, u, g, order, &table, &mut buffer), Err(Refusal(1)));
         assert_eq!(buffer, [7; 2048]);
     }
 }
@@ -287,9 +314,10 @@ fn walks_agree_as<E: Block>() {
         for route in 1..=random.below(12) as u64 {
             let letters = Letters { unknowns: random.below(4), givens: random.below(3) };
             let (u, g) = (letters.unknowns as u64, letters.givens as u64);
-            let mut entry = vec![0; 27_654];
+            let mut entry = vec![0; LONGEST_ENTRY];
             let condition = random.table(letters.table_length());
-            let length = write_entry(route, u, g, &condition, &mut entry).expect("an entry");
+            let order = random.order(letters);
+            let length = write_entry(route, u, g, order, &condition, &mut entry).expect("an entry");
             volume.extend(&entry[..length]);
             places.extend([volume.len(), volume.len() - 1]);
         }
@@ -302,6 +330,17 @@ fn walks_agree_as<E: Block>() {
             for &place in &places {
                 assert_eq!(plain::walk::<E>(volume, place), Walk { volume, place }.count());
             }
+        }
+    }
+}
+
+/// Every damaged entry, kind 6 too.
+#[test]
+fn damaged_entries_agree() {
+    for bytes in cases::entries::damaged_entries(&mut cases::Random::new('d')) {
+        for (condition, answers) in [(1024, 6144), (8, 16), (0, 0)] {
+            assert_read_agrees::<Bytes>(&bytes, condition, answers);
+            assert_read_agrees::<u64>(&bytes, condition, answers);
         }
     }
 }

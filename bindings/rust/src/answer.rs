@@ -1,6 +1,6 @@
 //! What the calls give, and how it is taken from the codes that the archive returns.
 
-use crate::letters::{Letters, State};
+use crate::letters::{Letters, Order, State};
 use crate::question::{Question, Refusal};
 use std::error::Error;
 use std::fmt;
@@ -56,6 +56,31 @@ impl fmt::Display for Entry {
     fn fmt(&self, f: &mut fmt::Formatter) -> fmt::Result {
         let Entry { route, letters: Letters { unknowns, givens }, answer, length } = self;
         write!(f, "route {route}, U {unknowns}, G {givens}, {answer}, {length} bytes")
+    }
+}
+
+/// What reading an entry gives, beside its tables.
+///
+/// ```
+/// use layodegi::{Answer, Entry, Letters, Order, Reading};
+///
+/// let letters = Letters { unknowns: 2, givens: 0 };
+/// let entry = Entry { route: 7, letters, answer: Answer::Solved, length: 28 };
+/// let reading = Reading { entry, order: Order([1, 0, 255, 255, 255, 255]) };
+/// let said = "route 7, U 2, G 0, solved, 28 bytes, order 1 0 255 255 255 255";
+/// assert_eq!(reading.to_string(), said);
+/// ```
+#[derive(Clone, Copy, Debug, PartialEq, Eq, Hash)]
+pub struct Reading {
+    /// What the entry says.
+    pub entry: Entry,
+    /// The order in which its unknowns were eliminated.
+    pub order: Order,
+}
+
+impl fmt::Display for Reading {
+    fn fmt(&self, f: &mut fmt::Formatter) -> fmt::Result {
+        write!(f, "{}, {}", self.entry, self.order)
     }
 }
 
@@ -167,12 +192,12 @@ mod tests {
     #[test]
     fn an_entry_is_taken_apart_by_bytes() {
         let letters = Letters { unknowns: 6, givens: 4 };
-        let code = Code(27_654 << 32 | 4 << 24 | 6 << 16 | 250 << 8);
-        let solved = Entry { route: 250, letters, answer: Answer::Solved, length: 27_654 };
+        let code = Code(27_661 << 32 | 4 << 24 | 6 << 16 | 250 << 8);
+        let solved = Entry { route: 250, letters, answer: Answer::Solved, length: 27_661 };
         assert_eq!(code.entry(), Ok(solved));
         let none = Entry { answer: Answer::None(State(255)), ..solved };
         assert_eq!(Code(256 << 48 | code.0).entry(), Ok(none));
-        assert_eq!(none.to_string(), "route 250, U 6, G 4, none, state 255, 27654 bytes");
+        assert_eq!(none.to_string(), "route 250, U 6, G 4, none, state 255, 27661 bytes");
     }
 
     #[test]

@@ -1,4 +1,4 @@
-//! Letters, states and choices, and the lengths of buffers for them.
+//! Letters, states, choices and orders, and the lengths of buffers for them.
 
 use std::fmt;
 
@@ -9,7 +9,7 @@ pub const LONGEST_TABLE: usize = 1_024;
 /// No answer table is longer, in bytes.
 pub const LONGEST_ANSWERS: usize = 6_144;
 /// No entry is longer, in bytes.
-pub const LONGEST_ENTRY: usize = 27_654;
+pub const LONGEST_ENTRY: usize = 27_661;
 /// The last route; the first is 1.
 pub const LAST_ROUTE: usize = 250;
 
@@ -63,6 +63,70 @@ impl Letters {
     }
 }
 
+/// The order in which the unknowns are eliminated: six bytes, the unknown numbers, first
+/// eliminated first, then 255 in unused places. An unknown is expressed by those that go after it,
+/// so the circuit that an office would rather express by the others goes first.
+/// Every call asks itself (question 17) whether the order is right, so any bytes may stand here.
+///
+/// ```
+/// # use layodegi::{boole, Answer, Letters, Order};
+/// let letters = Letters { unknowns: 2, givens: 0 };
+/// let mut answers = [7; 8];
+/// let u_plus_v = [0, 1, 1, 0];
+///
+/// let u_first = Order::default_for(2);
+/// assert_eq!(boole(letters, u_first, &u_plus_v, &mut answers), Ok(Answer::Solved));
+/// assert_eq!(answers, [0, 0, 1, 0, 0, 0, 1, 0]); // u = v, v = v
+///
+/// let v_first = Order::of(&[1, 0]).unwrap();
+/// assert_eq!(boole(letters, v_first, &u_plus_v, &mut answers), Ok(Answer::Solved));
+/// assert_eq!(answers, [0, 1, 0, 0, 0, 1, 0, 0]); // u = u, v = u
+/// ```
+#[derive(Clone, Copy, Debug, PartialEq, Eq, Hash)]
+pub struct Order(pub [u8; 6]);
+
+impl Order {
+    /// Stands in the places that no unknown needs.
+    pub const UNUSED: u8 = 255;
+
+    /// The order 0, 1, 2 and so on of so many unknowns, of six if there are more.
+    ///
+    /// ```
+    /// # use layodegi::Order;
+    /// assert_eq!(Order::default_for(2), Order([0, 1, 255, 255, 255, 255]));
+    /// ```
+    pub fn default_for(unknowns: usize) -> Order {
+        Order(std::array::from_fn(
+            |place| if place < unknowns { place as u8 } else { Order::UNUSED },
+        ))
+    }
+
+    /// The order of at most six unknown numbers, first eliminated first, 255 behind them. Nothing
+    /// for more. Whether each unknown of a condition is there once, its call asks.
+    ///
+    /// ```
+    /// # use layodegi::Order;
+    /// assert_eq!(Order::of(&[2, 0, 1]), Some(Order([2, 0, 1, 255, 255, 255])));
+    /// assert_eq!(Order::of(&[0; 7]), None);
+    /// ```
+    pub fn of(unknowns: &[u8]) -> Option<Order> {
+        let mut bytes = [Order::UNUSED; 6];
+        bytes.get_mut(..unknowns.len())?.copy_from_slice(unknowns);
+        Some(Order(bytes))
+    }
+
+    /// The bytes before the first 255: the unknown numbers, first eliminated first.
+    ///
+    /// ```
+    /// # use layodegi::Order;
+    /// assert_eq!(Order([1, 0, 255, 255, 255, 255]).unknowns(), [1, 0]);
+    /// ```
+    pub fn unknowns(&self) -> &[u8] {
+        let unused = self.0.iter().position(|&byte| byte == Order::UNUSED);
+        &self.0[..unused.unwrap_or(6)]
+    }
+}
+
 /// The values of the givens: a number below 2^G, bit i for given i.
 #[derive(Clone, Copy, Debug, PartialEq, Eq, Hash)]
 pub struct State(pub usize);
@@ -74,6 +138,13 @@ pub struct Choice(pub usize);
 impl fmt::Display for State {
     fn fmt(&self, f: &mut fmt::Formatter) -> fmt::Result {
         write!(f, "state {}", self.0)
+    }
+}
+
+impl fmt::Display for Order {
+    fn fmt(&self, f: &mut fmt::Formatter) -> fmt::Result {
+        f.write_str("order")?;
+        self.0.iter().try_for_each(|byte| write!(f, " {byte}"))
     }
 }
 

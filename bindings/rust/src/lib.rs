@@ -10,13 +10,16 @@
 //! with the mask m is present, else 0; bit j of a mask is unknown j, bit U + i is given i, and
 //! mask 0 is the monomial 1. An **answer table** is U tables one after another, unknown 0 first.
 //!
+//! The unknowns are eliminated in an [`Order`] that the designer picks: [`Order::default_for`] gives
+//! 0, 1, 2 and so on. General solutions in any two orders are instances of each other.
+//!
 //! Each call asks its questions in the order named with it. The first no is the [`Refusal`], and
 //! a call that refuses has changed no byte. Buffers may be longer than they have to be: bytes
 //! behind the length that the call needs are neither read nor changed.
 //!
 //! ```
 //! use layodegi::{audit, read_entry, read_text, walk, write_entry};
-//! use layodegi::{Answer, Letters, LONGEST_ENTRY};
+//! use layodegi::{Answer, Letters, Order, LONGEST_ENTRY};
 //!
 //! // One unknown must be the opposite of the other: u + v + 1 = 0.
 //! let letters = Letters { unknowns: 2, givens: 0 };
@@ -25,15 +28,17 @@
 //! assert_eq!(condition, [1, 1, 1, 0]); // the monomials 1, u, v
 //!
 //! let mut volume = vec![0; LONGEST_ENTRY];
-//! let length = write_entry(7, letters, &condition, &mut volume)?;
+//! let order = Order::default_for(2); // u is expressed by v
+//! let length = write_entry(7, letters, order, &condition, &mut volume)?;
 //! volume.truncate(length);
 //!
 //! let mut answers = vec![0; letters.answers_length()];
-//! let entry = read_entry(&volume, &mut condition, &mut answers)?;
-//! assert_eq!((entry.route, entry.answer), (7, Answer::Solved));
+//! let reading = read_entry(&volume, &mut condition, &mut answers)?;
+//! assert_eq!((reading.entry.route, reading.entry.answer), (7, Answer::Solved));
+//! assert_eq!(reading.order, order);
 //! assert_eq!(answers, [1, 0, 1, 0, 0, 0, 1, 0]); // u = 1 + v, v = v
 //!
-//! assert_eq!(audit(&volume), Ok(entry));
+//! assert_eq!(audit(&volume), Ok(reading.entry));
 //! assert_eq!(walk(&volume, 0), Ok(1));
 //! # Ok::<(), layodegi::Refusal>(())
 //! ```
@@ -43,15 +48,16 @@ mod letters;
 mod question;
 pub mod raw;
 
-pub use answer::{Answer, Entry, Stopped};
-pub use letters::{Choice, Letters, State};
+pub use answer::{Answer, Entry, Reading, Stopped};
+pub use letters::{Choice, Letters, Order, State};
 pub use letters::{LAST_ROUTE, LONGEST_ANSWERS, LONGEST_ENTRY, LONGEST_TABLE, LONGEST_TEXT};
 pub use question::{Question, Refusal};
 
 use answer::Code;
 
 // Each `unsafe` below is sound for one reason: every slice is lent for the call as its own pointer
-// and its own length, and Rust's borrows keep a written one apart from all others.
+// and its own length, every order as a pointer to its six bytes, and Rust's borrows keep a written
+// one apart from all others.
 
 /// Reads a text into the table of its polynomial, 2^n bytes. Questions 1, 3, 4, 5, 6, 7.
 ///
@@ -184,25 +190,42 @@ pub fn substitute(
     Code(code).done()
 }
 
-/// Boole's answers: the general solution, each unknown itself being the parameter.
-/// Questions 1, 4, 8, 9.
+/// Boole's answers: the general solution, each unknown itself being the parameter, the unknowns
+/// eliminated in an order. Questions 1, 17, 4, 8, 9.
 ///
 /// ```
-/// # use layodegi::{boole, Answer, Letters, State};
+/// # use layodegi::{boole, Answer, Letters, Order, Question, State};
 /// let letters = Letters { unknowns: 2, givens: 0 };
+/// let u_times_v = [0, 0, 0, 1];
 /// let mut answers = [7; 8];
-/// assert_eq!(boole(letters, &[0, 0, 0, 1], &mut answers), Ok(Answer::Solved)); // u*v
+/// let solved = boole(letters, Order::default_for(2), &u_times_v, &mut answers);
+/// assert_eq!(solved, Ok(Answer::Solved));
 /// assert_eq!(answers, [0, 1, 0, 1, 0, 0, 1, 0]); // u = u + u*v, v = v
 ///
+/// let v_first = Order([1, 0, 255, 255, 255, 255]);
+/// assert_eq!(boole(letters, v_first, &u_times_v, &mut answers), Ok(Answer::Solved));
+/// assert_eq!(answers, [0, 1, 0, 0, 0, 0, 1, 1]); // u = u, v = v + u*v
+///
+/// let twice = Order([1, 1, 255, 255, 255, 255]);
+/// let refused = boole(letters, twice, &u_times_v, &mut answers);
+/// assert_eq!(refused, Err(Question::Order.into()));
+///
 /// let letters = Letters { unknowns: 1, givens: 1 };
-/// assert_eq!(boole(letters, &[0, 0, 1, 0], &mut answers), Ok(Answer::None(State(1)))); // a
+/// let none = boole(letters, Order::default_for(1), &[0, 0, 1, 0], &mut answers); // a
+/// assert_eq!(none, Ok(Answer::None(State(1))));
 /// ```
-pub fn boole(letters: Letters, condition: &[u8], answers: &mut [u8]) -> Result<Answer, Refusal> {
+pub fn boole(
+    letters: Letters,
+    order: Order,
+    condition: &[u8],
+    answers: &mut [u8],
+) -> Result<Answer, Refusal> {
     let Letters { unknowns, givens } = letters;
     let code = unsafe {
         raw::layodegi_boole(
             unknowns,
             givens,
+            order.0.as_ptr(),
             condition.as_ptr(),
             condition.len(),
             answers.as_mut_ptr(),
@@ -212,18 +235,25 @@ pub fn boole(letters: Letters, condition: &[u8], answers: &mut [u8]) -> Result<A
     Code(code).answer()
 }
 
-/// The particular solution: Boole's answers with 0 put for all parameters.
-/// Questions 1, 4, 8, 9.
+/// The particular solution: Boole's answers, in an order, with 0 put for all parameters.
+/// Questions 1, 17, 4, 8, 9.
 ///
 /// ```
-/// # use layodegi::{particular, Answer, Letters};
+/// # use layodegi::{particular, Answer, Letters, Order};
 /// let letters = Letters { unknowns: 2, givens: 0 };
+/// let condition = [1, 1, 1, 0]; // u + v + 1
 /// let mut answers = [7; 8];
-/// assert_eq!(particular(letters, &[1, 1, 1, 0], &mut answers), Ok(Answer::Solved)); // u + v + 1
+/// let solved = particular(letters, Order::default_for(2), &condition, &mut answers);
+/// assert_eq!(solved, Ok(Answer::Solved));
 /// assert_eq!(answers, [1, 0, 0, 0, 0, 0, 0, 0]); // u = 1, v = 0
+///
+/// let v_first = Order([1, 0, 255, 255, 255, 255]);
+/// assert_eq!(particular(letters, v_first, &condition, &mut answers), Ok(Answer::Solved));
+/// assert_eq!(answers, [0, 0, 0, 0, 1, 0, 0, 0]); // u = 0, v = 1
 /// ```
 pub fn particular(
     letters: Letters,
+    order: Order,
     condition: &[u8],
     answers: &mut [u8],
 ) -> Result<Answer, Refusal> {
@@ -232,6 +262,7 @@ pub fn particular(
         raw::layodegi_particular(
             unknowns,
             givens,
+            order.0.as_ptr(),
             condition.as_ptr(),
             condition.len(),
             answers.as_mut_ptr(),
@@ -241,17 +272,19 @@ pub fn particular(
     Code(code).answer()
 }
 
-/// Löwenheim's answers, from the particular solution. Questions 1, 4, 8, 9.
+/// Löwenheim's answers, from the particular solution in an order. Questions 1, 17, 4, 8, 9.
 ///
 /// ```
-/// # use layodegi::{lowenheim, Answer, Letters};
+/// # use layodegi::{lowenheim, Answer, Letters, Order};
 /// let letters = Letters { unknowns: 2, givens: 0 };
 /// let mut answers = [7; 8];
-/// assert_eq!(lowenheim(letters, &[0, 1, 1, 0], &mut answers), Ok(Answer::Solved)); // u + v
+/// let solved = lowenheim(letters, Order::default_for(2), &[0, 1, 1, 0], &mut answers); // u + v
+/// assert_eq!(solved, Ok(Answer::Solved));
 /// assert_eq!(answers, [0, 0, 0, 1, 0, 0, 0, 1]); // u = u*v, v = u*v
 /// ```
 pub fn lowenheim(
     letters: Letters,
+    order: Order,
     condition: &[u8],
     answers: &mut [u8],
 ) -> Result<Answer, Refusal> {
@@ -260,6 +293,7 @@ pub fn lowenheim(
         raw::layodegi_lowenheim(
             unknowns,
             givens,
+            order.0.as_ptr(),
             condition.as_ptr(),
             condition.len(),
             answers.as_mut_ptr(),
@@ -302,19 +336,28 @@ pub fn lowenheim_handed(
     Code(code).done()
 }
 
-/// Writes the entry of a condition, with Boole's answers or 'none', and gives its length, at most
-/// [`LONGEST_ENTRY`]. Questions 1, 2, 4, 8, 14.
+/// Writes the entry of a condition, with Boole's answers in an order or 'none', and gives its
+/// length, at most [`LONGEST_ENTRY`]. Questions 1, 2, 17, 4, 8, 14.
 ///
 /// ```
-/// # use layodegi::{write_entry, Letters};
-/// let mut out = [0; 20];
-/// let length = write_entry(8, Letters { unknowns: 1, givens: 1 }, &[0, 0, 1, 0], &mut out)?; // a
+/// # use layodegi::{write_entry, Letters, Order};
+/// let mut out = [0; 28];
+/// let letters = Letters { unknowns: 1, givens: 1 };
+/// let length = write_entry(8, letters, Order::default_for(1), &[0, 0, 1, 0], &mut out)?; // a
 /// assert_eq!(out[..length], [1, 8, 1, 1, 2, 2, 0, 5, 1, 4, 8]); // 'none' at state 1
+///
+/// let letters = Letters { unknowns: 2, givens: 0 };
+/// let v_first = Order([1, 0, 255, 255, 255, 255]);
+/// assert_eq!(write_entry(7, letters, v_first, &[0, 0, 0, 1], &mut out)?, 28); // u*v
+/// assert_eq!(out[..11], [1, 7, 2, 0, 6, 1, 0, 255, 255, 255, 255]); // the order behind the start
+/// assert_eq!(out[11..18], [2, 3, 0, 3, 0, 1, 0]); // u*v; u = u
+/// assert_eq!(out[18..], [3, 1, 2, 0, 3, 1, 3, 0, 4, 7]); // v = v + u*v; end
 /// # Ok::<(), layodegi::Refusal>(())
 /// ```
 pub fn write_entry(
     route: usize,
     letters: Letters,
+    order: Order,
     condition: &[u8],
     out: &mut [u8],
 ) -> Result<usize, Refusal> {
@@ -324,6 +367,7 @@ pub fn write_entry(
             route,
             unknowns,
             givens,
+            order.0.as_ptr(),
             condition.as_ptr(),
             condition.len(),
             out.as_mut_ptr(),
@@ -333,39 +377,49 @@ pub fn write_entry(
     Code(code).number()
 }
 
-/// Reads the entry at the start of the bytes into a condition table and an answer table. A 'none'
-/// entry leaves the answer table as it was. Questions 10, 11, 1, 2, 12, 4.
+/// Reads the entry at the start of the bytes into a condition table and an answer table, and gives
+/// its order, 0, 1, 2 and so on where it holds none. A 'none' entry leaves the answer table as it
+/// was. Questions 10, 11, 1, 2, 12, 17, 4.
 ///
 /// ```
-/// # use layodegi::{read_entry, Answer, Letters, State};
-/// let (mut condition, mut answers) = ([7; 4], [7; 4]);
+/// # use layodegi::{read_entry, Answer, Letters, Order, Reading, State};
+/// let (mut condition, mut answers) = ([7; 4], [7; 8]);
 /// let bytes = [1, 8, 1, 1, 2, 2, 0, 5, 1, 4, 8];
-/// let entry = read_entry(&bytes, &mut condition, &mut answers)?;
+/// let Reading { entry, order } = read_entry(&bytes, &mut condition, &mut answers)?;
 /// assert_eq!((entry.route, entry.letters), (8, Letters { unknowns: 1, givens: 1 }));
 /// assert_eq!((entry.answer, entry.length), (Answer::None(State(1)), 11));
-/// assert_eq!((condition, answers), ([0, 0, 1, 0], [7; 4]));
+/// assert_eq!((order, condition, answers), (Order::default_for(1), [0, 0, 1, 0], [7; 8]));
+///
+/// let start = [1, 7, 2, 0, 6, 1, 0, 255, 255, 255, 255]; // v first
+/// let bytes = [&start[..], &[2, 3, 0, 3, 0, 1, 0, 3, 1, 2, 0, 3, 1, 3, 0, 4, 7]].concat();
+/// let Reading { entry, order } = read_entry(&bytes, &mut condition, &mut answers)?;
+/// assert_eq!((entry.length, order.unknowns()), (28, &[1, 0][..]));
+/// assert_eq!(answers, [0, 1, 0, 0, 0, 0, 1, 1]); // u = u, v = v + u*v
 /// # Ok::<(), layodegi::Refusal>(())
 /// ```
 pub fn read_entry(
     bytes: &[u8],
     condition: &mut [u8],
     answers: &mut [u8],
-) -> Result<Entry, Refusal> {
+) -> Result<Reading, Refusal> {
+    // a call that refuses leaves these bytes, and they are not given
+    let mut order = Order([Order::UNUSED; 6]);
     let code = unsafe {
         raw::layodegi_read_entry(
             bytes.as_ptr(),
             bytes.len(),
+            order.0.as_mut_ptr(),
             condition.as_mut_ptr(),
             condition.len(),
             answers.as_mut_ptr(),
             answers.len(),
         )
     };
-    Code(code).entry()
+    Code(code).entry().map(|entry| Reading { entry, order })
 }
 
-/// Reads the entry at the start of the bytes, solves its condition afresh and compares.
-/// Questions 10, 11, 1, 2, 12, 13.
+/// Reads the entry at the start of the bytes, solves its condition afresh in its order and
+/// compares. Questions 10, 11, 1, 2, 12, 17, 13.
 ///
 /// ```
 /// # use layodegi::{audit, Question};
@@ -373,6 +427,9 @@ pub fn read_entry(
 /// // 'none' at the wrong state
 /// let wrong = [1, 8, 1, 1, 2, 2, 0, 5, 0, 4, 8];
 /// assert_eq!(audit(&wrong), Err(Question::Afresh.into()));
+/// // the order v, u of no unknown at all
+/// let wrong = [1, 8, 0, 1, 6, 1, 0, 255, 255, 255, 255, 4, 8];
+/// assert_eq!(audit(&wrong), Err(Question::Order.into()));
 /// # Ok::<(), layodegi::Refusal>(())
 /// ```
 pub fn audit(bytes: &[u8]) -> Result<Entry, Refusal> {

@@ -11,7 +11,7 @@ use std::fmt;
 /// assert_eq!(Question::Grammar.number(), 7);
 /// assert_eq!(Question::Grammar.to_string(), "Does the grammar read the whole text?");
 /// assert_eq!(Question::with_number(7), Some(Question::Grammar));
-/// assert_eq!(Question::with_number(17), None);
+/// assert_eq!(Question::with_number(18), None);
 /// ```
 #[derive(Clone, Copy, Debug, PartialEq, Eq, Hash)]
 #[repr(u8)]
@@ -35,12 +35,13 @@ pub enum Question {
     Bits = 8,
     /// Has the condition a solution?
     Solution = 9,
-    /// Does every record, to the first kind 4, have kind 1 to 5 and a whole body, and is there a
+    /// Does every record, to the first kind 4, have kind 1 to 6 and a whole body, and is there a
     /// kind 4?
     Records = 10,
     /// Are the kinds in the entry's order, both routes equal?
     Kinds = 11,
-    /// Are masks below 2^n, unknowns below U, the state below 2^G, all in order, none twice?
+    /// Are masks below 2^n, unknowns below U, the state below 2^G, all in order, none twice, and
+    /// is no kind 6 there for the order 0, 1, 2 and so on?
     Numbers = 12,
     /// Do the answers, or the state, equal those solved afresh?
     Afresh = 13,
@@ -50,11 +51,13 @@ pub enum Question {
     Rising = 15,
     /// Is the state below 2^G and the choice below 2^U?
     Range = 16,
+    /// Does the order hold each unknown once and then only 255?
+    Order = 17,
 }
 
 impl Question {
     /// Every question, by number.
-    pub const ALL: [Question; 16] = [
+    pub const ALL: [Question; 17] = [
         Question::Letters,
         Question::Route,
         Question::TextLength,
@@ -71,6 +74,7 @@ impl Question {
         Question::Output,
         Question::Rising,
         Question::Range,
+        Question::Order,
     ];
 
     /// The question with a number, if there is one.
@@ -101,18 +105,19 @@ impl Question {
             }
             Question::Solution => "Has the condition a solution?",
             Question::Records => {
-                "Does every record, to the first kind 4, have kind 1 to 5 and a whole body, \
+                "Does every record, to the first kind 4, have kind 1 to 6 and a whole body, \
                  and is there a kind 4?"
             }
             Question::Kinds => "Are the kinds in the entry's order, both routes equal?",
             Question::Numbers => {
                 "Are masks below 2^n, unknowns below U, the state below 2^G, \
-                 all in order, none twice?"
+                 all in order, none twice, and is no kind 6 there for the order 0, 1, 2 and so on?"
             }
             Question::Afresh => "Do the answers, or the state, equal those solved afresh?",
             Question::Output => "Is the output at least as long as what is to be written?",
             Question::Rising => "Is the route above the one before?",
             Question::Range => "Is the state below 2^G and the choice below 2^U?",
+            Question::Order => "Does the order hold each unknown once and then only 255?",
         }
     }
 }

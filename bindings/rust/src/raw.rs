@@ -3,7 +3,7 @@
 //!
 //! A caller lends each pointer for its length: to be read where it is `*const`,
 //! to be read and written where it is `*mut`, then overlapping no other. None is
-//! null, even where the length is 0.
+//! null, even where the length is 0. An order has no length: it is six bytes.
 
 extern "C" {
     pub fn layodegi_read_text(
@@ -60,6 +60,7 @@ extern "C" {
     pub fn layodegi_boole(
         u: usize,
         g: usize,
+        order: *const u8,
         condition: *const u8,
         condition_length: usize,
         answers: *mut u8,
@@ -69,6 +70,7 @@ extern "C" {
     pub fn layodegi_particular(
         u: usize,
         g: usize,
+        order: *const u8,
         condition: *const u8,
         condition_length: usize,
         answers: *mut u8,
@@ -78,6 +80,7 @@ extern "C" {
     pub fn layodegi_lowenheim(
         u: usize,
         g: usize,
+        order: *const u8,
         condition: *const u8,
         condition_length: usize,
         answers: *mut u8,
@@ -99,6 +102,7 @@ extern "C" {
         route: usize,
         u: usize,
         g: usize,
+        order: *const u8,
         condition: *const u8,
         condition_length: usize,
         out: *mut u8,
@@ -108,6 +112,7 @@ extern "C" {
     pub fn layodegi_read_entry(
         bytes: *const u8,
         bytes_length: usize,
+        order: *mut u8,
         condition: *mut u8,
         condition_length: usize,
         answers: *mut u8,

@@ -1,5 +1,6 @@
 // Support for the test programs: fields of a line that describes a call, and printing what came back.
 // A line is `CALL U G X Y SIZE SIZE2 A B`, one space between the fields; A and B are bytes, a digit each, or `-` for none.
+// Where a call takes an order, Y is its six bytes, two hexadecimal digits each.
 // The contracts say what the programs need to index safely. Those that print promise nothing, since the contracts of `io` say nothing of what a
 // descriptor receives: what is printed is compared with stored output.
 use libc::STDOUT_FILENO;
@@ -76,13 +77,14 @@ fn number(line: &[u8], at: usize) -> usize
     v as usize
 }
 
-// The numbers of a line, and the places where its last two fields start.
+// The numbers of a line, and the places where its order and its last two fields start.
 pub struct Fields {
     pub call: u8,
     pub unknowns: usize,
     pub givens: usize,
     pub x: usize,
     pub y: usize,
+    pub order: usize,
     pub size: usize,
     pub size2: usize,
     pub a: usize,
@@ -91,7 +93,8 @@ pub struct Fields {
 
 pub fn take_apart(line: &[u8]) -> Fields
     requires { ⌜ 0 < length (now line) ⌝ }
-    ensures { λ r. ⌜ (r .a ≤ length (now (line .entry))) × (r .b ≤ length (now (line .entry))) ⌝ }
+    ensures { λ r. ⌜ (r .order ≤ length (now (line .entry))) × (r .a ≤ length (now (line .entry)))
+        × (r .b ≤ length (now (line .entry))) ⌝ }
 {
     let f1 = skip(line, 0);
     let f2 = skip(line, f1);
@@ -107,6 +110,7 @@ pub fn take_apart(line: &[u8]) -> Fields
         givens: number(line, f2),
         x: number(line, f3),
         y: number(line, f4),
+        order: f4,
         size: number(line, f5),
         size2: number(line, f6),
         a: f7,
@@ -234,6 +238,15 @@ pub fn hex_bytes(line: &[u8], at: usize, out: &mut [u8]) -> usize
         i += 2;
     }
     n
+}
+
+// The order of the field that starts at `at`.
+pub fn order(line: &[u8], at: usize) -> [u8; 6]
+    requires { ⌜ at ≤ length (now line) ⌝ }
+{
+    let mut order = [7u8; 6];
+    hex_bytes(line, at, &mut order);
+    order
 }
 
 // A word, and a number behind it.

@@ -32,7 +32,7 @@ fn show_verdict(verdict: Verdict) {
     }
 }
 
-fn show_read(r: Read, condition: &[u8], answers: &[u8]) {
+fn show_read(r: Read, order: &[u8], condition: &[u8], answers: &[u8]) {
     match r {
         Read::Entry(heading, verdict) => {
             show_verdict(verdict);
@@ -40,23 +40,25 @@ fn show_read(r: Read, condition: &[u8], answers: &[u8]) {
         }
         Read::Refused(q) => cases::show_refused(q),
     }
+    cases::show_hex(order);
     cases::show_digits(condition);
     cases::show_digits(answers);
     cases::show_line_end();
 }
 
 // One call on buffers of the stated lengths.
-fn write(f: cases::Fields, condition: &[u8], out: &mut [u8]) {
-    let r = writer::write_entry(f.x, f.unknowns, f.givens, condition, out);
+fn write(f: cases::Fields, order: [u8; 6], condition: &[u8], out: &mut [u8]) {
+    let r = writer::write_entry(f.x, f.unknowns, f.givens, order, condition, out);
     show_written(r, out);
 }
 
 fn read(bytes: &[u8], condition: &mut [u8], answers: &mut [u8]) {
-    let r = reader::read_entry(bytes, condition, answers);
-    show_read(r, condition, answers);
+    let mut order = [7u8; 6];
+    let r = reader::read_entry(bytes, &mut order, condition, answers);
+    show_read(r, &order, condition, answers);
 }
 
-fn run_write(line: &[u8], f: cases::Fields) {
+fn run_write(line: &[u8], f: cases::Fields, order: [u8; 6]) {
     let at = f.a;
     if line.len() < at {
         return;
@@ -67,7 +69,7 @@ fn run_write(line: &[u8], f: cases::Fields) {
     cases::mark(&mut out);
     let size = f.size;
     if size <= 65536 {
-        write(f, &a[..na], &mut out[..size]);
+        write(f, order, &a[..na], &mut out[..size]);
     }
 }
 
@@ -98,7 +100,8 @@ fn run(line: &[u8]) {
     }
     let f = cases::take_apart(line);
     if f.call == b'w' {
-        run_write(line, f);
+        let order = cases::order(line, f.order);
+        run_write(line, f, order);
         return;
     }
     if f.call == b'r' {

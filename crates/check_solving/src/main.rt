@@ -24,20 +24,20 @@ fn show_solving(r: Solving, answers: &[u8]) {
 }
 
 // One call on buffers of the stated lengths.
-fn call(f: cases::Fields, condition: &[u8], handed: &[u8], answers: &mut [u8]) {
+fn call(f: cases::Fields, order: [u8; 6], condition: &[u8], handed: &[u8], answers: &mut [u8]) {
     let name = f.call;
     if name == b'b' {
-        let r = solver::boole(f.unknowns, f.givens, condition, answers);
+        let r = solver::boole(f.unknowns, f.givens, order, condition, answers);
         show_solving(r, answers);
         return;
     }
     if name == b'p' {
-        let r = solver::particular(f.unknowns, f.givens, condition, answers);
+        let r = solver::particular(f.unknowns, f.givens, order, condition, answers);
         show_solving(r, answers);
         return;
     }
     if name == b'l' {
-        let r = solver::lowenheim(f.unknowns, f.givens, condition, answers);
+        let r = solver::lowenheim(f.unknowns, f.givens, order, condition, answers);
         show_solving(r, answers);
         return;
     }
@@ -53,6 +53,7 @@ fn run(line: &[u8]) {
         return;
     }
     let f = cases::take_apart(line);
+    let order = cases::order(line, f.order);
     let mut a = io::large_buffer();
     let na = cases::digits(line, f.a, &mut a);
     let mut b = io::large_buffer();
@@ -61,7 +62,7 @@ fn run(line: &[u8]) {
     cases::mark(&mut out);
     let size = f.size;
     if size <= 65536 {
-        call(f, &a[..na], &b[..nb], &mut out[..size]);
+        call(f, order, &a[..na], &b[..nb], &mut out[..size]);
     }
 }
 

@@ -1,20 +1,27 @@
 //! Entries as test cases: those that the writer writes, others that are whole
 //! but wrong, and damaged ones.
 
+use super::orders::{default_order, every_order, reverse_order, wrong_orders};
 use super::Random;
+use crate::{Order, LONGEST_ENTRY};
 
 /// Values to put for a byte of an entry.
 const VALUES: [u8; 14] = [0, 1, 2, 3, 4, 5, 6, 7, 8, 16, 128, 250, 251, 255];
 
-/// The entry that the writer writes.
+/// The entry that the writer writes for the order 0, 1, 2 and so on.
 pub fn entry(route: u64, u: u64, g: u64, table: &[u8]) -> Vec<u8> {
-    let mut bytes = vec![0; 27_654];
-    let length = crate::write_entry(route, u, g, table, &mut bytes).expect("an entry");
+    entry_in(default_order(u), route, u, g, table)
+}
+
+/// The entry that the writer writes for an order.
+pub fn entry_in(order: Order, route: u64, u: u64, g: u64, table: &[u8]) -> Vec<u8> {
+    let mut bytes = vec![0; LONGEST_ENTRY];
+    let length = crate::write_entry(route, u, g, order, table, &mut bytes).expect("an entry");
     bytes.truncate(length);
     bytes
 }
 
-/// The entry of a random condition, solved or 'none', perhaps with bytes behind it.
+/// The entry of a random condition and order, solved or 'none', perhaps with bytes behind it.
 pub fn any_entry(random: &mut Random, u: u64, g: u64) -> Vec<u8> {
     let state = random.below(1 << g);
     let table = match random.below(3) {
@@ -22,7 +29,8 @@ pub fn any_entry(random: &mut Random, u: u64, g: u64) -> Vec<u8> {
         1 => random.solvable(u, g),
         _ => random.blocked(u, g, state),
     };
-    let mut bytes = entry(1 + random.below(250) as u64, u, g, &table);
+    let order = random.order(u);
+    let mut bytes = entry_in(order, 1 + random.below(250) as u64, u, g, &table);
     if random.once_in(3) {
         bytes.extend((0..1 + random.below(4)).map(|_| random.pick(&VALUES)));
     }
@@ -34,19 +42,19 @@ pub fn split(bytes: &[u8]) -> Vec<Vec<u8>> {
     let mut records = Vec::new();
     let mut rest = bytes;
     while let Some(&kind) = rest.first() {
-        let (record, after) = rest.split_at([0, 4, 3, 4, 2, 2][kind as usize]);
+        let (record, after) = rest.split_at([0, 4, 3, 4, 2, 2, 7][kind as usize]);
         records.push(record.to_vec());
         rest = after;
     }
     records
 }
 
-/// Each kind of damage that questions 10, 11, 1, 2 and 12 name.
+/// Each kind of damage that questions 10, 11, 1, 2, 12 and 17 name.
 pub fn damaged_entries(random: &mut Random) -> Vec<Vec<u8>> {
     let solved = entry(7, 2, 0, &[0, 1, 1, 0]);
     let none = entry(8, 1, 1, &[0, 0, 1, 0]);
     let mixed = entry(250, 1, 2, &random.solvable(1, 2));
-    let mut damaged = vec![vec![], vec![4], vec![4, 7], vec![0], vec![6, 1, 4, 1]];
+    let mut damaged = vec![vec![], vec![4], vec![4, 7], vec![0], vec![7, 1, 4, 1]];
     for base in [&solved, &none, &mixed] {
         damaged.extend((0..base.len()).map(|length| base[..length].to_vec()));
         add_changed_bytes(base, &mut damaged);
@@ -58,7 +66,58 @@ pub fn damaged_entries(random: &mut Random) -> Vec<Vec<u8>> {
         damaged.push([&solved[..solved.len() - 2], tail].concat());
     }
     add_bounds(&mut damaged);
+    add_damaged_orders(random, &mut damaged);
     damaged
+}
+
+/// Kind 6 cut, changed, moved, doubled and put where it is not right.
+fn add_damaged_orders(random: &mut Random, damaged: &mut Vec<Vec<u8>>) {
+    let solved = entry_in(reverse_order(2), 7, 2, 0, &[0, 0, 0, 1]);
+    let none = entry_in(reverse_order(2), 8, 2, 1, &[0, 0, 0, 0, 1, 0, 0, 0]);
+    damaged.extend((4..12).map(|length| solved[..length].to_vec()));
+    for place in 4..11 {
+        for value in VALUES {
+            let mut changed = solved.clone();
+            changed[place] = value;
+            damaged.push(changed);
+        }
+    }
+    add_moved_records(&solved, damaged);
+    add_moved_records(&none, damaged);
+    for u in 0..=6 {
+        for order in [default_order(u), reverse_order(u)] {
+            damaged.push(with_order(9, u, order, &[]));
+        }
+        for order in wrong_orders(u) {
+            if random.once_in(4) {
+                damaged.push(with_order(9, u, order, &[]));
+            }
+        }
+    }
+    for order in every_order(3) {
+        damaged.push(with_order(9, 3, order, &[2, 7, 0, 5, 0]));
+    }
+    // two wrong things at once
+    let wrong = Order([0; 6]);
+    for order in [wrong, default_order(2)] {
+        for route in [0, 251] {
+            damaged.push(with_order(route, 2, order, &[]));
+        }
+        for rest in
+            [&[2, 4, 0][..], &[3, 2, 0, 0], &[5, 1], &[2, 2, 0, 2, 1, 0], &[2, 1, 0], &[5, 0]]
+        {
+            damaged.push(with_order(9, 2, order, rest));
+        }
+        damaged.push(with_order(9, 2, order, &[5, 0, 5, 0]));
+        damaged.push(with_order(9, 7, order, &[]));
+        damaged.push([&with_order(9, 2, order, &[])[..12], &[8]].concat());
+        damaged.push([&with_order(9, 2, order, &[])[..12]].concat());
+    }
+}
+
+/// An entry without givens that has a kind 6, whatever its order, and the records behind it.
+fn with_order(route: u8, u: u64, order: Order, rest: &[u8]) -> Vec<u8> {
+    [&[1, route, u as u8, 0, 6], &order.0[..], rest, &[4, route]].concat()
 }
 
 fn add_changed_bytes(base: &[u8], damaged: &mut Vec<Vec<u8>>) {
@@ -89,8 +148,18 @@ fn add_moved_records(base: &[u8], damaged: &mut Vec<Vec<u8>>) {
             damaged.push(exchanged.concat());
         }
         let start = [1, base[1], base[2], base[3]];
-        for other in [&start[..], &[2, 1, 0], &[3, 0, 1, 0], &[4, base[1]], &[5, 0], &[0], &[6, 0]]
-        {
+        let order = [6, 1, 0, 255, 255, 255, 255];
+        for other in [
+            &start[..],
+            &[2, 1, 0],
+            &[3, 0, 1, 0],
+            &[4, base[1]],
+            &[5, 0],
+            &[0],
+            &[6, 0],
+            &order,
+            &[7, 0],
+        ] {
             let mut more = records.clone();
             more.insert(place, other.to_vec());
             damaged.push(more.concat());
@@ -169,9 +238,9 @@ fn add_bounds(damaged: &mut Vec<Vec<u8>>) {
     }
 }
 
-/// An entry of a condition and any answers, in written order.
-pub fn built(route: u8, u: u64, g: u64, table: &[u8], answers: &[u8]) -> Vec<u8> {
-    let mut bytes = begun(route, u, g, table);
+/// An entry of a condition, an order and any answers, in written order.
+pub fn built(order: Order, route: u8, u: u64, g: u64, table: &[u8], answers: &[u8]) -> Vec<u8> {
+    let mut bytes = begun(order, route, u, g, table);
     for (j, answer) in answers.chunks(table.len()).enumerate() {
         for mask in written(answer) {
             bytes.extend([3, j as u8, mask as u8, (mask >> 8) as u8]);
@@ -181,14 +250,18 @@ pub fn built(route: u8, u: u64, g: u64, table: &[u8], answers: &[u8]) -> Vec<u8>
     bytes
 }
 
-/// A 'none' entry of a condition and any state.
-pub fn built_none(route: u8, u: u64, g: u64, table: &[u8], state: u8) -> Vec<u8> {
-    [&begun(route, u, g, table)[..], &[5, state, 4, route]].concat()
+/// A 'none' entry of a condition, an order and any state.
+pub fn built_none(order: Order, route: u8, u: u64, g: u64, table: &[u8], state: u8) -> Vec<u8> {
+    [&begun(order, route, u, g, table)[..], &[5, state, 4, route]].concat()
 }
 
-/// Kind 1 and the kind 2 records.
-fn begun(route: u8, u: u64, g: u64, table: &[u8]) -> Vec<u8> {
+/// Kind 1, kind 6 but for the order 0, 1, 2 and so on, and the kind 2 records.
+fn begun(order: Order, route: u8, u: u64, g: u64, table: &[u8]) -> Vec<u8> {
     let mut bytes = vec![1, route, u as u8, g as u8];
+    if order != default_order(u) {
+        bytes.push(6);
+        bytes.extend(order.0);
+    }
     for mask in written(table) {
         bytes.extend([2, mask as u8, (mask >> 8) as u8]);
     }

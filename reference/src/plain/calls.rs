@@ -1,11 +1,12 @@
 //! The calls on lent tables, with the questions of `crate::calls`.
 
-use super::solving::{self, Answers};
+use super::solving::{self, ask_order, Answers};
 use super::table::Table;
 use super::text::text_values;
 use super::{for_blocks, Block};
 use crate::questions::{
-    ask, ask_length, ask_letters, ask_text_length, Choice, Letters, Refusal, State, MOST_UNKNOWNS,
+    ask, ask_length, ask_letters, ask_text_length, Choice, Letters, Order, Refusal, State,
+    MOST_UNKNOWNS,
 };
 use crate::solution::Solved;
 
@@ -53,7 +54,8 @@ pub fn value<B: Block>(
     // a block of 64 masks at a time, so that a mask is a byte and the loop one of whole vectors
     let absent = !letters.point(state, choice);
     let odd = |block: &[u8]| {
-        let counted = block.iter().zip(0u8..).map(|(byte, mask)| byte & (mask & absent as u8 == 0) as u8);
+        let counted =
+            block.iter().zip(0u8..).map(|(byte, mask)| byte & (mask & absent as u8 == 0) as u8);
         counted.fold(0, |odd, one| odd ^ one)
     };
     let blocks = table.chunks(64).zip((0u16..).step_by(64));
@@ -137,81 +139,89 @@ fn put_substituted<B: Block, const K: usize>(
     Table(B::look_up(&whole.0, &parts[..letters.unknowns])).transformed().put(result);
 }
 
-/// Boole's answer. Questions 1, 4, 8, 9.
+/// Boole's answer. Questions 1, 17, 4, 8, 9.
 pub fn boole<B: Block>(
     u: u64,
     g: u64,
+    order: Order,
     condition: &[u8],
     answers: &mut [u8],
 ) -> Result<Solved, Refusal> {
-    let (letters, condition, answers) = ask_solving(u, g, condition, answers)?;
-    Ok(for_blocks!(B, letters.count(), put_boole(letters, condition, answers)))
+    let (letters, order, condition, answers) = ask_solving(u, g, &order, condition, answers)?;
+    Ok(for_blocks!(B, letters.count(), put_boole(letters, order, condition, answers)))
 }
 
 fn put_boole<B: Block, const K: usize>(
     letters: Letters,
+    order: &[u8],
     condition: &[u8],
     answers: &mut [u8],
 ) -> Solved {
     let f = Table::<B, K>::from_bytes(condition).transformed();
-    put_answers(letters, solving::boole(letters, f), answers)
+    put_answers(letters, solving::boole(order, f), answers)
 }
 
-/// The particular solution. Questions 1, 4, 8, 9.
+/// The particular solution. Questions 1, 17, 4, 8, 9.
 pub fn particular<B: Block>(
     u: u64,
     g: u64,
+    order: Order,
     condition: &[u8],
     answers: &mut [u8],
 ) -> Result<Solved, Refusal> {
-    let (letters, condition, answers) = ask_solving(u, g, condition, answers)?;
-    Ok(for_blocks!(B, letters.count(), put_particular(letters, condition, answers)))
+    let (letters, order, condition, answers) = ask_solving(u, g, &order, condition, answers)?;
+    Ok(for_blocks!(B, letters.count(), put_particular(letters, order, condition, answers)))
 }
 
 fn put_particular<B: Block, const K: usize>(
     letters: Letters,
+    order: &[u8],
     condition: &[u8],
     answers: &mut [u8],
 ) -> Solved {
     let f = Table::<B, K>::from_bytes(condition).transformed();
-    put_answers(letters, solving::particular(letters, f), answers)
+    put_answers(letters, solving::particular(order, f), answers)
 }
 
-/// The own Löwenheim answer. Questions 1, 4, 8, 9.
+/// The own Löwenheim answer. Questions 1, 17, 4, 8, 9.
 pub fn lowenheim<B: Block>(
     u: u64,
     g: u64,
+    order: Order,
     condition: &[u8],
     answers: &mut [u8],
 ) -> Result<Solved, Refusal> {
-    let (letters, condition, answers) = ask_solving(u, g, condition, answers)?;
-    Ok(for_blocks!(B, letters.count(), put_lowenheim(letters, condition, answers)))
+    let (letters, order, condition, answers) = ask_solving(u, g, &order, condition, answers)?;
+    Ok(for_blocks!(B, letters.count(), put_lowenheim(letters, order, condition, answers)))
 }
 
 fn put_lowenheim<B: Block, const K: usize>(
     letters: Letters,
+    order: &[u8],
     condition: &[u8],
     answers: &mut [u8],
 ) -> Solved {
     let f = Table::<B, K>::from_bytes(condition).transformed();
-    put_answers(letters, solving::lowenheim(letters, f), answers)
+    put_answers(letters, solving::lowenheim(order, f), answers)
 }
 
-type Lent<'a> = (Letters, &'a [u8], &'a mut [u8]);
+type Lent<'a> = (Letters, &'a [u8], &'a [u8], &'a mut [u8]);
 
-/// Questions 1, 4 and 8 of a condition and an answer buffer, each cut to its length.
+/// Questions 1, 17, 4 and 8 of an order, a condition and an answer buffer, each cut to its length.
 fn ask_solving<'a>(
     u: u64,
     g: u64,
+    order: &'a Order,
     condition: &'a [u8],
     answers: &'a mut [u8],
 ) -> Result<Lent<'a>, Refusal> {
     let letters = ask_letters(u, g)?;
+    let order = ask_order(letters, order)?;
     ask_length(condition, letters.table_length())?;
     ask_length(answers, letters.answer_length())?;
     let condition = &condition[..letters.table_length()];
     ask_bits(condition)?;
-    Ok((letters, condition, &mut answers[..letters.answer_length()]))
+    Ok((letters, order, condition, &mut answers[..letters.answer_length()]))
 }
 
 fn put_answers<B: Block, const K: usize>(

@@ -2,39 +2,45 @@
 //! over the bytes for all questions, and read into tables in a second.
 
 use super::calls::ask_bits;
-use super::solving::boole;
+use super::solving::{ask_order, boole};
 use super::table::Table;
 use super::written::{Written, LETTERS};
 use super::{for_blocks, Block};
 use crate::entry::{Contents, Count, Reading, Walk};
 use crate::questions::{
-    ask, ask_length, ask_letters, ask_route, Letters, Refusal, State, MOST_UNKNOWNS,
+    ask, ask_length, ask_letters, ask_route, Letters, Order, Refusal, State, MOST_UNKNOWNS,
 };
 
 /// An entry whose answers are found, and whose masks are counted.
 pub struct Entry<const K: usize> {
     route: u8,
     letters: Letters,
+    order: Order,
     condition: Written<K>,
     answers: Result<[Written<K>; MOST_UNKNOWNS as usize], State>,
 }
 
 impl<const K: usize> Entry<K> {
-    /// From the coefficients and the values of a condition.
+    /// From the coefficients and the values of a condition, and an order that has passed 17.
     pub fn new<B: Block>(
         route: u8,
         letters: Letters,
+        order: Order,
         condition: &Table<B, K>,
         values: Table<B, K>,
     ) -> Self {
-        let answers = boole(letters, values).map(|values| {
+        let answers = boole(&order.0[..letters.unknowns], values).map(|values| {
             let mut answers = [Written::NONE; MOST_UNKNOWNS as usize];
             for (answer, values) in answers.iter_mut().zip(&values[..letters.unknowns]) {
                 *answer = Written::of(&values.transformed());
             }
             answers
         });
-        Entry { route, letters, condition: Written::of(condition), answers }
+        Entry { route, letters, order, condition: Written::of(condition), answers }
+    }
+
+    fn has_kind_6(&self) -> bool {
+        self.order != Order::default_for(self.letters.unknowns)
     }
 
     pub fn length<F: Format>(&self) -> usize {
@@ -42,13 +48,18 @@ impl<const K: usize> Entry<K> {
             Ok(answers) => F::length(4) * answers.iter().map(|answer| answer.count).sum::<usize>(),
             Err(_) => F::length(2),
         };
-        F::length(4) + F::length(3) * self.condition.count + found + F::length(2)
+        let order = if self.has_kind_6() { F::length(7) } else { 0 };
+        F::length(4) + order + F::length(3) * self.condition.count + found + F::length(2)
     }
 
     /// Puts the records into room of their length.
     pub fn put<F: Format>(&self, mut room: &mut [u8]) {
         let Letters { unknowns, givens } = self.letters;
         F::put([1, self.route, unknowns as u8, givens as u8], &mut room);
+        if self.has_kind_6() {
+            let [a, b, c, d, e, f] = self.order.0;
+            F::put([6, a, b, c, d, e, f], &mut room);
+        }
         F::put_condition(&self.condition, &mut room);
         match &self.answers {
             Err(state) => F::put([5, state.0 as u8], &mut room),
@@ -105,41 +116,55 @@ impl Format for Archived {
     }
 }
 
-/// Writes the entry of a condition and gives its length. Questions 1, 2, 4, 8, 14.
+/// Writes the entry of a condition and an order and gives its length.
+/// Questions 1, 2, 17, 4, 8, 14.
 pub fn write_entry<B: Block>(
     route: u64,
     u: u64,
     g: u64,
+    order: Order,
     condition: &[u8],
     output: &mut [u8],
 ) -> Result<usize, Refusal> {
     let letters = ask_letters(u, g)?;
     ask_route(route)?;
+    ask_order(letters, &order)?;
     ask_length(condition, letters.table_length())?;
     let condition = &condition[..letters.table_length()];
     ask_bits(condition)?;
-    for_blocks!(B, letters.count(), put_entry(route as u8, letters, condition, output))
+    for_blocks!(B, letters.count(), put_entry(route as u8, letters, order, condition, output))
 }
 
 fn put_entry<B: Block, const K: usize>(
     route: u8,
     letters: Letters,
+    order: Order,
     condition: &[u8],
     output: &mut [u8],
 ) -> Result<usize, Refusal> {
     let condition = Table::<B, K>::from_bytes(condition);
-    let entry = Entry::new(route, letters, &condition, condition.transformed());
+    let entry = Entry::new(route, letters, order, &condition, condition.transformed());
     let length = entry.length::<Archived>();
     ask(14, output.len() >= length)?;
     entry.put::<Archived>(&mut output[..length]);
     Ok(length)
 }
 
-/// Asks 10, 11, 1, 2 and 12 in one pass over the records.
-fn examine(bytes: &[u8]) -> Result<(Reading, Letters), Refusal> {
+/// An entry that has passed 10, 11, 1, 2, 12 and 17.
+struct Examined<'a> {
+    reading: Reading,
+    letters: Letters,
+    order: Order,
+    /// Its records behind kind 1 and kind 6.
+    records: &'a [u8],
+}
+
+/// Asks 10, 11, 1, 2, 12 and 17 in one pass over the records.
+fn examine(bytes: &[u8]) -> Result<Examined<'_>, Refusal> {
     let (mut route, mut unknowns, mut givens) = (0, 0, 0);
     let (mut masks, mut states) = (0, 0);
     let mut contents = Contents::Solved;
+    let mut order = None;
     let (mut ordered, mut fits) = (true, true);
     let (mut kind, mut last, mut length) = (0, 0, 0);
     loop {
@@ -170,6 +195,13 @@ fn examine(bytes: &[u8]) -> Result<(Reading, Letters), Refusal> {
                 states = 1u64.checked_shl(givens as u32).unwrap_or(0);
                 length += 4;
             }
+            [6, a, b, c, d, e, f, ..] => {
+                ordered &= before == 1 && order.is_none();
+                order = Some(Order([a, b, c, d, e, f]));
+                // what may follow kind 1 may follow it, but for another kind 6
+                kind = 1;
+                length += 7;
+            }
             [5, state, ..] => {
                 ordered &= before == 1 || before == 2;
                 fits &= (state as u64) < states;
@@ -187,10 +219,14 @@ fn examine(bytes: &[u8]) -> Result<(Reading, Letters), Refusal> {
     ask(11, ordered)?;
     let letters = ask_letters(unknowns, givens)?;
     ask_route(route as u64)?;
-    ask(12, fits)?;
+    let default = Order::default_for(letters.unknowns);
+    ask(12, fits && order != Some(default))?;
+    let start = if order.is_some() { 11 } else { 4 };
+    let order = order.unwrap_or(default);
+    ask_order(letters, &order)?;
     let reading =
         Reading { route, unknowns: unknowns as u8, givens: givens as u8, contents, length };
-    Ok((reading, letters))
+    Ok(Examined { reading, letters, order, records: &bytes[start..] })
 }
 
 /// One rising number, for a mask of at most ten letters: the table, then the written order. No
@@ -199,14 +235,14 @@ fn place_of(table: u64, mask: u64) -> u64 {
     table << 32 | (1 + LETTERS[mask as usize % 1024] as u64) << 16 | mask
 }
 
-/// The masks of the condition, and the unknowns and masks of the answers, of an entry that has
-/// passed the questions.
+/// The masks of the condition, and the unknowns and masks of the answers, in the records of an
+/// entry that has passed the questions.
 fn each_monomial(
-    bytes: &[u8],
+    records: &[u8],
     mut of_condition: impl FnMut(usize),
     mut of_answer: impl FnMut(usize, usize),
 ) {
-    let mut rest = &bytes[4..];
+    let mut rest = records;
     while let [2, low, high, others @ ..] = rest {
         of_condition(u16::from_le_bytes([*low, *high]) as usize);
         rest = others;
@@ -217,46 +253,50 @@ fn each_monomial(
     }
 }
 
-/// Reads an entry into the two buffers. Questions 10, 11, 1, 2, 12, 4.
+/// Reads an entry into the order and the two buffers. Questions 10, 11, 1, 2, 12, 17, 4.
 pub fn read_entry<B: Block>(
     bytes: &[u8],
+    order: &mut Order,
     condition: &mut [u8],
     answers: &mut [u8],
 ) -> Result<Reading, Refusal> {
-    let (reading, letters) = examine(bytes)?;
+    let Examined { reading, letters, order: found, records } = examine(bytes)?;
     ask_length(condition, letters.table_length())?;
     ask_length(answers, letters.answer_length())?;
+    *order = found;
     condition[..letters.table_length()].fill(0);
     if reading.contents == Contents::Solved {
         answers[..letters.answer_length()].fill(0);
     }
     let length = letters.table_length();
     each_monomial(
-        bytes,
+        records,
         |mask| condition[mask] = 1,
         |unknown, mask| answers[unknown * length + mask] = 1,
     );
     Ok(reading)
 }
 
-/// Reads an entry, solves its condition afresh and compares. Questions 10, 11, 1, 2, 12, 13.
+/// Reads an entry, solves its condition afresh in its order and compares.
+/// Questions 10, 11, 1, 2, 12, 17, 13.
 pub fn audit<B: Block>(bytes: &[u8]) -> Result<Reading, Refusal> {
-    let (reading, letters) = examine(bytes)?;
-    ask(13, for_blocks!(B, letters.count(), holds_afresh(letters, bytes, reading.contents)))?;
-    Ok(reading)
+    let entry = examine(bytes)?;
+    ask(13, for_blocks!(B, entry.letters.count(), holds_afresh(&entry)))?;
+    Ok(entry.reading)
 }
 
-fn holds_afresh<B: Block, const K: usize>(
-    letters: Letters,
-    bytes: &[u8],
-    contents: Contents,
-) -> bool {
+fn holds_afresh<B: Block, const K: usize>(entry: &Examined) -> bool {
     let mut condition = Table::<B, K>::ZERO;
     let mut held = [Table::<B, K>::ZERO; MOST_UNKNOWNS as usize];
-    each_monomial(bytes, |mask| condition.set(mask), |unknown, mask| held[unknown].set(mask));
-    match (contents, boole(letters, condition.transformed())) {
+    each_monomial(
+        entry.records,
+        |mask| condition.set(mask),
+        |unknown, mask| held[unknown].set(mask),
+    );
+    let order = &entry.order.0[..entry.letters.unknowns];
+    match (entry.reading.contents, boole(order, condition.transformed())) {
         (Contents::Solved, Ok(afresh)) => {
-            let pairs = held.iter().zip(&afresh).take(letters.unknowns);
+            let pairs = held.iter().zip(&afresh).take(order.len());
             pairs.into_iter().all(|(held, afresh)| *held == afresh.transformed())
         }
         (Contents::None(state), Err(afresh)) => state == afresh,

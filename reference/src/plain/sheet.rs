@@ -5,7 +5,7 @@ use super::hexadecimal::Hexadecimal;
 use super::text::text_values;
 use super::{for_blocks, Block};
 use crate::programs::{read_line, Fields};
-use crate::questions::{ask, ask_letters, ask_route, ask_text_length, Letters, Refusal};
+use crate::questions::{ask, ask_letters, ask_route, ask_text_length, Letters, Order, Refusal};
 use std::io::{self, BufRead, Write};
 
 /// The output goes on its way in pieces of about this length, which stay in the cache.
@@ -53,7 +53,8 @@ fn print_records<B: Block, const K: usize>(
 ) -> Result<(), Refusal> {
     let values = text_values::<B, K>(letters, fields.text)?;
     ask(15, fields.route > last_route)?;
-    let entry = Entry::new(fields.route as u8, letters, &values.transformed(), values);
+    let order = Order::default_for(letters.unknowns);
+    let entry = Entry::new(fields.route as u8, letters, order, &values.transformed(), values);
     let end = printed.len();
     printed.resize(end + entry.length::<Hexadecimal>(), 0);
     entry.put::<Hexadecimal>(&mut printed[end..]);

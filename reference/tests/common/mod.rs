@@ -1,6 +1,6 @@
-//! Random tables from a fixed seed, and the counts of letters.
+//! Random tables and orders from a fixed seed, and the counts of letters.
 
-use reference::{plain, Letters};
+use reference::{plain, Letters, Order};
 
 pub struct Random(pub u64);
 
@@ -15,6 +15,15 @@ impl Random {
     pub fn table(&mut self, length: usize) -> Vec<u8> {
         let many = [2, 2, 3, 1 + length / 3][self.below(4)];
         (0..length).map(|_| (self.below(many) == 0) as u8).collect()
+    }
+
+    /// Any order of the unknowns.
+    pub fn order(&mut self, letters: Letters) -> Order {
+        let mut unknowns: Vec<usize> = (0..letters.unknowns).collect();
+        for place in (1..unknowns.len()).rev() {
+            unknowns.swap(place, self.below(place + 1));
+        }
+        Order::of(&unknowns)
     }
 
     /// A condition with a solution in each state.

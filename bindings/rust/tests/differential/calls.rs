@@ -3,7 +3,7 @@
 
 use crate::lent::{Case, Lent};
 use crate::tally::Tally;
-use layodegi::{raw, Answer, Choice, Entry, Letters, Refusal, State, Stopped};
+use layodegi::{raw, Answer, Choice, Entry, Letters, Order, Refusal, State, Stopped};
 use reference::cases::Random;
 use reference::{Contents, Count, Reading, Solved, Walk};
 use std::fmt::Debug;
@@ -19,9 +19,11 @@ type RawPair =
     unsafe extern "C" fn(usize, usize, *const u8, usize, *const u8, usize, *mut u8, usize) -> u64;
 type SafePair = fn(Letters, &[u8], &[u8], &mut [u8]) -> Result<(), Refusal>;
 type ReferencePair = fn(u64, u64, &[u8], &[u8], &mut [u8]) -> Result<(), reference::Refusal>;
-type RawSolving = unsafe extern "C" fn(usize, usize, *const u8, usize, *mut u8, usize) -> u64;
-type SafeSolving = fn(Letters, &[u8], &mut [u8]) -> Result<Answer, Refusal>;
-type ReferenceSolving = fn(u64, u64, &[u8], &mut [u8]) -> Result<Solved, reference::Refusal>;
+type RawSolving =
+    unsafe extern "C" fn(usize, usize, *const u8, *const u8, usize, *mut u8, usize) -> u64;
+type SafeSolving = fn(Letters, Order, &[u8], &mut [u8]) -> Result<Answer, Refusal>;
+type ReferenceSolving =
+    fn(u64, u64, reference::Order, &[u8], &mut [u8]) -> Result<Solved, reference::Refusal>;
 
 /// A call that reads a table and then a table or an answer table, and writes one of them.
 #[derive(Clone, Copy)]
@@ -173,66 +175,101 @@ impl Calls {
         );
     }
 
-    pub fn solve(&mut self, call: SolvingCall, u: u64, g: u64, condition: &[u8], answers: &[u8]) {
+    pub fn solve(
+        &mut self,
+        call: SolvingCall,
+        (u, g, order): (u64, u64, reference::Order),
+        condition: &[u8],
+        answers: &[u8],
+    ) {
         self.case(
             (call.name, &[u, g]),
-            [condition],
+            [&order.0, condition],
             [answers],
-            |[condition], [answers]| solved((call.reference)(u, g, condition, answers)),
-            |[condition], [answers]| unsafe {
+            |[order, condition], [answers]| {
+                let order = reference::Order(six(order));
+                solved((call.reference)(u, g, order, condition, answers))
+            },
+            |[order, condition], [answers]| unsafe {
                 (call.raw)(
                     u as usize,
                     g as usize,
+                    order.as_ptr(),
                     condition.as_ptr(),
                     condition.len(),
                     answers.as_mut_ptr(),
                     answers.len(),
                 )
             },
-            |[condition], [answers]| (call.safe)(letters(u, g), condition, answers),
+            |[order, condition], [answers]| {
+                (call.safe)(letters(u, g), Order(six(order)), condition, answers)
+            },
         );
     }
 
-    pub fn write_entry(&mut self, route: u64, u: u64, g: u64, condition: &[u8], out: &[u8]) {
+    pub fn write_entry(
+        &mut self,
+        route: u64,
+        (u, g, order): (u64, u64, reference::Order),
+        condition: &[u8],
+        out: &[u8],
+    ) {
         self.case(
             ("write_entry", &[route, u, g]),
-            [condition],
+            [&order.0, condition],
             [out],
-            |[condition], [out]| number(reference::write_entry(route, u, g, condition, out)),
-            |[condition], [out]| unsafe {
+            |[order, condition], [out]| {
+                let order = reference::Order(six(order));
+                number(reference::write_entry(route, u, g, order, condition, out))
+            },
+            |[order, condition], [out]| unsafe {
                 raw::layodegi_write_entry(
                     route as usize,
                     u as usize,
                     g as usize,
+                    order.as_ptr(),
                     condition.as_ptr(),
                     condition.len(),
                     out.as_mut_ptr(),
                     out.len(),
                 )
             },
-            |[condition], [out]| {
-                layodegi::write_entry(route as usize, letters(u, g), condition, out)
+            |[order, condition], [out]| {
+                let (route, order) = (route as usize, Order(six(order)));
+                layodegi::write_entry(route, letters(u, g), order, condition, out)
             },
         );
     }
 
-    pub fn read_entry(&mut self, bytes: &[u8], condition: &[u8], answers: &[u8]) {
+    /// The order, six bytes, is a lent buffer to the archive; the wrapper gives it, and what it
+    /// gives is put where the archive would put it.
+    pub fn read_entry(&mut self, bytes: &[u8], order: [u8; 6], condition: &[u8], answers: &[u8]) {
         self.case(
             ("read_entry", &[]),
             [bytes],
-            [condition, answers],
-            |[bytes], [condition, answers]| entry(reference::read_entry(bytes, condition, answers)),
-            |[bytes], [condition, answers]| unsafe {
+            [&order, condition, answers],
+            |[bytes], [order, condition, answers]| {
+                let mut found = reference::Order(six(order));
+                let read = reference::read_entry(bytes, &mut found, condition, answers);
+                order.copy_from_slice(&found.0);
+                entry(read)
+            },
+            |[bytes], [order, condition, answers]| unsafe {
                 raw::layodegi_read_entry(
                     bytes.as_ptr(),
                     bytes.len(),
+                    order.as_mut_ptr(),
                     condition.as_mut_ptr(),
                     condition.len(),
                     answers.as_mut_ptr(),
                     answers.len(),
                 )
             },
-            |[bytes], [condition, answers]| layodegi::read_entry(bytes, condition, answers),
+            |[bytes], [order, condition, answers]| {
+                let reading = layodegi::read_entry(bytes, condition, answers)?;
+                order.copy_from_slice(&reading.order.0);
+                Ok(reading.entry)
+            },
         );
     }
 
@@ -280,6 +317,11 @@ impl Calls {
             }
         }
     }
+}
+
+/// A lent order.
+fn six(order: &[u8]) -> [u8; 6] {
+    order.try_into().expect("six bytes")
 }
 
 fn letters(u: u64, g: u64) -> Letters {

@@ -1,9 +1,12 @@
 //! Cases for writing, reading and auditing an entry.
 
 use crate::calls::Calls;
-use crate::making::{condition, damage, garbage, large, result, wrong_letters};
+use crate::making::{condition, damage, garbage, large, order, result, wrong_letters};
 use layodegi::LONGEST_ENTRY;
-use reference::cases::entries::{any_entry, built, built_none, damaged_entries, entry, split};
+use reference::cases::entries::{
+    any_entry, built, built_none, damaged_entries, entry, entry_in, split,
+};
+use reference::cases::orders::{default_order, every_order, reverse_order, wrong_orders};
 use reference::cases::{bench_tables, pairs, Random};
 use reference::plain::{self, transform};
 
@@ -12,38 +15,52 @@ pub fn run_writing() -> Calls {
     let random = &mut Random::new('w');
     for (u, g) in wrong_letters(random) {
         let route = random.below(256) as u64;
-        calls.write_entry(route, u, g, &random.table(16, 2), &garbage(random, 64));
-        calls.write_entry(route, u, g, &[], &[]);
+        let order = order(random, u.min(6));
+        calls.write_entry(route, (u, g, order), &random.table(16, 2), &garbage(random, 64));
+        calls.write_entry(route, (u, g, order), &[], &[]);
     }
     for route in (0..=260).chain((0..200).map(|_| large(random).max(251)).collect::<Vec<_>>()) {
-        let table = condition(random, 1, 1);
-        calls.write_entry(route, 1, 1, &table, &garbage(random, 40));
-        calls.write_entry(route, 1, 1, &table[1..], &garbage(random, 2));
+        let table = condition(random, 2, 1);
+        let order = order(random, 2);
+        calls.write_entry(route, (2, 1, order), &table, &garbage(random, 110));
+        calls.write_entry(route, (2, 1, order), &table[1..], &garbage(random, 2));
+    }
+    for u in 0..=6 {
+        for order in every_order(u).into_iter().chain(wrong_orders(u)) {
+            let table = condition(random, u, 1);
+            calls.write_entry(9, (u, 1, order), &table, &garbage(random, LONGEST_ENTRY));
+            calls.write_entry(9, (u, 1, order), &table[1..], &[]);
+        }
     }
     for (u, g, table) in bench_tables() {
         for _ in 0..10 {
-            let exact = entry(7, u, g, &table).len();
-            calls.write_entry(7, u, g, &table, &result(random, exact));
+            let order = random.order(u);
+            let exact = entry_in(order, 7, u, g, &table).len();
+            calls.write_entry(7, (u, g, order), &table, &result(random, exact));
         }
     }
     for (u, g) in pairs(0, 10) {
         for _ in 0..80 {
             let mut table = condition(random, u, g);
             let route = 1 + random.below(250) as u64;
-            let exact = entry(route, u, g, &table).len();
+            let right = random.order(u);
+            let exact = entry_in(right, route, u, g, &table).len();
             damage(random, &mut table);
-            calls.write_entry(route, u, g, &table, &result(random, exact));
+            let order = if random.once_in(6) { order(random, u) } else { right };
+            calls.write_entry(route, (u, g, order), &table, &result(random, exact));
         }
         let table = condition(random, u, g);
-        let exact = entry(250, u, g, &table).len();
+        let order = random.order(u);
+        let exact = entry_in(order, 250, u, g, &table).len();
         for length in [exact - 1, exact, exact + 1, LONGEST_ENTRY, LONGEST_ENTRY + 1] {
-            calls.write_entry(250, u, g, &table, &garbage(random, length));
+            calls.write_entry(250, (u, g, order), &table, &garbage(random, length));
         }
     }
     for table in long_conditions(random) {
-        let exact = entry(250, 6, 4, &table).len();
+        let order = reverse_order(6);
+        let exact = entry_in(order, 250, 6, 4, &table).len();
         for length in [exact - 1, exact, LONGEST_ENTRY] {
-            calls.write_entry(250, 6, 4, &table, &garbage(random, length));
+            calls.write_entry(250, (6, 4, order), &table, &garbage(random, length));
         }
     }
     calls
@@ -59,7 +76,8 @@ pub fn run_reading() -> Calls {
             }
             _ => (1024, 6144),
         };
-        calls.read_entry(&bytes, &result(random, table), &result(random, answers));
+        let order = [(); 6].map(|()| random.number() as u8);
+        calls.read_entry(&bytes, order, &result(random, table), &result(random, answers));
     }
     calls
 }
@@ -89,9 +107,14 @@ fn entries(random: &mut Random) -> Vec<Vec<u8>> {
             all.extend((0..5).map(|_| damaged(random, &bytes)));
             all.push(bytes);
         }
+        for _ in 0..6 {
+            let table = condition(random, u, g);
+            let bytes = entry(1, u, g, &table);
+            all.push(reordered(random, u, &bytes));
+        }
         for route in [0, 251, 255] {
             let table = condition(random, u, g);
-            let mut bytes = rerouted(&entry(1, u, g, &table), route);
+            let mut bytes = rerouted(&entry_in(random.order(u), 1, u, g, &table), route);
             all.push(bytes.clone());
             // 11 comes before 2
             bytes[1] ^= 1;
@@ -103,9 +126,9 @@ fn entries(random: &mut Random) -> Vec<Vec<u8>> {
         all.push(vec![1, 9, u, g, 4, 8]);
     }
     for table in long_conditions(random) {
-        all.push(entry(250, 6, 4, &table));
+        all.push(entry_in(reverse_order(6), 250, 6, 4, &table));
     }
-    let full = built(250, 6, 4, &[1; 1024], &[1; 6144]);
+    let full = built(reverse_order(6), 250, 6, 4, &[1; 1024], &[1; 6144]);
     assert_eq!(full.len(), LONGEST_ENTRY);
     all.push([&full[..], &full].concat());
     all.push(full[..LONGEST_ENTRY - 1].to_vec());
@@ -116,22 +139,38 @@ fn entries(random: &mut Random) -> Vec<Vec<u8>> {
 /// Whole entries whose answers or state are perhaps not those solved afresh.
 fn other_answers(random: &mut Random, u: u64, g: u64, table: &[u8]) -> Vec<Vec<u8>> {
     let route = random.below(256) as u8;
+    let order = random.order(u);
     let mut answers = vec![0; u as usize * table.len()];
-    let mut all = vec![built(route, u, g, table, &answers)];
+    let mut all = vec![built(order, route, u, g, table, &answers)];
     for method in [reference::lowenheim, reference::particular, reference::boole] {
-        if method(u, g, table, &mut answers) == Ok(reference::Solved::Done) {
-            all.push(built(route, u, g, table, &answers));
+        if method(u, g, order, table, &mut answers) == Ok(reference::Solved::Done) {
+            all.push(built(order, route, u, g, table, &answers));
         }
     }
+    // the answers of one order under another
+    all.push(built(random.order(u), route, u, g, table, &answers));
+    all.push(built(default_order(u), route, u, g, table, &answers));
     if !answers.is_empty() {
         // one monomial more or less
         let place = random.below(answers.len());
         answers[place] ^= 1;
-        all.push(built(route, u, g, table, &answers));
+        all.push(built(order, route, u, g, table, &answers));
     }
-    all.push(built_none(route, u, g, table, random.below(1 << g) as u8));
-    all.push(built_none(route, u, g, table, random.number() as u8));
+    all.push(built_none(order, route, u, g, table, random.below(1 << g) as u8));
+    all.push(built_none(order, route, u, g, table, random.number() as u8));
     all
+}
+
+/// An entry without kind 6, with one put in, right or wrong, mostly in its place.
+fn reordered(random: &mut Random, u: u64, bytes: &[u8]) -> Vec<u8> {
+    let mut records = split(bytes);
+    let order = order(random, u);
+    let place = if random.once_in(4) { random.below(records.len()) } else { 1 };
+    records.insert(place, [&[6], &order.0[..]].concat());
+    if random.once_in(6) {
+        records.insert(1 + random.below(2), [&[6], &order.0[..]].concat());
+    }
+    records.concat()
 }
 
 /// An entry with another route.
@@ -161,7 +200,7 @@ pub fn damaged(random: &mut Random, bytes: &[u8]) -> Vec<u8> {
         2 => bytes[place] ^= 1 << random.below(8),
         3 => bytes.truncate(place),
         4 => {
-            bytes.insert(place, random.below(6) as u8);
+            bytes.insert(place, random.below(7) as u8);
         }
         5 => drop(bytes.remove(place)),
         _ => return moved(random, &bytes),
@@ -198,8 +237,8 @@ fn long_condition(random: &mut Random) -> Vec<u8> {
     let mut answers = vec![0; 6 * 1024];
     let mut length = |table: &[u8]| {
         let ones = |table: &[u8]| table.iter().filter(|&&byte| byte == 1).count();
-        match plain::boole::<u64>(6, 4, table, &mut answers) {
-            Ok(reference::Solved::Done) => 6 + 3 * ones(table) + 4 * ones(&answers),
+        match plain::boole::<u64>(6, 4, reverse_order(6), table, &mut answers) {
+            Ok(reference::Solved::Done) => 13 + 3 * ones(table) + 4 * ones(&answers),
             _ => 0,
         }
     };

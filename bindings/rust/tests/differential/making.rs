@@ -1,6 +1,8 @@
 //! What the cases of several calls are made from.
 
+use reference::cases::orders::wrong_orders;
 use reference::cases::{Random, TOO_LARGE};
+use reference::Order;
 
 /// Any bytes.
 pub fn garbage(random: &mut Random, length: usize) -> Vec<u8> {
@@ -32,6 +34,18 @@ pub fn wrong_letters(random: &mut Random) -> Vec<(u64, u64)> {
         }
     });
     TOO_LARGE.into_iter().chain(others).collect()
+}
+
+/// An order: mostly right, else wrong in one byte or in all.
+pub fn order(random: &mut Random, u: u64) -> Order {
+    match random.below(16) {
+        0 => {
+            let wrong = wrong_orders(u);
+            random.pick(&wrong)
+        }
+        1 => Order([(); 6].map(|()| random.number() as u8)),
+        _ => random.any_order(u),
+    }
 }
 
 /// A condition: sparse or dense, solvable or not, at the bounds.

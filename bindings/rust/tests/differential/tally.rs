@@ -6,21 +6,21 @@ use std::collections::BTreeMap;
 const LEAST_CASES: usize = 4_000;
 const LEAST_NOES: usize = 50;
 
-/// The calls, with the questions that each asks, in the paper's order.
+/// The calls, with the questions that each asks, in the papers' order.
 pub const QUESTIONS: [(&str, &[u8]); 13] = [
     ("read_text", &[1, 3, 4, 5, 6, 7]),
     ("value", &[1, 4, 8, 16]),
     ("sum", &[1, 4, 8]),
     ("product", &[1, 4, 8]),
     ("substitute", &[1, 4, 8]),
-    ("boole", &[1, 4, 8, 9]),
-    ("particular", &[1, 4, 8, 9]),
-    ("lowenheim", &[1, 4, 8, 9]),
+    ("boole", &[1, 17, 4, 8, 9]),
+    ("particular", &[1, 17, 4, 8, 9]),
+    ("lowenheim", &[1, 17, 4, 8, 9]),
     ("lowenheim_handed", &[1, 4, 8]),
-    ("write_entry", &[1, 2, 4, 8, 14]),
-    ("read_entry", &[10, 11, 1, 2, 12, 4]),
-    ("audit", &[10, 11, 1, 2, 12, 13]),
-    ("walk", &[10, 11, 1, 2, 12, 13, 15]),
+    ("write_entry", &[1, 2, 17, 4, 8, 14]),
+    ("read_entry", &[10, 11, 1, 2, 12, 17, 4]),
+    ("audit", &[10, 11, 1, 2, 12, 17, 13]),
+    ("walk", &[10, 11, 1, 2, 12, 17, 13, 15]),
 ];
 
 /// For each call and each number of a first no, 0 where there is none, the count of cases.

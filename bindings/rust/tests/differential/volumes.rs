@@ -3,7 +3,7 @@
 use crate::calls::Calls;
 use crate::entries::{damaged, rerouted};
 use crate::making::{condition, garbage};
-use reference::cases::entries::{damaged_entries, entry};
+use reference::cases::entries::{damaged_entries, entry, entry_in};
 use reference::cases::{pairs, Random};
 
 pub fn run() -> Calls {
@@ -47,7 +47,8 @@ fn volume(random: &mut Random, many: usize, letters: u64) -> Vec<Vec<u8>> {
         }
         let (u, g) = random.pick(&letters);
         let table = condition(random, u, g);
-        entries.push(entry((1 + (route - 1) % 250) as u64, u, g, &table));
+        let order = random.order(u);
+        entries.push(entry_in(order, (1 + (route - 1) % 250) as u64, u, g, &table));
     }
     entries
 }

@@ -2,8 +2,10 @@
 //!
 //! Input: CALL U G X Y SIZE SIZE2 A B, single spaces between. A and B are
 //! digits, one a byte, hexadecimal bytes, or raw text; `-` is an empty one.
+//! For a call that takes an order, Y is its six bytes in hexadecimal.
 
-use reference::{Choice, Contents, Count, Reading, Refusal, Solved, State, Walk};
+use reference::{Choice, Contents, Count, Order, Reading, Refusal, Solved, State, Walk};
+use std::fmt;
 
 /// No line of either file is longer.
 const LONGEST_LINE: usize = 8_000;
@@ -23,9 +25,31 @@ pub struct Numbers {
     pub u: u64,
     pub g: u64,
     pub x: u64,
-    pub y: u64,
+    pub y: Y,
     pub size: usize,
     pub size2: usize,
+}
+
+/// A choice or an order.
+#[derive(Clone, Copy)]
+pub enum Y {
+    Choice(u64),
+    Order(Order),
+}
+
+impl Default for Y {
+    fn default() -> Y {
+        Y::Choice(0)
+    }
+}
+
+impl fmt::Display for Y {
+    fn fmt(&self, f: &mut fmt::Formatter) -> fmt::Result {
+        match self {
+            Y::Choice(number) => write!(f, "{number}"),
+            Y::Order(order) => f.write_str(&hexadecimal(&order.0)),
+        }
+    }
 }
 
 impl Lines {
@@ -56,7 +80,7 @@ impl Lines {
             Ok(value) => format!("value {value}"),
             Err(Refusal(number)) => format!("refused {number}"),
         };
-        let numbers = Numbers { u, g, x: state, y: choice, ..Numbers::default() };
+        let numbers = Numbers { u, g, x: state, y: Y::Choice(choice), ..Numbers::default() };
         self.add('v', numbers, &digits(table), b"-", expected);
     }
 
@@ -83,12 +107,18 @@ impl Lines {
     }
 
     /// Boole, the particular solution or the own Löwenheim: `b`, `p` or `l`.
-    pub fn solution(&mut self, call: char, u: u64, g: u64, condition: &[u8], size: usize) {
+    pub fn solution(
+        &mut self,
+        call: char,
+        (u, g, order): (u64, u64, Order),
+        condition: &[u8],
+        size: usize,
+    ) {
         let mut buffer = vec![GARBAGE; size];
         let result = match call {
-            'b' => reference::boole(u, g, condition, &mut buffer),
-            'p' => reference::particular(u, g, condition, &mut buffer),
-            'l' => reference::lowenheim(u, g, condition, &mut buffer),
+            'b' => reference::boole(u, g, order, condition, &mut buffer),
+            'p' => reference::particular(u, g, order, condition, &mut buffer),
+            'l' => reference::lowenheim(u, g, order, condition, &mut buffer),
             _ => unreachable!("no call that solves"),
         };
         let word = match result {
@@ -96,28 +126,36 @@ impl Lines {
             Ok(Solved::None(State(state))) => format!("none {state}"),
             Err(Refusal(number)) => format!("refused {number}"),
         };
-        let numbers = Numbers { u, g, size, ..Numbers::default() };
+        let numbers = Numbers { u, g, y: Y::Order(order), size, ..Numbers::default() };
         let expected = format!("{word} {}", digits(&buffer));
         self.add(call, numbers, &digits(condition), b"-", expected);
     }
 
-    pub fn writing(&mut self, route: u64, u: u64, g: u64, condition: &[u8], size: usize) {
+    pub fn writing(
+        &mut self,
+        route: u64,
+        (u, g, order): (u64, u64, Order),
+        condition: &[u8],
+        size: usize,
+    ) {
         let mut buffer = vec![GARBAGE; size];
-        let word = match reference::write_entry(route, u, g, condition, &mut buffer) {
+        let word = match reference::write_entry(route, u, g, order, condition, &mut buffer) {
             Ok(length) => format!("done {length}"),
             Err(Refusal(number)) => format!("refused {number}"),
         };
-        let numbers = Numbers { u, g, x: route, size, ..Numbers::default() };
+        let numbers = Numbers { u, g, x: route, y: Y::Order(order), size, ..Numbers::default() };
         let expected = format!("{word} {}", hexadecimal(&buffer));
         self.add('w', numbers, &digits(condition), b"-", expected);
     }
 
     pub fn reading(&mut self, bytes: &[u8], size: usize, size2: usize) {
+        let mut order = Order([GARBAGE; 6]);
         let mut condition = vec![GARBAGE; size];
         let mut answers = vec![GARBAGE; size2];
-        let result = reference::read_entry(bytes, &mut condition, &mut answers);
+        let result = reference::read_entry(bytes, &mut order, &mut condition, &mut answers);
+        let order = hexadecimal(&order.0);
         let (condition, answers) = (digits(&condition), digits(&answers));
-        let expected = format!("{} {condition} {answers}", reading(result));
+        let expected = format!("{} {order} {condition} {answers}", reading(result));
         let numbers = Numbers { size, size2, ..Numbers::default() };
         self.add('r', numbers, "-", hexadecimal(bytes).as_bytes(), expected);
     }

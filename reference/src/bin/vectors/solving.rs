@@ -2,7 +2,9 @@
 
 use crate::lines::Lines;
 use crate::operations::{add_any_tables, add_wrong_tables};
+use reference::cases::orders::{default_order, every_order, reverse_order, wrong_orders};
 use reference::cases::{bench_tables, pairs, Random, TOO_LARGE};
+use reference::Order;
 
 /// Boole (`b`), the particular solution (`p`) or the own Löwenheim (`l`).
 pub fn add_solutions(lines: &mut Lines, call: char) {
@@ -10,14 +12,15 @@ pub fn add_solutions(lines: &mut Lines, call: char) {
     for (u, g, table) in bench_tables() {
         let exact = u as usize * table.len();
         for size in [exact, exact + 2, exact.saturating_sub(1)] {
-            lines.solution(call, u, g, &table, size);
+            lines.solution(call, (u, g, default_order(u)), &table, size);
         }
     }
     for (u, g) in TOO_LARGE {
-        lines.solution(call, u, g, &[1, 0], 4);
-        lines.solution(call, u, g, &[7], 0);
+        lines.solution(call, (u, g, default_order(u)), &[1, 0], 4);
+        lines.solution(call, (u, g, Order([7; 6])), &[7], 0);
     }
     add_every_condition(lines, call);
+    add_orders(lines, call, random);
     for (u, g) in pairs(0, 4) {
         add_wrong_conditions(lines, call, random, u, g);
         let many = if u + g < 4 { 16 } else { 8 };
@@ -26,19 +29,44 @@ pub fn add_solutions(lines: &mut Lines, call: char) {
         }
         for state in 0..1 << g {
             let table = random.blocked(u, g, state);
-            lines.solution(call, u, g, &table, u as usize * table.len());
+            lines.solution(call, (u, g, random.order(u)), &table, u as usize * table.len());
         }
     }
     add_large_conditions(lines, call, random);
 }
 
-/// Every condition over at most two letters.
+/// Every condition over at most two letters, in every order.
 fn add_every_condition(lines: &mut Lines, call: char) {
     for (u, g) in pairs(0, 2) {
         let length = 1 << (u + g);
         for bits in 0..1 << length {
             let table: Vec<u8> = (0..length).map(|mask| (bits >> mask & 1) as u8).collect();
-            lines.solution(call, u, g, &table, u as usize * length);
+            for order in every_order(u) {
+                lines.solution(call, (u, g, order), &table, u as usize * length);
+            }
+        }
+    }
+}
+
+/// Every order of two and three unknowns on the same conditions, solvable and not; and wrong
+/// orders, alone and before other wrong things.
+fn add_orders(lines: &mut Lines, call: char, random: &mut Random) {
+    for (u, g) in [(2, 1), (3, 0), (3, 1)] {
+        for kind in 0..4 {
+            let table =
+                if kind == 0 { random.blocked(u, g, (1 << g) - 1) } else { random.solvable(u, g) };
+            for order in every_order(u) {
+                lines.solution(call, (u, g, order), &table, u as usize * table.len());
+            }
+        }
+    }
+    for u in 0..=6 {
+        for order in wrong_orders(u) {
+            lines.solution(call, (u, 0, order), &[7], 0);
+            if u < 3 {
+                let table = random.solvable(u, 1);
+                lines.solution(call, (u, 1, order), &table, u as usize * table.len());
+            }
         }
     }
 }
@@ -52,16 +80,20 @@ fn add_wrong_conditions(lines: &mut Lines, call: char, random: &mut Random, u: u
     let mut spoiled = none.clone();
     random.spoil(&mut spoiled, length);
     let longer = [&table[..], &[7, 1, 9]].concat();
-    lines.solution(call, u, g, &longer, exact + 4);
-    lines.solution(call, u, g, &[&none[..], &[9]].concat(), exact + 4);
-    lines.solution(call, u, g, &table[1..], exact);
-    lines.solution(call, u, g, &[], exact);
-    lines.solution(call, u, g, &table, exact.saturating_sub(1));
-    lines.solution(call, u, g, &none, exact.saturating_sub(1));
-    lines.solution(call, u, g, &table, 0);
-    lines.solution(call, u, g, &spoiled, exact);
-    lines.solution(call, u, g, &spoiled, exact.saturating_sub(1));
-    lines.solution(call, u, g, &spoiled[..length - 1], exact);
+    let wrong = (u, g, Order([u as u8; 6]));
+    let right = (u, g, random.order(u));
+    lines.solution(call, right, &longer, exact + 4);
+    lines.solution(call, right, &[&none[..], &[9]].concat(), exact + 4);
+    lines.solution(call, right, &table[1..], exact);
+    lines.solution(call, right, &[], exact);
+    lines.solution(call, right, &table, exact.saturating_sub(1));
+    lines.solution(call, right, &none, exact.saturating_sub(1));
+    lines.solution(call, right, &table, 0);
+    lines.solution(call, right, &spoiled, exact);
+    lines.solution(call, right, &spoiled, exact.saturating_sub(1));
+    lines.solution(call, right, &spoiled[..length - 1], exact);
+    lines.solution(call, wrong, &none, exact);
+    lines.solution(call, wrong, &spoiled[..length - 1], exact);
 }
 
 fn add_any_condition(lines: &mut Lines, call: char, random: &mut Random, u: u64, g: u64) {
@@ -78,35 +110,40 @@ fn add_any_condition(lines: &mut Lines, call: char, random: &mut Random, u: u64,
         random.fit(&mut table);
     }
     let size = if random.once_in(4) { random.size(exact) } else { exact };
-    lines.solution(call, u, g, &table, size);
+    lines.solution(call, (u, g, random.any_order(u)), &table, size);
 }
 
 /// Five to ten letters: sparse, and dense at the bounds, solved and 'none'.
 fn add_large_conditions(lines: &mut Lines, call: char, random: &mut Random) {
+    let mut add = |random: &mut Random, u: u64, g: u64, table: &[u8]| {
+        let order = random.order(u);
+        lines.solution(call, (u, g, order), table, u as usize * table.len());
+    };
     for (u, g) in pairs(5, 7) {
         let table = random.solvable(u, g);
-        lines.solution(call, u, g, &table, u as usize * table.len());
+        add(random, u, g, &table);
     }
     for (u, g) in [(0, 8), (1, 8), (2, 8), (3, 6), (4, 4), (3, 7), (5, 4), (6, 2)] {
         let table = random.solvable(u, g);
-        lines.solution(call, u, g, &table, u as usize * table.len());
+        add(random, u, g, &table);
         let state = random.below(1 << g);
         let none = random.blocked(u, g, state);
-        lines.solution(call, u, g, &none, u as usize * none.len());
+        add(random, u, g, &none);
         let sparse = random.table(none.len(), none.len() / 4);
-        lines.solution(call, u, g, &sparse, u as usize * none.len());
+        add(random, u, g, &sparse);
     }
     let dense = random.solvable(6, 4);
-    lines.solution(call, 6, 4, &dense, 6144);
-    lines.solution(call, 6, 4, &dense, 6143);
+    add(random, 6, 4, &dense);
     let last = random.blocked(2, 8, 255);
-    lines.solution(call, 2, 8, &last, 2048);
+    add(random, 2, 8, &last);
     // the other pairs of eight to ten letters, by Boole alone, so that the files stay small
     if call == 'b' {
         for (u, g) in [(1, 7), (2, 6), (2, 7), (3, 5), (4, 5), (4, 6), (5, 3), (5, 5), (6, 3)] {
             let table = random.solvable(u, g);
-            lines.solution(call, u, g, &table, u as usize * table.len());
+            add(random, u, g, &table);
         }
+        let table = random.solvable(6, 2);
+        lines.solution(call, (6, 2, reverse_order(6)), &table, 6 * table.len() - 1);
     }
 }
 
@@ -117,9 +154,9 @@ pub fn add_handed(lines: &mut Lines) {
         let exact = u as usize * table.len();
         let mut handed = vec![0; exact];
         // 'none' leaves zeros: the formula is worked out either way
-        let _ = reference::particular(u, g, &table, &mut handed);
+        let _ = reference::particular(u, g, default_order(u), &table, &mut handed);
         lines.tables('h', u, g, &table, &handed, exact);
-        let _ = reference::boole(u, g, &table, &mut handed);
+        let _ = reference::boole(u, g, default_order(u), &table, &mut handed);
         lines.tables('h', u, g, &table, &handed, exact + 1);
         let other = random.any_table(exact);
         lines.tables('h', u, g, &table, &other, exact);

@@ -2,8 +2,12 @@
 
 use crate::entry::table_for_line;
 use crate::lines::Lines;
-use reference::cases::entries::{any_entry, built, built_none, damaged_entries, entry, split};
+use reference::cases::entries::{
+    any_entry, built, built_none, damaged_entries, entry, entry_in, split,
+};
+use reference::cases::orders::{default_order, every_order};
 use reference::cases::{bench_tables, pairs, Random};
+use reference::Order;
 
 pub fn add_audits(lines: &mut Lines) {
     let random = &mut Random::new('a');
@@ -11,25 +15,29 @@ pub fn add_audits(lines: &mut Lines) {
         let bytes = entry(1 + random.below(250) as u64, u, g, &table);
         lines.audit(&bytes);
         lines.audit(&[&bytes[..], &[4, 7, 0]].concat());
-        add_other_answers(lines, u, g, &table);
+        add_other_answers(lines, default_order(u), u, g, &table);
     }
     for bytes in damaged_entries(random) {
-        lines.audit(&bytes);
+        // a sample, so that the files stay small; reading, which asks the same, has all
+        if random.below(4) < 3 {
+            lines.audit(&bytes);
+        }
     }
     for (u, g) in pairs(0, 4) {
         for _ in 0..4 {
             lines.audit(&any_entry(random, u, g));
         }
         let table = random.solvable(u, g);
-        add_other_answers(lines, u, g, &table);
+        add_other_answers(lines, random.order(u), u, g, &table);
         let state = random.below(1 << g);
         let none = random.blocked(u, g, state);
-        add_other_answers(lines, u, g, &none);
+        add_other_answers(lines, random.order(u), u, g, &none);
     }
+    add_other_orders(lines, random);
     for (u, g) in pairs(5, 10) {
-        let most = if u + g == 8 { 1_500 } else { 500 };
-        let (table, _) = table_for_line(random, u, g, most);
-        let mut records = split(&entry(200, u, g, &table));
+        let most = if u + g == 8 { 1_000 } else { 450 };
+        let (table, order, _) = table_for_line(random, u, g, most);
+        let mut records = split(&entry_in(order, 200, u, g, &table));
         lines.audit(&records.concat());
         if u + g < 8 {
             records.remove(records.len() - 2);
@@ -47,26 +55,44 @@ pub fn add_audits(lines: &mut Lines) {
 }
 
 /// Well-formed entries whose answers or state are not, or perhaps not, those solved afresh.
-fn add_other_answers(lines: &mut Lines, u: u64, g: u64, table: &[u8]) {
+fn add_other_answers(lines: &mut Lines, order: Order, u: u64, g: u64, table: &[u8]) {
     let exact = u as usize * table.len();
     let mut answers = vec![0; exact];
     for method in [reference::lowenheim, reference::particular, reference::boole] {
-        if method(u, g, table, &mut answers) == Ok(reference::Solved::Done) {
-            lines.audit(&built(5, u, g, table, &answers));
+        if method(u, g, order, table, &mut answers) == Ok(reference::Solved::Done) {
+            lines.audit(&built(order, 5, u, g, table, &answers));
         }
     }
     for place in 0..exact.min(9) {
         // one monomial more or less
         let mut other = answers.clone();
         other[place * exact / exact.min(9)] ^= 1;
-        lines.audit(&built(5, u, g, table, &other));
+        lines.audit(&built(order, 5, u, g, table, &other));
     }
     let mut unknowns = vec![0; exact];
     (0..u as usize).for_each(|j| unknowns[j * table.len() + (1 << j)] = 1);
-    lines.audit(&built(5, u, g, table, &unknowns));
-    lines.audit(&built(5, u, g, table, &vec![0; exact]));
+    lines.audit(&built(order, 5, u, g, table, &unknowns));
+    lines.audit(&built(order, 5, u, g, table, &vec![0; exact]));
     for state in 0..=1u8 << g {
-        lines.audit(&built_none(5, u, g, table, state));
+        lines.audit(&built_none(order, 5, u, g, table, state));
+    }
+}
+
+/// For each two orders of three unknowns, an entry that names one and holds the answers of the
+/// other; and each order of a condition that is 'none'.
+fn add_other_orders(lines: &mut Lines, random: &mut Random) {
+    let table = random.solvable(3, 0);
+    for held in every_order(3) {
+        let mut answers = vec![0; 24];
+        let solved = reference::boole(3, 0, held, &table, &mut answers);
+        assert_eq!(solved, Ok(reference::Solved::Done));
+        for named in every_order(3) {
+            lines.audit(&built(named, 5, 3, 0, &table, &answers));
+        }
+    }
+    let none = random.blocked(3, 1, 1);
+    for named in every_order(3) {
+        lines.audit(&entry_in(named, 5, 3, 1, &none));
     }
 }
 
@@ -102,6 +128,9 @@ pub fn add_walks(lines: &mut Lines) {
     }
     add_damaged_volumes(lines, random);
     add_wrong_answers(lines);
+    let ordered =
+        |order: &Order| entry_in(*order, 3 + order.0[0] as u64, 3, 0, &[0, 0, 0, 0, 0, 0, 0, 1]);
+    add_places(lines, &[0, 2, 4].map(|place| ordered(&every_order(3)[place])));
     for many in [3, 6, 10, 25] {
         add_any_volume(lines, random, many);
     }
@@ -127,7 +156,7 @@ fn add_damaged_volumes(lines: &mut Lines, random: &mut Random) {
     let first = entry(2, 1, 0, &[0, 1]);
     let last = entry(250, 1, 1, &[0, 0, 1, 0]);
     for bytes in damaged_entries(random) {
-        match random.below(13) {
+        match random.below(20) {
             0 => lines.walk(&[&bytes[..], &last].concat(), 0),
             1 => lines.walk(&[&first[..], &bytes, &last].concat(), first.len()),
             2..=4 => lines.walk(&[&first[..], &bytes, &last].concat(), 0),
@@ -147,19 +176,22 @@ fn add_wrong_answers(lines: &mut Lines) {
         for place in 0..right.len() {
             let mut answers = right;
             answers[place] ^= 1;
-            let wrong = built(route, 2, 0, &table, &answers);
+            let wrong = built(default_order(2), route, 2, 0, &table, &answers);
             lines.walk(&[&first[..], &wrong, &last].concat(), 0);
             lines.walk(&[&wrong[..], &last].concat(), 0);
         }
-        lines.walk(&[&first[..], &built(route, 2, 0, &table, &right), &last].concat(), 0);
+        for order in every_order(2) {
+            let solved = built(order, route, 2, 0, &table, &right);
+            lines.walk(&[&first[..], &solved, &last].concat(), 0);
+        }
         for state in 0..5 {
             // a*b + a: blocked in state 1 alone
-            let none = built_none(route, 0, 2, &[0, 1, 0, 1], state);
+            let none = built_none(default_order(0), route, 0, 2, &[0, 1, 0, 1], state);
             lines.walk(&[&first[..], &none, &last].concat(), 0);
         }
-        let solved = built(route, 0, 2, &[0, 1, 0, 1], &[]);
+        let solved = built(default_order(0), route, 0, 2, &[0, 1, 0, 1], &[]);
         lines.walk(&[&first[..], &solved, &last].concat(), 0);
-        let none = built_none(route, 2, 0, &table, 0);
+        let none = built_none(default_order(2), route, 2, 0, &table, 0);
         lines.walk(&[&first[..], &none, &last].concat(), 0);
     }
 }
@@ -171,7 +203,8 @@ fn add_any_volume(lines: &mut Lines, random: &mut Random, many: usize) {
     for k in 0..many {
         let (u, g) = random.pick(&small);
         let table = random.solvable(u, g);
-        entries.push(entry(3 * k as u64 + 1 + random.below(3) as u64, u, g, &table));
+        let order = random.order(u);
+        entries.push(entry_in(order, 3 * k as u64 + 1 + random.below(3) as u64, u, g, &table));
     }
     let volume = entries.concat();
     lines.walk(&volume, 0);
