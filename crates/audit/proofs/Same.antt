@@ -6,17 +6,14 @@ use mathlib.Core.Bool.{Bool, true, false}
 use mathlib.Core.List.{List}
 use mathlib.Core.Logic.{_⊎_, inl, inr}
 use Prim.Native.Nat.{ℕ, _+_, _-_, _*_, _^_, _≤_, _<_}
-use native.Mathlib.Numerals.{add-one}
 use native.Mathlib.Nat.{mul-le-mul}
 use native.Mathlib.Omega.{arith}
 use lib.Arith.{digits-lt}
 use lib.Dec.{eqb}
-use lib.ListN.{length, getD, take, drop, drop-of-length-le}
-use lib.Seq.{drop-cons}
-use borrow.Author.Tests.{eq-eqb, ne-eqb, eqb-true, eqb-false}
+use lib.ListN.{length, getD, take, drop}
+use borrow.Author.Tests.{eqb-true, eqb-false}
 use Rattle.ring.specs.declared.State.{State}
 use Rattle.ring.specs.Letters.{digit}
-use Rattle.ring.specs.Lists.{listed}
 use Rattle.ring.specs.Polynomial.{Polynomial, value}
 use Rattle.ring.specs.Table.{IsTable, present, table, held, answerTable}
 use Rattle.ring.proofs.Bool.{bool-cases, never}
@@ -48,24 +45,6 @@ use Rattle.calls.specs.declared.Verdict.{Verdict as Afresh}
 use Rattle.solver.specs.Inner.Methods.{verdict, solveWords}
 use Rattle.solver.proofs.OnWords.{solved-by-values, none-by-values}
 use Rattle.audit.specs.Inner.Answers.{AreAnswers}
-
--- ---- two lists of words, from place i on
-module _ (xs ys : List ℕ) (i : ℕ) (b : Bool) (inv : b ≡ sameBytes (drop i xs) (drop i ys)) (e : length xs ≡ length ys) where
-  pub bytes-end : length xs ≤ i → true ≡ b
-  unfolding sameBytes
-  bytes-end h = let l : length ys ≤ i = omega arith in sym (inv ∙ rw (drop-of-length-le xs h, drop-of-length-le ys l))
-
-  module _ (h : i < length xs) where
-    below : i < length ys
-    below = omega arith
-
-    pub bytes-differ : (getD xs i 0 ≡ getD ys i 0 → ⊥) → false ≡ b
-    unfolding sameBytes
-    bytes-differ n = sym (inv ∙ rw (drop-cons xs i 0 h, drop-cons ys i 0 below, ne-eqb (getD xs i 0) (getD ys i 0) n))
-
-    pub bytes-next : getD xs i 0 ≡ getD ys i 0 → b ≡ sameBytes (drop (i + 1) xs) (drop (i + 1) ys)
-    unfolding sameBytes
-    bytes-next q = inv ∙ rw (drop-cons xs i 0 h, drop-cons ys i 0 below, eq-eqb (getD xs i 0) (getD ys i 0) q, add-one i)
 
 -- ---- the values of one unknown's answer, held and solved afresh
 -- part j of the answers held is the table of what they hold for unknown j

@@ -5,7 +5,7 @@ use Prim.Native.Nat.{_-_}
 use lib.ListN.{length, drop}
 use borrow.Author.Needs.{needs}
 use Rattle.entry.specs.Record.{sameBytes}
-use Rattle.audit.proofs.Same.{bytes-end, bytes-differ, bytes-next}
+use Rattle.entry.proofs.SameBytes.{bytes-end, bytes-differ, bytes-next}
 use Rattle.audit.proofs.same_words.Statement.{statement}
 use Rattle.audit.proofs.same_words.Tie as tie
 
