@@ -10,7 +10,7 @@ use lib.ListN.{length, take, drop, length-append}
 use lib.Seq.{take-at}
 use Rattle.tables.specs.Questions.{firstNo}
 use Rattle.tables.specs.Answered.{Reply, accepted, after, Answered, answered, call, _into_}
-use Rattle.tables.proofs.Answered.{reply-accepted}
+use Rattle.tables.proofs.Answered.{call-done, call-also}
 use Rattle.grammar.specs.Text.{textTable}
 use Rattle.solution.specs.Condition.{Condition, width, ordered}
 use Rattle.solution.specs.Order.{orderBytes, orderFits, lentCondition}
@@ -31,19 +31,6 @@ use Rattle.calls.proofs.Entries.{answers-back}
 use Rattle.demands.specs.OverTheCalls.{textRead, entryWritten, GivesBack, OverTheCalls}
 use Rattle.demands.proofs.Demand3.{right-demand}
 
--- what a call does that is not refused, with one buffer and with three
-done-one : (questions : _) (values answer lent : List ℕ) → firstNo questions ≡ 0
-    → call questions values (answer into lent ∷ []) ≡ answered (accepted values) ((answer ++ drop (length answer) lent) ∷ [])
-unfolding call after
-done-one questions values answer lent z = rw (z, ← reply-accepted questions values z)
-
-done-three : (questions : _) (values answer lent answer₂ lent₂ answer₃ lent₃ : List ℕ) → firstNo questions ≡ 0
-    → call questions values (answer into lent ∷ answer₂ into lent₂ ∷ answer₃ into lent₃ ∷ [])
-    ≡ answered (accepted values)
-    ((answer ++ drop (length answer) lent) ∷ (answer₂ ++ drop (length answer₂) lent₂) ∷ (answer₃ ++ drop (length answer₃) lent₃) ∷ [])
-unfolding call after
-done-three questions values answer lent answer₂ lent₂ answer₃ lent₃ z = rw (z, ← reply-accepted questions values z)
-
 -- an entry that reads back does so through `read_entry`
 module _ (route : ℕ) (c : Condition) (e order condition answers : List ℕ) (back : ReadsBack route c (records e))
     (z : firstNo (readQuestions (records e) (length condition) (length answers)) ≡ 0) where
@@ -54,7 +41,9 @@ module _ (route : ℕ) (c : Condition) (e order condition answers : List ℕ) (b
       ∷ (answersOf (solve c) ++ drop (length (answersOf (solve c))) answers)
       ∷ [])
   given-back =
-      done-three (readQuestions (records e) (length condition) (length answers)) _ _ order _ condition _ answers z
+      sym (call-also (readQuestions (records e) (length condition) (length answers)) _ _ order _ _ z refl
+      (call-also (readQuestions (records e) (length condition) (length answers)) _ _ condition _ _ z refl
+      (call-done (readQuestions (records e) (length condition) (length answers)) _ _ answers _ _ z refl refl)))
       ∙ rw (values-back e back, order-back e back, condition-back e back, answers-back e back, length-orderBytes (c .order))
 
   pub read : GivesBack route c e order condition answers
@@ -82,7 +71,7 @@ module _ (route : ℕ) (c : Condition) (order condition out : List ℕ) (holds :
       record {
         demand = right-demand c _ right (back .condition) (back .verdict);
         entry-written =
-            done-one (writeQuestions route (c .U) (c .G) order condition (length out)) _ _ out z
+            sym (call-done (writeQuestions route (c .U) (c .G) order condition (length out)) _ _ out _ _ z refl refl)
             ∙ ap (λ (x : Condition). answered (accepted (length (entry route x) ∷ []))
             ((entry route x ++ drop (length (entry route x)) out) ∷ [])) holds;
         read-if-room = only-room _ back;

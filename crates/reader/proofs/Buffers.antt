@@ -16,7 +16,7 @@ use Rattle.tables.specs.Questions.{Asked, asks, firstNo, lettersFit, hasRoom, w
 use Rattle.tables.specs.Answered.{Reply, accepted, refused, after, Answered, answered, Buffer, _into_, call}
 use Rattle.tables.specs.Inner.Asking.{also}
 use Rattle.tables.proofs.FirstNo.{also-none, ask-then, ask-last, then-further}
-use Rattle.tables.proofs.Answered.{call-stops, call-refused, call-done-two}
+use Rattle.tables.proofs.Answered.{call-stops, call-refused, call-done-none, call-also}
 use Rattle.tables.proofs.Parts.{answers-fit}
 use Rattle.tables.proofs.Questions.{letters-small, unknowns-small}
 use Rattle.solution.specs.Elimination.{solved, none, Verdict as Said}
@@ -84,14 +84,6 @@ pub read-refused : (bs o c a : List ℕ) {q : ℕ} → q ≡ firstNo (entryQuest
     → answered (refused q []) (o ∷ c ∷ a ∷ []) ≡ readCall bs o c a
 unfolding readQuestions entryQuestions
 read-refused bs o c a {q} e n = call-stops (entryQuestions (records bs)) _ _ (_ into o ∷ _ into c ∷ _ into a ∷ []) q refl e n
-
--- one buffer more, as it is afterwards
-call-also : (questions : List Asked) (values answer lent now : List ℕ) (buffers : List Buffer) {gives : Reply} {rest : List (List ℕ)}
-    → firstNo questions ≡ 0 → now ≡ answer ++ drop (length answer) lent → answered gives rest ≡ call questions values buffers
-    → answered gives (now ∷ rest) ≡ call questions values (answer into lent ∷ buffers)
-unfolding call after
-call-also questions values answer lent now buffers z en e =
-    ap (λ (x : Answered Reply). answered (x .gives) (now ∷ x .lent)) e ∙ rw (z, en)
 
 -- an order in six bytes
 pub order-done : (order lent : List ℕ) → length order ≡ 6 → length lent ≡ 6 → order ≡ order ++ drop (length order) lent
@@ -226,8 +218,9 @@ module _ (bs : List ℕ) (p : firstNo (entryQuestions (records bs)) ≡ 0) {h : 
             → answered (accepted (h .route ∷ h .unknowns ∷ h .givens ∷ h .used ∷ stateSaid v))
             (o ∷ (c₂ ++ drop k (c₁ ++ drop k c)) ∷ (a₂ ++ drop room (a₁ ++ drop room a)) ∷ []) ≡ readCall bs lent c a
         read-done {o} eo en =
-            call-also (readQuestions (records bs) (length c) (length a)) (readValues (records bs)) (orderIn (records bs)) lent o _
-            (sym refusal ∙ z) (en ∙ rw eo)
-            (ap (λ (x : List ℕ). answered (accepted x) ((c₂ ++ drop k (c₁ ++ drop k c)) ∷ (a₂ ++ drop room (a₁ ++ drop room a)) ∷ [])) values
-            ∙ call-done-two (readQuestions (records bs) (length c) (length a)) (readValues (records bs)) _ c _ _ a _
-            (sym refusal ∙ z) condition-done answers-done)
+            let done : firstNo (readQuestions (records bs) (length c) (length a)) ≡ 0 = sym refusal ∙ z in
+            call-also (readQuestions (records bs) (length c) (length a)) (readValues (records bs)) _ lent o _ done (en ∙ rw eo)
+            (call-also (readQuestions (records bs) (length c) (length a)) (readValues (records bs)) _ c _ _ done condition-done
+            (call-also (readQuestions (records bs) (length c) (length a)) (readValues (records bs)) _ a _ _ done answers-done
+            (ap (λ (x : List ℕ). answered (accepted x) []) values
+            ∙ call-done-none (readQuestions (records bs) (length c) (length a)) (readValues (records bs)) done)))

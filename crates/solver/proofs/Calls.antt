@@ -16,7 +16,7 @@ use Rattle.tables.specs.Inner.Asking.{also}
 use Rattle.tables.proofs.FirstNo.{no-to, yes-counts, each-yes, then-further, also-none, also-also}
 use Rattle.tables.proofs.Questions.{failed, passed as yes-said, letters-small, unknowns-small, pow-small}
 use Rattle.tables.proofs.Questions.{room-enough, held-bits, lent-table}
-use Rattle.tables.proofs.Answered.{reply-behind, call-stops, call-refused, call-done, call-gives, call-first}
+use Rattle.tables.proofs.Answered.{call-stops, call-refused, call-done, call-behind, call-front}
 use Rattle.solution.specs.Condition.{ordered}
 use Rattle.solution.specs.Order.{orderFits, lentCondition}
 use Rattle.calls.specs.Questions.{asksSolution, solvingQuestions, handedQuestions}
@@ -54,31 +54,6 @@ all-small u n k few h e = mul-le-mul few (pow-small k n e h)
 
 pub all-fit : (u g k : ℕ) {fits : Bool} → fits ≡ lettersFit u g → not fits ≡ false → k ≡ 2 ^ (u + g) → u * k ≤ 6144
 all-fit u g k e n ek = all-small u (u + g) k (unknowns-small u g (yes-said e n)) (small u g e n) ek
-
--- ---- a call that has passed its first questions, on the front of its buffer
-pub call-behind : (questions further : List Asked) (values : List ℕ) (buffers : List Buffer) → firstNo questions ≡ 0
-    → call further values buffers ≡ call (questions ++ further) values buffers
-unfolding call
-call-behind questions further values buffers z = rw (← reply-behind questions further values z, then-further questions further z)
-
-after-front : (found k : ℕ) (answer lent : List ℕ) → length answer ≡ k → k ≤ length lent
-    → after found answer (take k lent) ++ drop k lent ≡ after found answer lent
-unfolding after
-after-front zero k answer lent e h =
-    let none : drop (length answer) (take k lent) ≡ [] = rw (e ∙ sym (length-take-le k lent h)) (drop-length (take k lent)) in
-    rw (none, append-nil, e)
-after-front (suc found) k answer lent e h = take-append-drop k lent
-
-pub call-front : (questions : List Asked) (values answer lent front : List ℕ) (k : ℕ) {gives : Reply} → length answer ≡ k → k ≤ length lent
-    → answered gives (front ∷ []) ≡ call questions values (answer into take k lent ∷ [])
-    → answered gives ((front ++ drop k lent) ∷ []) ≡ call questions values (answer into lent ∷ [])
-unfolding call
-call-front questions values answer lent front k e h done =
-    rw (
-      call-gives questions values (answer into take k lent ∷ []) done,
-      call-first questions values answer (take k lent) [] done,
-      after-front (firstNo questions) k answer lent e h,
-    )
 
 -- ---- solving: question 9 behind 1, 17, 4 and 8
 -- what no refusal tells: q is the number that the code has found, k the bytes of a table

@@ -1,16 +1,16 @@
 -- The two ways out of a call that asks its questions first: refused, with nothing changed, or done, with the answer at the front.
--- `call-refused` and `call-done` build a call's contract, `given-refused` and `given-accepted` take it apart again.
+-- `call-refused`, `call-done` and `call-also` build a call's contract, `call-gives` and `call-first` take it apart again.
 -- Assumes nothing.
 use mathlib.Core.Path.{_≡_, refl, sym, ap, _∙_}
 use mathlib.Core.Bool.{Bool, true, false}
 use mathlib.Core.List.{List, [], _∷_, _++_, map, append-nil}
-use Prim.Native.Nat.{ℕ, zero, suc}
+use Prim.Native.Nat.{ℕ, zero, suc, _≤_}
 use native.Mathlib.Omega.{arith}
-use lib.ListN.{length, drop}
+use lib.ListN.{length, take, drop, take-append-drop}
+use lib.Seq.{length-take-le, drop-length}
 use Rattle.tables.specs.declared.Question.{Question}
 use Rattle.tables.specs.Questions.{Asked, asksGiving, number, firstNo}
 use Rattle.tables.specs.Answered.{Reply, accepted, refused, reply, after, Answered, answered, Buffer, _into_, call, firstBuffer}
-use Rattle.tables.specs.Answered.{secondBuffer}
 use Rattle.tables.proofs.FirstNo.{number-some, no-to, first-counts, then-further}
 
 -- ---- what a call gives
@@ -116,12 +116,13 @@ pub call-done : (questions : List Asked) (values answer lent front : List ℕ) (
 unfolding call after
 call-done questions values answer lent front k z ef ek = rw (reply-accepted questions values z, z, ef, ek)
 
--- two buffers, each as it is afterwards
-pub call-done-two : (questions : List Asked) (values answer lent now answer2 lent2 now2 : List ℕ) → firstNo questions ≡ 0
-    → now ≡ answer ++ drop (length answer) lent → now2 ≡ answer2 ++ drop (length answer2) lent2
-    → answered (accepted values) (now ∷ now2 ∷ []) ≡ call questions values (answer into lent ∷ answer2 into lent2 ∷ [])
+-- one buffer more, as it is afterwards
+pub call-also : (questions : List Asked) (values answer lent now : List ℕ) (buffers : List Buffer) {gives : Reply} {rest : List (List ℕ)}
+    → firstNo questions ≡ 0 → now ≡ answer ++ drop (length answer) lent → answered gives rest ≡ call questions values buffers
+    → answered gives (now ∷ rest) ≡ call questions values (answer into lent ∷ buffers)
 unfolding call after
-call-done-two questions values answer lent now answer2 lent2 now2 z e e2 = rw (reply-accepted questions values z, z, e, e2)
+call-also questions values answer lent now buffers z en e =
+    ap (λ (x : Answered Reply). answered (x .gives) (now ∷ x .lent)) e ∙ rw (z, en)
 
 -- ---- a call's contract is taken apart
 module _ (questions : List Asked) (values : List ℕ) where
@@ -130,17 +131,11 @@ module _ (questions : List Asked) (values : List ℕ) where
   unfolding call
   call-gives buffers e = ap (λ (a : Answered Reply). a .gives) e
 
-  -- the first buffer, and the second
+  -- the first buffer
   pub call-first : (answer lent : List ℕ) (buffers : List Buffer) {gives : Reply} {now : List ℕ} {rest : List (List ℕ)}
       → answered gives (now ∷ rest) ≡ call questions values (answer into lent ∷ buffers) → now ≡ after (firstNo questions) answer lent
   unfolding call
   call-first answer lent buffers e = ap firstBuffer e
-
-  pub call-second : (answer lent : List ℕ) (first : Buffer) {gives : Reply} {now1 now : List ℕ}
-      → answered gives (now1 ∷ now ∷ []) ≡ call questions values (first ∷ answer into lent ∷ [])
-      → now ≡ after (firstNo questions) answer lent
-  unfolding call
-  call-second answer lent first e = ap secondBuffer e
 
 -- what a reply says of the questions
 pub accepted-is : (questions : List Asked) {given : List ℕ} (values : List ℕ) → accepted given ≡ reply questions values
@@ -158,20 +153,27 @@ refused-is (asksGiving question true with-it ∷ rest) values e = refused-is res
 refused-is (asksGiving question false with-it ∷ rest) {found} values e =
     let same : number question ≡ found = (cc) in (same, λ z. number-some question (same ∙ z))
 
--- both of a call that is lent one buffer
-module _ (questions : List Asked) (values answer lent : List ℕ) where
-  pub call-accepted : {given now : List ℕ} → answered (accepted given) (now ∷ []) ≡ call questions values (answer into lent ∷ [])
-      → (firstNo questions ≡ 0) × (given ≡ values) × (now ≡ answer ++ drop (length answer) lent)
-  unfolding after
-  call-accepted e =
-      let yes-all = accepted-is questions values (call-gives questions values (answer into lent ∷ []) e) in
-      let filled = call-first questions values answer lent [] e in
-      (yes-all .0, yes-all .1, filled ∙ rw (yes-all .0))
+-- ---- a call that has passed its first questions, on the front of its buffer
+pub call-behind : (questions further : List Asked) (values : List ℕ) (buffers : List Buffer) → firstNo questions ≡ 0
+    → call further values buffers ≡ call (questions ++ further) values buffers
+unfolding call
+call-behind questions further values buffers z = rw (← reply-behind questions further values z, then-further questions further z)
 
-  pub call-unchanged : {found : ℕ} {given now : List ℕ}
-      → answered (refused found given) (now ∷ []) ≡ call questions values (answer into lent ∷ [])
-      → (firstNo questions ≡ found) × (now ≡ lent)
-  call-unchanged e =
-      let stopped = refused-is questions values (call-gives questions values (answer into lent ∷ []) e) in
-      let some : firstNo questions ≡ 0 → ⊥ = λ z. stopped .1 (sym (stopped .0) ∙ z) in
-      (stopped .0, call-first questions values answer lent [] e ∙ sym (after-refused (firstNo questions) answer lent some))
+after-front : (found k : ℕ) (answer lent : List ℕ) → length answer ≡ k → k ≤ length lent
+    → after found answer (take k lent) ++ drop k lent ≡ after found answer lent
+unfolding after
+after-front zero k answer lent e h =
+    let none : drop (length answer) (take k lent) ≡ [] = rw (e ∙ sym (length-take-le k lent h)) (drop-length (take k lent)) in
+    rw (none, append-nil, e)
+after-front (suc found) k answer lent e h = take-append-drop k lent
+
+pub call-front : (questions : List Asked) (values answer lent front : List ℕ) (k : ℕ) {gives : Reply} → length answer ≡ k → k ≤ length lent
+    → answered gives (front ∷ []) ≡ call questions values (answer into take k lent ∷ [])
+    → answered gives ((front ++ drop k lent) ∷ []) ≡ call questions values (answer into lent ∷ [])
+unfolding call
+call-front questions values answer lent front k e h done =
+    rw (
+      call-gives questions values (answer into take k lent ∷ []) done,
+      call-first questions values answer (take k lent) [] done,
+      after-front (firstNo questions) k answer lent e h,
+    )

@@ -49,9 +49,6 @@ call questions values buffers =
 abbrev pub coded : {A : Type 0} → (Reply → A) → Answered Reply → Answered A
 coded code done = answered (code (done .gives)) (done .lent)
 
--- the first and the second buffer afterwards
+-- the first buffer afterwards
 abbrev pub firstBuffer : {A : Type 0} → Answered A → List ℕ
 firstBuffer done = getD (done .lent) 0 []
-
-abbrev pub secondBuffer : {A : Type 0} → Answered A → List ℕ
-secondBuffer done = getD (done .lent) 1 []

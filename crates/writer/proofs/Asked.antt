@@ -18,10 +18,9 @@ use Rattle.tables.specs.Answered.{Reply, Answered, answered, _into_}
 use Rattle.tables.specs.Inner.Asking.{also}
 use Rattle.tables.proofs.FirstNo.{EachYes, each-yes, no-to, yes-counts, also-none, also-also}
 use Rattle.tables.proofs.Questions.{failed, passed as yes-said, letters-small, unknowns-small, lent-table, room-enough}
-use Rattle.tables.proofs.Answered.{call-stops, call-refused, call-done}
+use Rattle.tables.proofs.Answered.{call-stops, call-refused, call-done, call-behind}
 use Rattle.solution.specs.Condition.{ordered}
 use Rattle.solution.specs.Order.{orderFits}
-use Rattle.solver.proofs.Calls.{call-behind}
 use Rattle.entry.specs.Entry.{entry}
 use Rattle.entry.specs.Questions.{routeFits}
 use Rattle.calls.specs.declared.Written.the-variants.{Done, Refused}
