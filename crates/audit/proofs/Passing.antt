@@ -30,7 +30,7 @@ state-said : (v : Said (List ℕ)) → stateSaid (said v) ≡ stateOf v
 state-said (solved a) = refl
 state-said (none state) = refl
 
-module _ (bs : List ℕ) (h : Heading) (v : Verdict) (a : Audits bs h v) where
+module _ (bs : List ℕ) (h : Heading) (v : Verdict) (o : List ℕ) (a : Audits bs h v o) where
   pub refused-afresh : {q : ℕ} → q ≡ 13 → answersHold (records bs) ≡ false → answered (reading (Refused q)) [] ≡ auditCall bs
   unfolding auditQuestions
   refused-afresh q f = rw q (call-last-no (entryQuestions (records bs)) Afresh _ [] (readValues (records bs)) [] (a .passed) f)

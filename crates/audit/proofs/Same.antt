@@ -29,19 +29,23 @@ use Rattle.words.specs.Inner.Words.{wordsOf, bitAt, answerWords}
 use Rattle.words.proofs.Letters.{room, count-small}
 use Rattle.words.proofs.Parts.{part-fits}
 use Rattle.words.proofs.Words.{words-cong, at-words}
-use Rattle.solution.specs.Condition.{Condition, defaultOrder}
+use Rattle.solution.specs.Condition.{Condition, ordered}
+use Rattle.solution.specs.Order.{orderFits}
+use Rattle.tables.specs.Questions.{firstNo}
+use Rattle.calls.specs.Questions.{entryQuestions}
+use Rattle.calls.proofs.Questions.{passes-exactly}
 use Rattle.solution.specs.Elimination.{Verdict, solved, none, booleAnswers, booleTable, solve}
 use Rattle.elimination.proofs.Slots.{part-listed, answer-part}
-use Rattle.entry.specs.Record.{Record}
-use Rattle.entry.specs.Held.{conditionIn, answersIn, heldCondition, heldVerdict}
-use Rattle.entry.specs.Questions.{sameBytes, sameVerdict, answersHold}
-use Rattle.entry.proofs.Theorems.{bytes-same, same-bytes}
+use Rattle.entry.specs.Record.{Record, sameBytes}
+use Rattle.entry.specs.Held.{records, orderIn, conditionIn, answersIn, heldCondition, heldVerdict}
+use Rattle.entry.specs.Questions.{sameVerdict, answersHold}
+use Rattle.entry.proofs.SameBytes.{bytes-same, same-bytes}
 use Rattle.calls.specs.declared.Heading.{Heading}
 use Rattle.calls.specs.declared.Verdict.the-variants.{Solved, None}
 use Rattle.records.specs.Inner.Headings.{headingOf, said}
 use Rattle.records.proofs.Headings.{heading-u, heading-g, said-none, said-solved}
 use Rattle.calls.specs.declared.Verdict.{Verdict as Afresh}
-use Rattle.solver.specs.Inner.Methods.{ordered, verdict, solveWords}
+use Rattle.solver.specs.Inner.Methods.{verdict, solveWords}
 use Rattle.solver.proofs.OnWords.{solved-by-values, none-by-values}
 use Rattle.audit.specs.Inner.Answers.{AreAnswers}
 
@@ -192,21 +196,26 @@ module _ (rs : List Record) (h : Heading) (eh : h ≡ headingOf rs) (t : List �
   unfolding table
   condition-table = rw et (is-table (h .unknowns + h .givens) (conditionIn rs))
 
-  module _ (o : List ℕ) (eo : o ≡ defaultOrder (h .unknowns)) where
-    read-back : ordered (h .unknowns) (h .givens) o t ≡ heldCondition rs
+  module _ (o : List ℕ) (eo : o ≡ orderIn rs) where
+    read-back : ordered (h .unknowns) (h .givens) (take (h .unknowns) o) t ≡ heldCondition rs
     unfolding heldCondition
     read-back = rw (eo, et, heading-u rs eh, heading-g rs eh)
 
-    pub hold-none : (state : State) (b : Bool) (w : Verdict (List ℕ)) → w ≡ solveWords (ordered (h .unknowns) (h .givens) o t)
+    pub hold-none : (state : State) (b : Bool) (w : Verdict (List ℕ)) → w ≡ solveWords (ordered (h .unknowns) (h .givens) (take (h .unknowns) o) t)
         → said (heldVerdict rs) ≡ None state → b ≡ sameVerdict (none state) w → b ≡ answersHold rs
     unfolding answersHold
     hold-none state b w ew es eb =
-        eb ∙ against-state (ordered (h .unknowns) (h .givens) o t) state w ew
+        eb ∙ against-state (ordered (h .unknowns) (h .givens) (take (h .unknowns) o) t) state w ew
         ∙ ap₂ sameVerdict (sym (said-none (heldVerdict rs) state es)) (ap solve read-back)
 
     pub hold-solved : (a : List ℕ) (b : Bool) → said (heldVerdict rs) ≡ Solved
         → a ≡ answerTable (h .unknowns) (h .unknowns + h .givens) (answersIn rs)
-        → b ≡ sameVerdict (solved a) (solve (ordered (h .unknowns) (h .givens) o t)) → b ≡ answersHold rs
+        → b ≡ sameVerdict (solved a) (solve (ordered (h .unknowns) (h .givens) (take (h .unknowns) o) t)) → b ≡ answersHold rs
     unfolding answersHold heldVerdict
     hold-solved a b es ea eb =
         eb ∙ ap₂ sameVerdict (ap solved (ea ∙ rw (heading-u rs eh, heading-g rs eh)) ∙ sym (said-solved _ rs es)) (ap solve read-back)
+
+-- question 17 was asked before
+pub order-passes : (bs : List ℕ) → firstNo (entryQuestions (records bs)) ≡ 0 → {h : Heading} → h ≡ headingOf (records bs)
+    → {o : List ℕ} → o ≡ orderIn (records bs) → orderFits (h .unknowns) o ≡ true
+order-passes bs p eh eo = rw (heading-u (records bs) eh, eo) (passes-exactly (records bs) .0 p .order)

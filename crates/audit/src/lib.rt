@@ -1,4 +1,4 @@
-// The audit of an archive entry: it is read, its condition is solved afresh, and the two are compared, by values that stand 64 to a word.
+// The audit of an archive entry: it is read, its condition is solved afresh by its own order, and the two are compared, by values that stand 64 to a word.
 // `audit` is the public call of the library; the other functions are its own, and what these require it meets.
 use calls::Heading;
 use calls::Read;
@@ -13,12 +13,13 @@ ghost use Rattle.ring.specs.Polynomial.{Polynomial, value};
 ghost use Rattle.ring.specs.Table.{answerTable};
 ghost use Rattle.tables.specs.Answered.{answered};
 ghost use Rattle.words.specs.Inner.Words.{answerWords};
-ghost use Rattle.solution.specs.Condition.{defaultOrder};
+ghost use Rattle.solution.specs.Condition.{ordered};
 ghost use Rattle.solution.specs.Elimination.{solved, none, solve};
 ghost use Rattle.entry.specs.Held.{records};
-ghost use Rattle.entry.specs.Questions.{sameBytes, sameVerdict, answersHold};
+ghost use Rattle.entry.specs.Record.{sameBytes};
+ghost use Rattle.entry.specs.Questions.{sameVerdict, answersHold};
 ghost use Rattle.calls.specs.Entries.{reading, auditCall};
-ghost use Rattle.solver.specs.Inner.Methods.{ordered, verdict, solveWords};
+ghost use Rattle.solver.specs.Inner.Methods.{verdict, solveWords};
 ghost use Rattle.audit.specs.Inner.Answers.{AreAnswers, Audits};
 
 fn same_words(held: &[u64], fresh: &[u64]) -> bool
@@ -94,14 +95,14 @@ fn answers_hold(
     bytes: &[u8],
     heading: Heading,
     told: Verdict,
-    order: &[usize],
+    order: [u8; 6],
     condition: &mut [u8],
     held: &mut [u8],
     values: &mut [u64],
     fresh: &mut [u64],
     own: &mut [u64],
 ) -> bool
-    requires { ⌜ Audits (now bytes) heading told × (now order ≡ defaultOrder (heading .unknowns)) ⌝ }
+    requires { ⌜ Audits (now bytes) heading told order ⌝ }
     requires { ⌜ (length (now condition) ≡ 2 ^ (heading .unknowns + heading .givens))
         × (length (now held) ≡ heading .unknowns * 2 ^ (heading .unknowns + heading .givens)) ⌝ }
     requires { ⌜ (length (now values) ≡ 2 ^ (heading .unknowns + heading .givens - 6))
@@ -121,8 +122,8 @@ fn answers_hold(
 }
 
 // The scratch lives here: the tables of the entry, the condition's values, those of the answers solved afresh, and those of one answer held.
-fn holds_afresh(bytes: &[u8], heading: Heading, told: Verdict) -> bool
-    requires { ⌜ Audits (now bytes) heading told ⌝ }
+fn holds_afresh(bytes: &[u8], heading: Heading, told: Verdict, order: [u8; 6]) -> bool
+    requires { ⌜ Audits (now bytes) heading told order ⌝ }
     ensures { λ r. ⌜ r ≡ answersHold (records (now (bytes .entry))) ⌝ }
 {
     let u = heading.unknowns;
@@ -131,7 +132,6 @@ fn holds_afresh(bytes: &[u8], heading: Heading, told: Verdict) -> bool
     let w = words::word_count(n);
     let all = u * k;
     let every = u * w;
-    let order = [0usize, 1, 2, 3, 4, 5];
     let mut condition = [0u8; 1024];
     let mut held = [0u8; 6144];
     let mut values = [0u64; 16];
@@ -141,7 +141,7 @@ fn holds_afresh(bytes: &[u8], heading: Heading, told: Verdict) -> bool
         bytes,
         heading,
         told,
-        &order[..u],
+        order,
         &mut condition[..k],
         &mut held[..all],
         &mut values[..w],
@@ -160,7 +160,8 @@ pub fn audit(bytes: &[u8]) -> Read
     }
     let heading = survey.heading;
     let told = survey.verdict;
-    if !holds_afresh(bytes, heading, told) {
+    let order = survey.order;
+    if !holds_afresh(bytes, heading, told, order) {
         return Read::Refused(tables::number(Question::Afresh));
     }
     Read::Entry(heading, told)

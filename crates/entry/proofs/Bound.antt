@@ -1,5 +1,5 @@
--- How long an entry is: 4 bytes of kind 1; 7 of kind 6, or none; 3 for each monomial of the condition, at most 2 ^ n; 4 for each monomial of
--- each answer, at most U * 2 ^ n, or 2 of kind 5; 2 of kind 4. With U at most 6 and n at most 10 that is
+-- How long an entry is: 4 bytes of kind 1; 7 of kind 6, or none; 3 for each monomial of the condition, at most 2 ^ n; 4 for each monomial
+-- of each answer, at most U * 2 ^ n, or 2 of kind 5; 2 of kind 4. With U at most 6 and n at most 10 that is
 -- 4 + 7 + 3 * 1,024 + 4 * 6,144 + 2 = 27,661.
 -- Assumes nothing.
 use mathlib.Core.Path.{_≡_, refl, ap, _∙_}
@@ -87,10 +87,11 @@ module _ (U n : ℕ) (hu : U ≤ 6) (hn : n ≤ 10) where
       omega (arith, answers-most U n a)
   verdict-most (none state) = omega arith
 
-pub entry-most : (route : ℕ) (c : Condition) (v : Verdict (List ℕ)) → c .U ≤ 6 → width c ≤ 10
-    → length (bytes (entryRecords route c v)) ≤ 27661
+-- 27,654 without the order's record
+pub entry-without : (route : ℕ) (c : Condition) (v : Verdict (List ℕ)) → c .U ≤ 6 → width c ≤ 10
+    → length (bytes (entryRecords route c v)) ≤ 27654 + length (bytes (orderRecords c))
 unfolding entryRecords bytes fields bodyOf lowFirst
-entry-most route c v hu hn =
+entry-without route c v hu hn =
     let told : List Record = verdictRecords (c .U) (width c) v in
     let o : length (bytes (orderRecords c ++ (conditionRecords c ++ (told ++ (endRecord route ∷ [])))))
     ≡ length (bytes (orderRecords c)) + length (bytes (conditionRecords c ++ (told ++ (endRecord route ∷ [])))) =
@@ -99,4 +100,8 @@ entry-most route c v hu hn =
     ≡ length (bytes (conditionRecords c)) + length (bytes (told ++ (endRecord route ∷ []))) =
     length-bytes (conditionRecords c) (told ++ (endRecord route ∷ [])) in
     let d : length (bytes (told ++ (endRecord route ∷ []))) ≡ length (bytes told) + 2 = length-bytes told (endRecord route ∷ []) in
-    omega (arith, order-most c, condition-most c, size-most (c .U) (width c) hu hn, verdict-most (c .U) (width c) hu hn v)
+    omega (arith, condition-most c, size-most (c .U) (width c) hu hn, verdict-most (c .U) (width c) hu hn v)
+
+pub entry-most : (route : ℕ) (c : Condition) (v : Verdict (List ℕ)) → c .U ≤ 6 → width c ≤ 10
+    → length (bytes (entryRecords route c v)) ≤ 27661
+entry-most route c v hu hn = omega (arith, entry-without route c v hu hn, order-most c)

@@ -1,4 +1,3 @@
-pub mod Same
 pub mod Made
 pub mod Fields
 pub mod Records

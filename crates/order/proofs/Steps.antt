@@ -4,7 +4,7 @@ use mathlib.Core.Path.{_≡_, refl, sym, ap, ap₂, subst, _∙_}
 use mathlib.Core.Bool.{Bool, true, false, cond, _||_}
 use mathlib.Core.List.{List, [], _∷_, _++_, append-nil, append-assoc}
 use mathlib.Core.Logic.{_⊎_, inl, inr}
-use Prim.Native.Nat.{ℕ, zero, suc, _+_, _-_, _/_, _%_, _^_, _≤_, _<_}
+use Prim.Native.Nat.{ℕ, zero, suc, _+_, _-_, _^_, _≤_, _<_}
 use native.Mathlib.Nat.{pow-suc, add-zero, add-suc}
 use native.Mathlib.Numerals.{add-one}
 use native.Mathlib.Omega.{arith}
@@ -19,7 +19,6 @@ use Rattle.ring.proofs.Every.{every-all}
 use Rattle.ring.proofs.Lists.{length-listed, listed-last}
 use Rattle.order.specs.Order.{order}
 use Rattle.order.specs.Inner.Place.{choose, nth}
-use Rattle.order.proofs.Letters.{lettersIn}
 use Rattle.order.proofs.Places.{counted, counted-order}
 use Rattle.order.proofs.Order.{length-order}
 
@@ -114,23 +113,6 @@ nth-end {left = left} {rest = rest} {n = n} g h ew =
     let i : 0 < choose n left = omega (arith, g .inside) in
     let f : nth n left 0 + 1 ≡ 2 ^ left = nth-first n left (g .small) (g .few) i in
     omega (arith, rw z at (g .same))
-
--- ---- `count_letters`: w is the sum and the letters in the n bits that are left
-module _ (sum rest n w : ℕ) (e : w ≡ sum + lettersIn (10 - n) rest) where
-  pub letters-next : n < 10 → w ≡ sum + rest % 2 + lettersIn (10 - (n + 1)) (rest / 2)
-  unfolding lettersIn
-  letters-next l =
-      let s : 10 - n ≡ suc (9 - n) = omega arith in
-      let t : 10 - (n + 1) ≡ 9 - n = omega arith in
-      let q : w ≡ sum + lettersIn (suc (9 - n)) rest = rw s at e in
-      rw t (omega arith)
-
-  pub letters-end : 10 ≤ n → sum ≡ w
-  unfolding lettersIn
-  letters-end l =
-      let s : 10 - n ≡ 0 = omega arith in
-      let q : w ≡ sum + 0 = rw s at e in
-      omega arith
 
 -- ---- `fill_order`: the masks for n letters that have fewer than k, and the first r of those that have k
 unfoldable pub placed : ℕ → ℕ → ℕ → List ℕ

@@ -1,16 +1,15 @@
 // The written order of monomials: fewer letters first and, among equals, the smaller mask.
 // Callers take the order from `fill_order`, or out of a longer one by `skip_large`, and list a table's monomials by
-// `list_monomials`; `rank_of` puts two masks in order. Nothing here is a public call of the library: what these functions require,
-// callers within it meet.
+// `list_monomials`; `rank_of` puts two masks in order, by the table that `letter_counts` gives. Nothing here is a public call of the
+// library: what these functions require, callers within it meet.
 ghost use mathlib.Core.Path.{_≡_};
-ghost use mathlib.Core.Bool.{Bool};
 ghost use mathlib.Core.List.{_++_};
 ghost use Prim.Native.Nat.{_+_, _-_, _^_, _≤_, _<_};
 ghost use lib.ListN.{length, take, drop};
 ghost use Rattle.ring.specs.Letters.{digit};
 ghost use Rattle.words.specs.Inner.Words.{bitAt};
 ghost use Rattle.order.specs.Order.{letters, order, monomials};
-ghost use Rattle.order.specs.Inner.Place.{AreCounts, choose, nth, rank};
+ghost use Rattle.order.specs.Inner.Place.{AreCounts, AreLetters, choose, nth, rank};
 ghost use Rattle.order.specs.Inner.Listing.{tagged, Listed};
 
 // How many masks for n letters have k: row n, entry k.
@@ -138,24 +137,61 @@ pub fn list_monomials(
     at
 }
 
-// How many letters a mask has.
-fn count_letters(m: usize) -> usize
-    requires { ⌜ m < 1024 ⌝ }
+// How many letters each mask below 32 has.
+const LETTERS: [u8; 32] = [
+    0,
+    1,
+    1,
+    2,
+    1,
+    2,
+    2,
+    3,
+    1,
+    2,
+    2,
+    3,
+    2,
+    3,
+    3,
+    4,
+    1,
+    2,
+    2,
+    3,
+    2,
+    3,
+    3,
+    4,
+    2,
+    3,
+    3,
+    4,
+    3,
+    4,
+    4,
+    5,
+];
+
+// The table for callers, who copy it once and lend it on.
+pub fn letter_counts() -> [u8; 32]
+    ensures { λ t. ⌜ AreLetters t ⌝ }
+{
+    LETTERS
+}
+
+// How many letters a mask has: among the first five, and among the last five.
+fn count_letters(counts: &[u8; 32], m: usize) -> usize
+    requires { ⌜ (AreLetters (now counts)) × (m < 1024) ⌝ }
     ensures { λ r. ⌜ (r ≡ letters m) × (r ≤ 10) ⌝ }
 {
-    let mut sum = 0;
-    let mut rest = m;
-    for n in 0usize..10 {
-        sum += rest % 2;
-        rest = rest / 2;
-    }
-    sum
+    wide(counts[m % 32]) + wide(counts[m / 32])
 }
 
 // The written order in one number: a mask stands before another where its rank is the smaller.
-pub fn rank_of(m: usize) -> usize
-    requires { ⌜ m < 1024 ⌝ }
+pub fn rank_of(counts: &[u8; 32], m: usize) -> usize
+    requires { ⌜ (AreLetters (now counts)) × (m < 1024) ⌝ }
     ensures { λ r. ⌜ r ≡ rank 10 m ⌝ }
 {
-    count_letters(m) * 1024 + m
+    count_letters(counts, m) * 1024 + m
 }

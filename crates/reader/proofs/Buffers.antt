@@ -2,25 +2,25 @@
 -- Assumes nothing.
 use mathlib.Core.Path.{_≡_, refl, sym, ap, _∙_}
 use mathlib.Core.Bool.{Bool, true, false}
-use mathlib.Core.List.{List, [], _∷_, _++_}
+use mathlib.Core.List.{List, [], _∷_, _++_, append-nil}
 use mathlib.Core.Logic.{_⊎_, inl, inr}
 use Prim.Native.Nat.{ℕ, _+_, _*_, _^_, _≤_}
 use native.Mathlib.Omega.{arith}
-use lib.ListN.{length, take, drop, length-append, take-append-drop}
+use lib.ListN.{length, take, drop, length-append, take-append-drop, drop-of-length-le}
 use lib.Seq.{length-take-le, take-append-seam, drop-append-seam}
 use Rattle.ring.specs.declared.State.{State}
 use Rattle.ring.specs.Table.{tabulate, table, answerTable}
 use Rattle.ring.proofs.Table.{length-tabulate, length-table, length-answerTable}
 use Rattle.tables.specs.declared.Question.the-variants.{Room}
-use Rattle.tables.specs.Questions.{asks, firstNo, lettersFit, hasRoom, writes, roomQuestions, bitQuestions, bufferQuestions}
-use Rattle.tables.specs.Answered.{accepted, refused, answered, _into_}
+use Rattle.tables.specs.Questions.{Asked, asks, firstNo, lettersFit, hasRoom, writes, roomQuestions, bitQuestions, bufferQuestions}
+use Rattle.tables.specs.Answered.{Reply, accepted, refused, after, Answered, answered, Buffer, _into_, call}
 use Rattle.tables.specs.Inner.Asking.{also}
 use Rattle.tables.proofs.FirstNo.{also-none, ask-then, ask-last, then-further}
 use Rattle.tables.proofs.Answered.{call-stops, call-refused, call-done-two}
 use Rattle.tables.proofs.Parts.{answers-fit}
 use Rattle.tables.proofs.Questions.{letters-small, unknowns-small}
 use Rattle.solution.specs.Elimination.{solved, none, Verdict as Said}
-use Rattle.entry.specs.Held.{records, unknownsOf, givensOf, conditionIn, answersIn, unlessNone, heldCondition, heldVerdict}
+use Rattle.entry.specs.Held.{records, orderIn, unknownsOf, givensOf, conditionIn, answersIn, unlessNone, heldCondition, heldVerdict}
 use Rattle.entry.specs.Questions.{numbersFit}
 use Rattle.entry.proofs.Places.{numbers-by-places}
 use Rattle.entry.proofs.Canonical.{unless-cases}
@@ -80,10 +80,22 @@ room-asked k room size answerRoom {q} {r} ea eq eb er =
     ask-then 0 q r Room _ _ _ eq ea (ask-last q r Room _ _ er eb) ∙ sym (also-none _)
 
 -- ---- refused before question 4
-pub read-refused : (bs c a : List ℕ) {q : ℕ} → q ≡ firstNo (entryQuestions (records bs)) → (q ≡ 0 → ⊥)
-    → answered (refused q []) (c ∷ a ∷ []) ≡ readCall bs c a
+pub read-refused : (bs o c a : List ℕ) {q : ℕ} → q ≡ firstNo (entryQuestions (records bs)) → (q ≡ 0 → ⊥)
+    → answered (refused q []) (o ∷ c ∷ a ∷ []) ≡ readCall bs o c a
 unfolding readQuestions entryQuestions
-read-refused bs c a {q} e n = call-stops (entryQuestions (records bs)) _ _ (_ into c ∷ _ into a ∷ []) q refl e n
+read-refused bs o c a {q} e n = call-stops (entryQuestions (records bs)) _ _ (_ into o ∷ _ into c ∷ _ into a ∷ []) q refl e n
+
+-- one buffer more, as it is afterwards
+call-also : (questions : List Asked) (values answer lent now : List ℕ) (buffers : List Buffer) {gives : Reply} {rest : List (List ℕ)}
+    → firstNo questions ≡ 0 → now ≡ answer ++ drop (length answer) lent → answered gives rest ≡ call questions values buffers
+    → answered gives (now ∷ rest) ≡ call questions values (answer into lent ∷ buffers)
+unfolding call after
+call-also questions values answer lent now buffers z en e =
+    ap (λ (x : Answered Reply). answered (x .gives) (now ∷ x .lent)) e ∙ rw (z, en)
+
+-- an order in six bytes
+pub order-done : (order lent : List ℕ) → length order ≡ 6 → length lent ≡ 6 → order ≡ order ++ drop (length order) lent
+order-done order lent e f = let l : length lent ≤ length order = omega arith in rw (drop-of-length-le lent l) (sym (append-nil order))
 
 -- ---- behind the questions before it
 module _ (bs : List ℕ) (p : firstNo (entryQuestions (records bs)) ≡ 0) {h : Heading} (eh : h ≡ headingOf (records bs)) where
@@ -118,15 +130,15 @@ module _ (bs : List ℕ) (p : firstNo (entryQuestions (records bs)) ≡ 0) {h : 
   pub size-small : {k : ℕ} → k ≡ 2 ^ (h .unknowns + h .givens) → h .unknowns * k ≤ 6144
   size-small ek = answers-fit heading-unknowns ek heading-small
 
-  module _ (c a : List ℕ) {k : ℕ} (ek : k ≡ 2 ^ (h .unknowns + h .givens)) {q : ℕ}
+  module _ (lent c a : List ℕ) {k : ℕ} (ek : k ≡ 2 ^ (h .unknowns + h .givens)) {q : ℕ}
       (eq : q ≡ firstNo (bufferQuestions (writes k (length c) ∷ writes (h .unknowns * k) (length a) ∷ []))) where
     refusal : q ≡ firstNo (readQuestions (records bs) (length c) (length a))
     unfolding readQuestions
     refusal = eq ∙ rw (ek, of-u, of-g) (sym (then-further (entryQuestions (records bs)) _ p))
 
-    pub read-short : (q ≡ 0 → ⊥) → answered (refused q []) (c ∷ a ∷ []) ≡ readCall bs c a
+    pub read-short : (q ≡ 0 → ⊥) → answered (refused q []) (lent ∷ c ∷ a ∷ []) ≡ readCall bs lent c a
     unfolding readQuestions entryQuestions bufferQuestions roomQuestions bitQuestions
-    read-short n = call-refused (readQuestions (records bs) (length c) (length a)) _ (_ into c ∷ _ into a ∷ []) q refl refusal n
+    read-short n = call-refused (readQuestions (records bs) (length c) (length a)) _ (_ into lent ∷ _ into c ∷ _ into a ∷ []) q refl refusal n
 
     module _ (z : q ≡ 0) where
       roomy : (2 ^ (unknownsOf (records bs) + givensOf (records bs)) ≤ length c)
@@ -210,9 +222,12 @@ module _ (bs : List ℕ) (p : firstNo (entryQuestions (records bs)) ≡ 0) {h : 
             ≡ answersOf (heldVerdict (records bs)) ++ drop (length (answersOf (heldVerdict (records bs)))) a
         answers-done = rw (rest-is room a₁ (drop room a) cleared-a, answers-are .0, ← answers-are .1)
 
-        pub read-done : answered (accepted (h .route ∷ h .unknowns ∷ h .givens ∷ h .used ∷ stateSaid v))
-            ((c₂ ++ drop k (c₁ ++ drop k c)) ∷ (a₂ ++ drop room (a₁ ++ drop room a)) ∷ []) ≡ readCall bs c a
-        read-done =
-            ap (λ (x : List ℕ). answered (accepted x) ((c₂ ++ drop k (c₁ ++ drop k c)) ∷ (a₂ ++ drop room (a₁ ++ drop room a)) ∷ [])) values
+        pub read-done : {o order : List ℕ} → order ≡ orderIn (records bs) → o ≡ order ++ drop (length order) lent
+            → answered (accepted (h .route ∷ h .unknowns ∷ h .givens ∷ h .used ∷ stateSaid v))
+            (o ∷ (c₂ ++ drop k (c₁ ++ drop k c)) ∷ (a₂ ++ drop room (a₁ ++ drop room a)) ∷ []) ≡ readCall bs lent c a
+        read-done {o} eo en =
+            call-also (readQuestions (records bs) (length c) (length a)) (readValues (records bs)) (orderIn (records bs)) lent o _
+            (sym refusal ∙ z) (en ∙ rw eo)
+            (ap (λ (x : List ℕ). answered (accepted x) ((c₂ ++ drop k (c₁ ++ drop k c)) ∷ (a₂ ++ drop room (a₁ ++ drop room a)) ∷ [])) values
             ∙ call-done-two (readQuestions (records bs) (length c) (length a)) (readValues (records bs)) _ c _ _ a _
-            (sym refusal ∙ z) condition-done answers-done
+            (sym refusal ∙ z) condition-done answers-done)

@@ -7,28 +7,27 @@ use mathlib.Core.Logic.{_⊎_, inl, inr}
 use Prim.Native.Nat.{ℕ, suc, _+_, _-_, _*_, _/_, _%_, _^_, _≤_, _<_}
 use native.Mathlib.Nat.{zero-add, add-zero, add-mul, mul-le-mul, div-add-mod', div-eq-of-lt, mod-eq-of-lt}
 use native.Mathlib.Omega.{arith}
-use lib.Dec.{leb, ltb, eqb}
+use lib.Dec.{leb, eqb}
 use lib.Arith.{digits-div, digits-mod}
 use lib.Pow.{pow-mono}
 use lib.ListN.{length, getD, take, drop, set, length-set}
 use lib.Seq.{ext-getD, getD-take, getD-drop, getD-set-same, getD-set-other, set-out}
-use borrow.Author.Tests.{le-leb, ltb-true, leb-true, leb-false, eq-eqb, ne-eqb, eqb-true, eqb-false}
+use borrow.Author.Tests.{le-leb, leb-true, leb-false, eq-eqb, ne-eqb, eqb-true, eqb-false}
 use Rattle.ring.specs.Letters.{digit}
 use Rattle.ring.specs.Polynomial.{everyBelow}
 use Rattle.ring.specs.Lists.{has}
 use Rattle.ring.specs.Table.{tabulate, table, answerTable}
 use Rattle.ring.proofs.Bool.{bool-iff, and-left, and-right, both, bool-cases}
 use Rattle.ring.proofs.Table.{length-tabulate, getD-tabulate, tabulate-cong}
-use Rattle.entry.specs.Record.{Record, unknownField, maskField, kind, fields, among, valueOf, isEnd, isMonomial, tableIn, inBounds}
+use Rattle.entry.specs.Record.{Record, maskField, kind, fields, among, valueOf, isEnd, isMonomial, tableIn, inBounds}
 use Rattle.entry.specs.Held.{next, records, hasMonomial, conditionIn, answersIn}
 use Rattle.entry.specs.Inner.Places.{placeOf, fitsBehind}
 use Rattle.entry.proofs.Fields.{condition-mask, answer-unknown, answer-mask, lacks}
 use Rattle.entry.proofs.Monomials.{mask-in-bounds, table-in-bounds}
 use Rattle.entry.proofs.Records.{records-none, here-none, here, fits-at}
 use Rattle.entry.proofs.Unique.{fits-bounds, fits-rest}
-use Rattle.records.specs.Inner.Gathering.{Whole}
 use Rattle.records.proofs.Loops.{lent, lent-whole, lent-some}
-use Rattle.reader.specs.Inner.Filling.{zeros, putMonomial, filled, Lending, Fitting}
+use Rattle.reader.specs.Inner.Filling.{zeros, putMonomial, filled, Lending, Fitting, Filling}
 
 -- ---- one record
 module _ (k : ℕ) (r : Record) (t : List ℕ) where
@@ -99,30 +98,105 @@ pub put-long : (base k : ℕ) (r : Record) (t : List ℕ) {t′ : List ℕ} → 
 put-long base k r t e = ap length e ∙ length-put base k r t
 
 -- the byte's index is small
-pub put-small : (u g : ℕ) (r condition : List ℕ) {j m k : ℕ} → Lending u g k r condition → getD r 0 0 ≡ 3 → j ≡ getD r 1 0
+pub put-small : (u g : ℕ) (r : List ℕ) {j m k : ℕ} → u + g ≤ 10 → inBounds u g r ≡ true → k ≡ 2 ^ (u + g) → getD r 0 0 ≡ 3
+    → j ≡ getD r 1 0
     → m ≡ getD r 2 0 + 256 * getD r 3 0
     → (j * k ≤ 10240) × (m < 1024)
 unfolding among fields
-put-small u g r condition {j} {m} {k} w ek ej em =
-    let p : 2 ^ (u + g) ≤ 1024 = pow-mono (w .letters) in
-    let three : kind r ≡ 3 = of-answer k r condition ek in
-    let l : valueOf maskField r < 2 ^ (u + g) = mask-in-bounds u g r (w .bounds) (rw three) in
-    let i : suc (getD r 1 0) ≤ u = rw (answer-table k r condition ek) at (table-in-bounds u g r (w .bounds)) in
-    let few : j ≤ 10 = (omega (arith, w .letters)) in
-    let kl : k ≤ 1024 = rw (w .size) p in
+put-small u g r {j} {m} {k} letters bounds ek e3 ej em =
+    let p : 2 ^ (u + g) ≤ 1024 = pow-mono letters in
+    let three : kind r ≡ 3 = of-answer k r [] e3 in
+    let l : valueOf maskField r < 2 ^ (u + g) = mask-in-bounds u g r bounds (rw three) in
+    let i : suc (getD r 1 0) ≤ u = rw (answer-table k r [] e3) at (table-in-bounds u g r bounds) in
+    let few : j ≤ 10 = (omega arith) in
+    let kl : k ≤ 1024 = rw ek p in
     (mul-le-mul few kl, omega (arith, answer-mask r three))
 
 -- ---- what a loop that puts the records in keeps, for one of its tables
-pub record Filling (put : Record → List ℕ → List ℕ) (bs : List ℕ) (u g : ℕ) (t₀ t : List ℕ) (at : ℕ) : Type 0 where
-  pub inside : at ≤ length bs
-  pub long : length t ≡ length t₀
-  pub same : filled put (records bs) t₀ ≡ filled put (records (drop at bs)) t
-  pub fitting : Fitting u g (records (drop at bs))
+pub fill-start : (put : Record → List ℕ → List ℕ) (bs : List ℕ) (u g : ℕ) (t : List ℕ) (from : ℕ) → from ≤ length bs
+    → Fitting u g (records (drop from bs))
+    → Filling put bs u g t from t from
+fill-start put bs u g t from h f = record { onward = omega arith; inside = h; long = refl; same = refl; fitting = f }
 
-pub fill-start : (put : Record → List ℕ → List ℕ) (bs : List ℕ) (u g : ℕ) (t : List ℕ) → Fitting u g (records bs) → Filling put bs u g t t 0
-fill-start put bs u g t f = record { inside = omega arith; long = refl; same = refl; fitting = f }
+pub fill-then : (put : Record → List ℕ → List ℕ) (bs : List ℕ) (u g : ℕ) {t₀ t₁ t₂ : List ℕ} {from mid at : ℕ}
+    → Filling put bs u g t₀ from t₁ mid
+    → Filling put bs u g t₁ mid t₂ at
+    → Filling put bs u g t₀ from t₂ at
+fill-then put bs u g v w =
+    record {
+      onward = omega (arith, v .onward, w .onward);
+      inside = w .inside;
+      long = w .long ∙ v .long;
+      same = v .same ∙ w .same;
+      fitting = w .fitting;
+    }
 
-module _ (put : Record → List ℕ → List ℕ) (bs : List ℕ) (u g : ℕ) (t₀ t : List ℕ) (at : ℕ) (w : Filling put bs u g t₀ t at) where
+-- one record
+module _ (put : Record → List ℕ → List ℕ) (bs : List ℕ) (u g : ℕ) (t₀ t : List ℕ) (from at : ℕ) (w : Filling put bs u g t₀ from t at)
+    {n : ℕ} (en : n ≡ length (next (drop at bs))) (s : n ≡ 0 → ⊥) {behind : ℕ} (eb : behind ≡ at + n) where
+  r : Record
+  r = take n (drop at bs)
+
+  fits-here : fitsBehind u g (w .fitting .from) (r ∷ cond (isEnd r) [] (records (drop (at + n) bs))) ≡ true
+  unfolding r
+  fits-here = rw (here bs at en s) at (w .fitting .fits)
+
+  pub bounds-here : inBounds u g (take (behind - at) (drop at bs)) ≡ true
+  unfolding r
+  bounds-here = rw (lent bs at en eb) (fits-bounds u g (w .fitting .from) r _ fits-here)
+
+  pub fill-lending : {k : ℕ} {condition : List ℕ} → k ≡ 2 ^ (u + g) → length condition ≡ k
+      → Lending u g k (take (behind - at) (drop at bs)) condition
+  fill-lending ek l =
+      record {
+        whole = lent-whole bs at en eb;
+        some = lent-some bs at en eb s;
+        letters = w .fitting .letters;
+        bounds = bounds-here;
+        size = ek;
+        long = l;
+      }
+
+  kind-here : kind r ≡ getD bs at 0
+  unfolding r kind
+  kind-here = getD-take n (drop at bs) 0 0 (omega arith) ∙ getD-drop at bs 0 0 ∙ ap (λ (i : ℕ). getD bs i 0) (add-zero at)
+
+  module _ {t′ : List ℕ} (et : t′ ≡ put (take (behind - at) (drop at bs)) t) where
+    put-here : t′ ≡ put r t
+    unfolding r
+    put-here = et ∙ rw (lent bs at en eb)
+
+    ended : getD bs at 0 ≡ 4 → t′ ≡ filled put (records (drop from bs)) t₀
+    unfolding filled r
+    ended e =
+        let end : isEnd r ≡ true = eq-eqb (kind r) 4 (kind-here ∙ e) in
+        sym (w .same ∙ rw (here bs at en s, end) (sym put-here))
+
+    went-on : length t′ ≡ length t → (getD bs at 0 ≡ 4 → ⊥) → Filling put bs u g t₀ from t′ behind
+    unfolding filled r
+    went-on l e =
+        let not-end : isEnd r ≡ false = ne-eqb (kind r) 4 (λ k. e (sym kind-here ∙ k)) in
+        record {
+          onward = omega (arith, w .onward);
+          inside = rw eb (fits-at bs at (w .inside) en);
+          long = l ∙ w .long;
+          same = w .same ∙ rw (here bs at en s, not-end, eb) (ap (filled put (records (drop (at + n) bs))) (sym put-here));
+          fitting = record {
+            unknowns = w .fitting .unknowns;
+            letters = w .fitting .letters;
+            from = placeOf r;
+            fits = rw eb (rw not-end at (fits-rest u g (w .fitting .from) r _ fits-here));
+          };
+        }
+
+pub fill-next : (base k : ℕ) (bs : List ℕ) (u g : ℕ) (t₀ t : List ℕ) (from at : ℕ) → Filling (putMonomial base k) bs u g t₀ from t at → {n : ℕ}
+    → n ≡ length (next (drop at bs)) → (n ≡ 0 → ⊥) → {behind : ℕ} → behind ≡ at + n → {t′ : List ℕ}
+    → t′ ≡ putMonomial base k (take (behind - at) (drop at bs)) t → (getD bs at 0 ≡ 4 → ⊥) → Filling (putMonomial base k) bs u g t₀ from t′ behind
+fill-next base k bs u g t₀ t from at w en s eb et e =
+    went-on (putMonomial base k) bs u g t₀ t from at w en s eb et (put-long base k _ t et) e
+
+-- the ways out
+module _ (put : Record → List ℕ → List ℕ) (bs : List ℕ) (u g : ℕ) (t₀ t : List ℕ) (at : ℕ) (w : Filling put bs u g t₀ 0 t at) where
   pub fill-none : length bs ≤ at → t ≡ filled put (records bs) t₀
   unfolding filled
   fill-none h = sym (w .same ∙ rw (records-none bs at h))
@@ -132,57 +206,10 @@ module _ (put : Record → List ℕ → List ℕ) (bs : List ℕ) (u g : ℕ) (t
     unfolding filled
     fill-broken e = sym (w .same ∙ rw (here-none bs at en e))
 
-    module _ (s : n ≡ 0 → ⊥) {behind : ℕ} (eb : behind ≡ at + n) where
-      r : Record
-      r = take n (drop at bs)
-
-      fits-here : fitsBehind u g (w .fitting .from) (r ∷ cond (isEnd r) [] (records (drop (at + n) bs))) ≡ true
-      unfolding r
-      fits-here = rw (here bs at en s) at (w .fitting .fits)
-
-      pub fill-lending : {k : ℕ} {condition : List ℕ} → k ≡ 2 ^ (u + g) → length condition ≡ k
-          → Lending u g k (take (behind - at) (drop at bs)) condition
-      unfolding r
-      fill-lending ek l =
-          record {
-            whole = lent-whole bs at en eb;
-            some = lent-some bs at en eb s;
-            letters = w .fitting .letters;
-            bounds = rw (lent bs at en eb) (fits-bounds u g (w .fitting .from) r _ fits-here);
-            size = ek;
-            long = l;
-          }
-
-      kind-here : kind r ≡ getD bs at 0
-      unfolding r kind
-      kind-here = getD-take n (drop at bs) 0 0 (omega arith) ∙ getD-drop at bs 0 0 ∙ ap (λ (i : ℕ). getD bs i 0) (add-zero at)
-
-      module _ {t′ : List ℕ} (et : t′ ≡ put (take (behind - at) (drop at bs)) t) where
-        put-here : t′ ≡ put r t
-        unfolding r
-        put-here = et ∙ rw (lent bs at en eb)
-
-        pub fill-end : getD bs at 0 ≡ 4 → t′ ≡ filled put (records bs) t₀
-        unfolding filled r
-        fill-end e =
-            let end : isEnd r ≡ true = eq-eqb (kind r) 4 (kind-here ∙ e) in
-            sym (w .same ∙ rw (here bs at en s, end) (sym put-here))
-
-        pub fill-next : length t′ ≡ length t → (getD bs at 0 ≡ 4 → ⊥) → Filling put bs u g t₀ t′ behind
-        unfolding filled r
-        fill-next l e =
-            let not-end : isEnd r ≡ false = ne-eqb (kind r) 4 (λ k. e (sym kind-here ∙ k)) in
-            record {
-              inside = rw eb (fits-at bs at (w .inside) en);
-              long = l ∙ w .long;
-              same = w .same ∙ rw (here bs at en s, not-end, eb) (ap (filled put (records (drop (at + n) bs))) (sym put-here));
-              fitting = record {
-                unknowns = w .fitting .unknowns;
-                letters = w .fitting .letters;
-                from = placeOf r;
-                fits = rw eb (rw not-end at (fits-rest u g (w .fitting .from) r _ fits-here));
-              };
-            }
+    pub fill-end : (n ≡ 0 → ⊥) → {behind : ℕ} → behind ≡ at + n → {t′ : List ℕ} → t′ ≡ put (take (behind - at) (drop at bs)) t
+        → getD bs at 0 ≡ 4
+        → t′ ≡ filled put (records bs) t₀
+    fill-end s eb et e = ended put bs u g t₀ t 0 at w en s eb et e
 
 -- ---- what stands at x when all is filled
 hits : ℕ → ℕ → ℕ → List Record → Bool

@@ -1,17 +1,17 @@
 // Reading an archive entry into tables. `read_entry` is the public call of the library.
 // `fill_tables` is for the audit: what it requires, such callers meet.
 ghost use mathlib.Core.Path.{_≡_};
-ghost use mathlib.Core.List.{[], _∷_};
-ghost use Prim.Native.Nat.{_+_, _*_, _^_};
-ghost use lib.ListN.{length, set};
+ghost use mathlib.Core.List.{List, [], _∷_, _++_};
+ghost use Prim.Native.Nat.{ℕ, _+_, _*_, _^_, _≤_};
+ghost use lib.ListN.{length, drop, set};
 ghost use Rattle.ring.specs.Table.{table, answerTable};
 ghost use Rattle.tables.specs.Questions.{firstNo, writes, bufferQuestions};
 ghost use Rattle.tables.specs.Answered.{answered};
-ghost use Rattle.entry.specs.Held.{records, conditionIn, answersIn, heldVerdict};
+ghost use Rattle.entry.specs.Held.{records, orderIn, conditionIn, answersIn, heldVerdict};
 ghost use Rattle.records.specs.Inner.Headings.{headingOf, said};
 ghost use Rattle.calls.specs.Questions.{entryQuestions};
 ghost use Rattle.calls.specs.Entries.{reading, readCall};
-ghost use Rattle.reader.specs.Inner.Filling.{putMonomial, filled, zeros, roomFor, Lending, Fitting};
+ghost use Rattle.reader.specs.Inner.Filling.{putMonomial, filled, zeros, roomFor, Lending, Fitting, Filling};
 use calls::Heading;
 use calls::Read;
 use calls::Verdict;
@@ -50,7 +50,37 @@ fn put_monomial(r: &[u8], u: usize, g: usize, k: usize, condition: &mut [u8], an
     }
 }
 
-// The monomials of an accepted entry into cleared tables. Answers for which there is no room are left out.
+// The monomials in the records of kind 2 that stand one behind another; answers the place behind them.
+fn put_conditions(s: &[u8], from: usize, u: usize, g: usize, condition: &mut [u8]) -> usize
+    requires { ⌜ (from ≤ length (now s)) × Fitting u g (records (drop from (now s))) ⌝ }
+    ensures { λ r. ⌜ Filling (putMonomial 0 (2 ^ (u + g))) (now (s .entry)) u g (now (condition .entry)) from (now (condition .exit)) r ⌝ }
+    ensures { λ r. ⌜ ((t : List ℕ) → Filling (putMonomial 1 (2 ^ (u + g))) (now (s .entry)) u g t from t r) ⌝ }
+{
+    let mut at = from;
+    while records::is_there(s, at, 2, 3) {
+        put_one(condition, records::mask_of(s[at + 1], s[at + 2]));
+        at += 3;
+    }
+    at
+}
+
+// The same for kind 3 and answer tables of k bytes.
+fn put_answers(s: &[u8], from: usize, u: usize, g: usize, k: usize, answers: &mut [u8]) -> usize
+    requires { ⌜ (from ≤ length (now s)) × Fitting u g (records (drop from (now s))) × (k ≡ 2 ^ (u + g)) ⌝ }
+    ensures { λ r. ⌜ Filling (putMonomial 1 (2 ^ (u + g))) (now (s .entry)) u g (now (answers .entry)) from (now (answers .exit)) r ⌝ }
+    ensures { λ r. ⌜ ((t : List ℕ) → length t ≡ k → Filling (putMonomial 0 (2 ^ (u + g))) (now (s .entry)) u g t from t r) ⌝ }
+{
+    let mut at = from;
+    while records::is_there(s, at, 3, 4) {
+        let m = records::mask_of(s[at + 2], s[at + 3]);
+        put_one(answers, records::wide(s[at + 1]) * k + m);
+        at += 4;
+    }
+    at
+}
+
+// The monomials of an accepted entry into cleared tables. Answers for which there is no room are left out. Most records are monomials of
+// one table behind another: a loop for each of the two kinds goes over them.
 fn fill(s: &[u8], u: usize, g: usize, condition: &mut [u8], answers: &mut [u8])
     requires { ⌜ Fitting u g (records (now s)) × (length (now condition) ≡ 2 ^ (u + g)) ⌝ }
     ensures { λ _. ⌜ now (condition .exit) ≡ filled (putMonomial 0 (2 ^ (u + g))) (records (now (s .entry))) (now (condition .entry)) ⌝ }
@@ -68,7 +98,8 @@ fn fill(s: &[u8], u: usize, g: usize, condition: &mut [u8], answers: &mut [u8])
         if s[at] == 4 {
             return;
         }
-        at = behind;
+        let answers_at = put_conditions(s, behind, u, g, condition);
+        at = put_answers(s, answers_at, u, g, k, answers);
     }
 }
 
@@ -101,18 +132,34 @@ fn room_refusal(k: usize, condition: usize, size: usize, answers: usize) -> u8
     tables::ask(q, Question::Room, tables::has_room(size, answers))
 }
 
-// Question 4, and the buffers of an entry that passes the questions before it.
+// An array of this type has six bytes.
+fn count_bytes(order: [u8; 6]) -> usize
+    ensures { λ r. ⌜ (r ≡ 6) × (length order ≡ 6) ⌝ }
+{
+    6
+}
+
+fn put_order(order: [u8; 6], out: &mut [u8; 6])
+    ensures { λ _. ⌜ now (out .exit) ≡ order ++ drop (length order) (now (out .entry)) ⌝ }
+{
+    let six = count_bytes(*out);
+    *out = order;
+}
+
+// Question 4, and the buffers of an entry that passes the questions before it; `held` is its order.
 fn read_into(
     s: &[u8],
     h: Heading,
     verdict: Verdict,
+    held: [u8; 6],
+    order: &mut [u8; 6],
     condition: &mut [u8],
     answers: &mut [u8],
 ) -> Read
     requires { ⌜ (firstNo (entryQuestions (records (now s))) ≡ 0) × (h ≡ headingOf (records (now s)))
-        × (verdict ≡ said (heldVerdict (records (now s)))) ⌝ }
-    ensures { λ r. ⌜ answered (reading r) (now (condition .exit) ∷ now (answers .exit) ∷ [])
-        ≡ readCall (now (s .entry)) (now (condition .entry)) (now (answers .entry)) ⌝ }
+        × (verdict ≡ said (heldVerdict (records (now s)))) × (held ≡ orderIn (records (now s))) ⌝ }
+    ensures { λ r. ⌜ answered (reading r) (now (order .exit) ∷ now (condition .exit) ∷ now (answers .exit) ∷ [])
+        ≡ readCall (now (s .entry)) (now (order .entry)) (now (condition .entry)) (now (answers .entry)) ⌝ }
 {
     let u = h.unknowns;
     let g = h.givens;
@@ -127,13 +174,19 @@ fn read_into(
     clear(&mut condition[..k]);
     clear(&mut answers[..room]);
     fill(s, u, g, &mut condition[..k], &mut answers[..room]);
+    put_order(held, order);
     Read::Entry(h, verdict)
 }
 
-// Reads the entry that the bytes begin with: fills the condition table and, if it is solved, the answer tables.
-pub fn read_entry(bytes: &[u8], condition: &mut [u8], answers: &mut [u8]) -> Read
-    ensures { λ r. ⌜ answered (reading r) (now (condition .exit) ∷ now (answers .exit) ∷ [])
-        ≡ readCall (now (bytes .entry)) (now (condition .entry)) (now (answers .entry)) ⌝ }
+// Reads the entry that the bytes begin with: fills the order, the condition table and, if it is solved, the answer tables.
+pub fn read_entry(
+    bytes: &[u8],
+    order: &mut [u8; 6],
+    condition: &mut [u8],
+    answers: &mut [u8],
+) -> Read
+    ensures { λ r. ⌜ answered (reading r) (now (order .exit) ∷ now (condition .exit) ∷ now (answers .exit) ∷ [])
+        ≡ readCall (now (bytes .entry)) (now (order .entry)) (now (condition .entry)) (now (answers .entry)) ⌝ }
 {
     let survey = records::survey_entry(bytes);
     if survey.refusal != 0 {
@@ -141,5 +194,6 @@ pub fn read_entry(bytes: &[u8], condition: &mut [u8], answers: &mut [u8]) -> Rea
     }
     let heading = survey.heading;
     let verdict = survey.verdict;
-    read_into(bytes, heading, verdict, condition, answers)
+    let held = survey.order;
+    read_into(bytes, heading, verdict, held, order, condition, answers)
 }

@@ -4,21 +4,25 @@ use mathlib.Core.Path.{_≡_, refl, sym, ap, _∙_}
 use mathlib.Core.Bool.{Bool, true, false, cond, _&&_, and-true, and-assoc}
 use mathlib.Core.List.{List, [], _∷_}
 use mathlib.Core.Logic.{_⊎_, inl, inr}
-use Prim.Native.Nat.{ℕ, zero, suc, _+_, _^_, _≤_}
+use Prim.Native.Nat.{ℕ, zero, suc, _+_, _-_, _^_, _≤_, _<_}
+use native.Mathlib.Nat.{add-zero, zero-add}
 use native.Mathlib.Omega.{arith}
 use lib.Dec.{eqb, ltb}
-use lib.ListN.{length, take, drop}
-use lib.Seq.{length-take-le}
-use borrow.Author.Tests.{lt-ltb, ne-eqb}
+use lib.ListN.{length, getD, take, drop}
+use lib.Seq.{getD-take, getD-drop, length-take-le}
+use borrow.Author.Tests.{lt-ltb, eq-eqb, ne-eqb}
 use Rattle.ring.proofs.Bool.{bool-cases, never}
 use Rattle.tables.specs.Questions.{firstNo, lettersFit}
 use Rattle.tables.proofs.Questions.{letters-small}
+use Rattle.solution.specs.Order.{defaultBytes, orderFits}
 use Rattle.solution.specs.Elimination.{none}
-use Rattle.entry.specs.Record.{Record, routeField, unknownsField, givensField, stateField, bytes, kind, valueOf, isEnd, isNone, inBounds}
-use Rattle.entry.specs.Held.{next, records, first, routeOf, unknownsOf, givensOf, unlessNone, heldVerdict}
+use Rattle.entry.specs.Record.{Record, routeField, unknownsField, givensField, stateField, bytes, kind, valueOf, isEnd, isNone, isOrder}
+use Rattle.entry.specs.Record.{inBounds}
+use Rattle.entry.specs.Held.{next, records, first, second, routeOf, unknownsOf, givensOf, orderIn, unlessNone, heldVerdict}
 use Rattle.entry.specs.Questions.{hasEnd, mayFollow, kindsFollow, kindsFit, numbersFit}
 use Rattle.entry.specs.Inner.Places.{placeOf, standsBehind, fitsBehind}
-use Rattle.entry.proofs.Records.{first-next, next-front, next-whole, size-fits, some-bytes}
+use Rattle.entry.proofs.Records.{first-next, next-front, next-whole, size-fits, some-bytes, fits-at, here, here-none}
+use Rattle.entry.proofs.Records.{there, there-whole}
 use Rattle.entry.proofs.Canonical.{endsThere, records-end, isEmpty}
 use Rattle.entry.proofs.Places.{numbers-by-places}
 use Rattle.calls.specs.Questions.{entryQuestions}
@@ -27,9 +31,10 @@ use Rattle.calls.specs.declared.Verdict.{Verdict}
 use Rattle.calls.specs.declared.Verdict.the-variants.{Solved, None}
 use Rattle.records.specs.declared.Seen.{Seen}
 use Rattle.records.specs.declared.Gathered.{Gathered}
-use Rattle.records.specs.Inner.Headings.{lengthUsed, startOf, headingOf, said}
+use Rattle.records.specs.Inner.Headings.{lengthUsed, startOf, orderBehind, headingOf, said}
 use Rattle.records.specs.Inner.Gathering.{Whole, Bounds, saidFirst, seenRecord, seenAll, nothingSeen, gathered, saidBy}
 use Rattle.records.specs.Inner.Gathering.{gatheredQuestions, surveyOf}
+use Rattle.records.proofs.OneRecord.{long-6}
 
 -- ---- question 11
 module _ (route U G : ℕ) where
@@ -100,11 +105,12 @@ said-all a route U G x (r ∷ rs) = said-all a route U G (seenRecord route U G x
 
 -- ---- the first no
 module _ (rs : List Record) (ends : endsThere rs ≡ true) {fits : Bool} (ef : fits ≡ lettersFit (unknownsOf rs) (givensOf rs))
-    {u g : ℕ} (eu : u ≡ cond fits (unknownsOf rs) 0) (eg : g ≡ cond fits (givensOf rs) 0) where
+    {u g : ℕ} (eu : u ≡ cond fits (unknownsOf rs) 0) (eg : g ≡ cond fits (givensOf rs) 0) {inOrder : Bool}
+    (eo : inOrder ≡ orderFits (unknownsOf rs) (orderIn rs)) where
   abbrev all : Gathered
   all = gathered (routeOf rs) u g rs
 
-  no-end : hasEnd rs ≡ false → firstNo (gatheredQuestions all fits (routeOf rs)) ≡ firstNo (entryQuestions rs)
+  no-end : hasEnd rs ≡ false → firstNo (gatheredQuestions all fits (routeOf rs) inOrder) ≡ firstNo (entryQuestions rs)
   unfolding firstNo entryQuestions gathered lengthUsed
   no-end h = rw h
 
@@ -117,7 +123,7 @@ module _ (rs : List Record) (ends : endsThere rs ≡ true) {fits : Bool} (ef : f
     unfolding gathered kindsFit
     kinds = kinds-all (routeOf rs) u g nothingSeen rs ends h
 
-    no-fit : fits ≡ false → firstNo (gatheredQuestions all fits (routeOf rs)) ≡ firstNo (entryQuestions rs)
+    no-fit : fits ≡ false → firstNo (gatheredQuestions all fits (routeOf rs) inOrder) ≡ firstNo (entryQuestions rs)
     unfolding firstNo entryQuestions
     no-fit f = rw (used, kinds, h, ← ef, f)
 
@@ -131,15 +137,15 @@ module _ (rs : List Record) (ends : endsThere rs ≡ true) {fits : Bool} (ef : f
           numbers-all (routeOf rs) u g nothingSeen rs
           ∙ rw (eu, eg, f) (numbers-by-places (unknownsOf rs) (givensOf rs) (letters-small (unknownsOf rs) (givensOf rs) letters) rs)
 
-      all-fit : firstNo (gatheredQuestions all fits (routeOf rs)) ≡ firstNo (entryQuestions rs)
+      all-fit : firstNo (gatheredQuestions all fits (routeOf rs) inOrder) ≡ firstNo (entryQuestions rs)
       unfolding firstNo entryQuestions
-      all-fit = rw (used, kinds, h, numbers, ← ef)
+      all-fit = rw (used, kinds, h, numbers, ← ef, ← eo)
 
-  first-no : firstNo (gatheredQuestions all fits (routeOf rs)) ≡ firstNo (entryQuestions rs)
+  first-no : firstNo (gatheredQuestions all fits (routeOf rs) inOrder) ≡ firstNo (entryQuestions rs)
   first-no = go (bool-cases (hasEnd rs)) (bool-cases fits)
     where
       go : (hasEnd rs ≡ true) ⊎ (hasEnd rs ≡ false) → (fits ≡ true) ⊎ (fits ≡ false)
-          → firstNo (gatheredQuestions all fits (routeOf rs)) ≡ firstNo (entryQuestions rs)
+          → firstNo (gatheredQuestions all fits (routeOf rs) inOrder) ≡ firstNo (entryQuestions rs)
       go (inr h) f = no-end h
       go (inl h) (inr f) = no-fit h f
       go (inl h) (inl f) = all-fit h f
@@ -160,6 +166,70 @@ module _ (bs : List ℕ) {n : ℕ} (en : n ≡ length (next (drop 0 bs))) where
       → record { route = route; unknowns = unknowns; givens = givens; used = 0 } ≡ startOf (records bs)
   start-is er eu eg = rw (er, eu, eg, start)
 
+-- ---- the order: n bytes of the first record, and m of the second
+module _ (bs : List ℕ) {n : ℕ} (en : n ≡ length (next (drop 0 bs))) where
+  pub first-within : n ≤ length bs
+  first-within = omega (arith, fits-at bs 0 (omega arith) en)
+
+  pub first-some : (n ≡ 0 → ⊥) → 0 < length bs
+  first-some some = omega (arith, first-within)
+
+  module _ {m : ℕ} (em : m ≡ length (next (drop n bs))) where
+    pub second-within : n + m ≤ length bs
+    second-within = fits-at bs n first-within em
+
+    pub second-some : (m ≡ 0 → ⊥) → n < length bs
+    second-some some = omega (arith, second-within)
+
+module _ (U : ℕ) (bs : List ℕ) {n : ℕ} (en : n ≡ length (next (drop 0 bs))) where
+  no-second : second (records bs) ≡ [] → {o : List ℕ} → o ≡ defaultBytes U → o ≡ orderBehind U (records bs)
+  unfolding orderBehind kind
+  no-second e eo = eo ∙ rw e
+
+  pub order-no-first : n ≡ 0 → {o : List ℕ} → o ≡ defaultBytes U → o ≡ orderBehind U (records bs)
+  order-no-first z = no-second (ap second (here-none bs 0 en z))
+
+  module _ (some : n ≡ 0 → ⊥) where
+    first-kind : getD bs 0 0 ≡ kind (take n bs)
+    unfolding kind
+    first-kind = sym (getD-take n bs 0 0 (omega arith))
+
+    pub order-first-ends : getD bs 0 0 ≡ 4 → {o : List ℕ} → o ≡ defaultBytes U → o ≡ orderBehind U (records bs)
+    order-first-ends e =
+        let f : isEnd (take n bs) ≡ true = eq-eqb _ 4 (sym first-kind ∙ e) in no-second (ap second (here bs 0 en some) ∙ rw f)
+
+    module _ (goes-on : getD bs 0 0 ≡ 4 → ⊥) {m : ℕ} (em : m ≡ length (next (drop n bs))) where
+      second-is : second (records bs) ≡ take m (drop n bs)
+      second-is =
+          let f : isEnd (take n bs) ≡ false = ne-eqb _ 4 (λ e. goes-on (first-kind ∙ e)) in
+          ap second (here bs 0 en some) ∙ rw (f, zero-add n) (first-next (drop n bs) ∙ there bs n em)
+
+      pub order-no-second : m ≡ 0 → {o : List ℕ} → o ≡ defaultBytes U → o ≡ orderBehind U (records bs)
+      order-no-second z = no-second (second-is ∙ rw z)
+
+      module _ (another : m ≡ 0 → ⊥) where
+        second-kind : kind (take m (drop n bs)) ≡ getD bs n 0
+        unfolding kind
+        second-kind = getD-take m (drop n bs) 0 0 (omega arith) ∙ getD-drop n bs 0 0 ∙ rw (add-zero n)
+
+        pub order-other : (getD bs n 0 ≡ 6 → ⊥) → {o : List ℕ} → o ≡ defaultBytes U → o ≡ orderBehind U (records bs)
+        unfolding orderBehind
+        order-other other eo =
+            let f : isOrder (take m (drop n bs)) ≡ false = ne-eqb _ 6 (λ e. other (sym second-kind ∙ e)) in eo ∙ rw (second-is, f)
+
+        module _ (six : getD bs n 0 ≡ 6) where
+          lent-order : (n + m - n) ≡ m
+          lent-order = omega arith
+
+          pub order-long : length (take (n + m - n) (drop n bs)) ≡ 7
+          unfolding kind
+          order-long = rw lent-order (long-6 (take m (drop n bs)) (there-whole bs n em) (second-kind ∙ six))
+
+          pub order-there : {o : List ℕ} → o ≡ drop 1 (take (n + m - n) (drop n bs)) → o ≡ orderBehind U (records bs)
+          unfolding orderBehind
+          order-there eo =
+              let f : isOrder (take m (drop n bs)) ≡ true = eq-eqb _ 6 (second-kind ∙ six) in eo ∙ rw (lent-order, second-is, f)
+
 -- ---- the survey
 module _ (bs : List ℕ) {h : Heading} (eh : h ≡ startOf (records bs)) {u g : ℕ} {fits : Bool}
     (ef : fits ≡ lettersFit (h .unknowns) (h .givens))
@@ -175,13 +245,19 @@ module _ (bs : List ℕ) {h : Heading} (eh : h ≡ startOf (records bs)) {u g : 
   pub survey-bounds : {masks states : ℕ} → masks ≡ 2 ^ (u + g) → states ≡ 2 ^ g → Bounds u g masks states
   survey-bounds em es = record { few = few-letters; of-masks = em; of-states = es }
 
-  module _ {x : Gathered} (ex : x ≡ gathered (h .route) u g (records bs)) {q : ℕ} (eq : q ≡ firstNo (gatheredQuestions x fits (h .route)))
-      {v : Verdict} (ev : v ≡ saidBy (x .none)) where
+  module _ {x : Gathered} (ex : x ≡ gathered (h .route) u g (records bs)) {o : List ℕ} (eo : o ≡ orderBehind (h .unknowns) (records bs))
+      {inOrder : Bool} (ei : inOrder ≡ orderFits (h .unknowns) o) {q : ℕ}
+      (eq : q ≡ firstNo (gatheredQuestions x fits (h .route) inOrder)) {v : Verdict} (ev : v ≡ saidBy (x .none)) where
     over : x ≡ gathered (routeOf (records bs)) u g (records bs)
     over = ex ∙ rw eh
 
+    order-is : o ≡ orderIn (records bs)
+    unfolding orderBehind orderIn
+    order-is = eo ∙ rw eh
+
     refusal-is : q ≡ firstNo (entryQuestions (records bs))
-    refusal-is = eq ∙ rw (over, eh) (first-no (records bs) (records-end bs) (rw eh at ef) (rw eh at eu) (rw eh at eg))
+    refusal-is =
+        eq ∙ rw (over, eh) (first-no (records bs) (records-end bs) (rw eh at ef) (rw eh at eu) (rw eh at eg) (ei ∙ rw (order-is, eh)))
 
     heading-is : record { route = h .route; unknowns = h .unknowns; givens = h .givens; used = x .used } ≡ headingOf (records bs)
     unfolding headingOf gathered
@@ -191,6 +267,11 @@ module _ (bs : List ℕ) {h : Heading} (eh : h ≡ startOf (records bs)) {u g : 
     unfolding gathered heldVerdict orElse
     verdict-is = ev ∙ rw over (said-all _ (routeOf (records bs)) u g nothingSeen (records bs))
 
-    pub survey-is : record { refusal = q; heading = record { route = h .route; unknowns = h .unknowns; givens = h .givens; used = x .used }; verdict = v }
+    pub survey-is : record {
+      refusal = q;
+      heading = record { route = h .route; unknowns = h .unknowns; givens = h .givens; used = x .used };
+      verdict = v;
+      order = o;
+    }
         ≡ surveyOf (records bs)
-    survey-is = rw (refusal-is, heading-is, verdict-is)
+    survey-is = rw (refusal-is, heading-is, verdict-is, order-is)

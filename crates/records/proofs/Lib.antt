@@ -1,4 +1,5 @@
 pub mod OneRecord
 pub mod Headings
 pub mod Loops
+pub mod Runs
 pub mod Answers

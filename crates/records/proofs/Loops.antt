@@ -1,5 +1,5 @@
--- The loop over the records of an entry. It keeps the length used, and what is seen of all records, equal to what those that are left give
--- with what has been seen before them.
+-- The loops over the records of an entry. They keep what all the records give equal to what those that are left give with what has been
+-- seen before them.
 -- Assumes nothing.
 use mathlib.Core.Path.{_≡_, refl, sym, ap, _∙_}
 use mathlib.Core.Bool.{true, false, cond, _||_}
@@ -11,7 +11,7 @@ use native.Mathlib.Omega.{arith}
 use lib.ListN.{length, take, drop, length-append}
 use borrow.Author.Tests.{ne-eqb}
 use Rattle.ring.proofs.Bool.{bool-cases}
-use Rattle.entry.specs.Record.{Record, bytes, size, kind, isEnd}
+use Rattle.entry.specs.Record.{Record, bytes, kind, isEnd}
 use Rattle.entry.specs.Held.{next, records}
 use Rattle.entry.specs.Questions.{hasEnd}
 use Rattle.entry.proofs.Records.{records-none, here-none, here, fits-at, there-whole, some-there}
@@ -19,14 +19,9 @@ use Rattle.entry.proofs.Canonical.{endsThere, records-end, isEmpty}
 use Rattle.records.specs.declared.Seen.{Seen}
 use Rattle.records.specs.declared.Gathered.{Gathered}
 use Rattle.records.specs.Inner.Headings.{lengthUsed}
-use Rattle.records.specs.Inner.Gathering.{Whole, seenRecord, seenAll, nothingSeen, gathered}
+use Rattle.records.specs.Inner.Gathering.{Whole, seenRecord, seenAll, nothingSeen, gathered, endFrom, gatheredFrom, Further}
 
 -- ---- the length used
--- where the first kind 4 ends, counted from `at`
-unfoldable pub endFrom : ℕ → List Record → ℕ
-endFrom at [] = 0
-endFrom at (r ∷ rs) = cond (isEnd r) (at + length r) (endFrom (at + length r) rs)
-
 end-from : (at : ℕ) (rs : List Record) → endsThere rs ≡ true → cond (hasEnd rs) (at + length (bytes rs)) 0 ≡ endFrom at rs
 unfolding endFrom hasEnd bytes endsThere
 end-from at [] e = refl
@@ -57,65 +52,80 @@ module _ (bs : List ℕ) (at : ℕ) {n : ℕ} (en : n ≡ length (next (drop at 
   pub lent-some : {behind : ℕ} → behind ≡ at + n → (n ≡ 0 → ⊥) → 0 < length (take (behind - at) (drop at bs))
   lent-some eb s = rw (lent eb, some-there bs at en) (omega arith)
 
-pub record Gathering (bs : List ℕ) (route U G : ℕ) (x : Seen) (at : ℕ) : Type 0 where
-  pub inside : at ≤ length bs
-  pub used : lengthUsed (records bs) ≡ endFrom at (records (drop at bs))
-  pub seen : seenAll route U G nothingSeen (records bs) ≡ seenAll route U G x (records (drop at bs))
+-- ---- one place further on, and what is gathered in the end
+pub further-start : (bs : List ℕ) (route U G : ℕ) (x : Seen) (at : ℕ) → at ≤ length bs → Further bs route U G x at x at
+further-start bs route U G x at h = record { onward = omega arith; inside = h; same = refl }
 
-pub gather-start : (bs : List ℕ) (route U G : ℕ) → Gathering bs route U G nothingSeen 0
-unfolding lengthUsed
-gather-start bs route U G =
-    record {
-      inside = omega arith;
-      used =
-          ap (λ (i : ℕ). cond (hasEnd (records bs)) i 0) (sym (zero-add (length (bytes (records bs)))))
-          ∙ end-from 0 (records bs) (records-end bs);
-      seen = refl;
-    }
+pub further-then : (bs : List ℕ) (route U G : ℕ) {x y z : Seen} {from mid at : ℕ} → Further bs route U G x from y mid
+    → Further bs route U G y mid z at
+    → Further bs route U G x from z at
+further-then bs route U G v w = record { onward = omega (arith, v .onward, w .onward); inside = w .inside; same = v .same ∙ w .same }
 
-module _ (bs : List ℕ) (route U G : ℕ) (x : Seen) (at : ℕ) (w : Gathering bs route U G x at) where
+-- from the first record on
+all-from : (bs : List ℕ) (route U G : ℕ) → gathered route U G (records bs) ≡ gatheredFrom route U G nothingSeen 0 (records bs)
+unfolding gathered gatheredFrom lengthUsed
+all-from bs route U G =
+    let e : lengthUsed (records bs) ≡ endFrom 0 (records bs) =
+    ap (λ (i : ℕ). cond (hasEnd (records bs)) i 0) (sym (zero-add (length (bytes (records bs)))))
+    ∙ end-from 0 (records bs) (records-end bs) in
+    rw e
+
+module _ (bs : List ℕ) (route U G : ℕ) (x : Seen) (at : ℕ) (w : Further bs route U G nothingSeen 0 x at) where
+  given : gathered route U G (records bs) ≡ gatheredFrom route U G x at (records (drop at bs))
+  given = all-from bs route U G ∙ w .same
+
   pub gather-out : length bs ≤ at → {y : Gathered} → y ≡ record { used = 0; kinds = x .kinds; numbers = x .numbers; none = x .none }
       → y ≡ gathered route U G (records bs)
-  unfolding gathered seenAll endFrom
-  gather-out h e = e ∙ rw (w .used, w .seen, records-none bs at h)
+  unfolding gatheredFrom seenAll endFrom
+  gather-out h e = e ∙ sym (given ∙ rw (records-none bs at h))
 
-  module _ {n : ℕ} (en : n ≡ length (next (drop at bs))) where
-    pub gather-broken : n ≡ 0 → {y : Gathered} → y ≡ record { used = 0; kinds = x .kinds; numbers = x .numbers; none = x .none }
-        → y ≡ gathered route U G (records bs)
-    unfolding gathered seenAll endFrom
-    gather-broken z e = e ∙ rw (w .used, w .seen, here-none bs at en z)
+  pub gather-broken : {n : ℕ} → n ≡ length (next (drop at bs)) → n ≡ 0 → {y : Gathered}
+      → y ≡ record { used = 0; kinds = x .kinds; numbers = x .numbers; none = x .none }
+      → y ≡ gathered route U G (records bs)
+  unfolding gatheredFrom seenAll endFrom
+  gather-broken en z e = e ∙ sym (given ∙ rw (here-none bs at en z))
 
-    module _ (s : n ≡ 0 → ⊥) {behind : ℕ} (eb : behind ≡ at + n) {x′ : Seen}
-        (ex : x′ ≡ seenRecord route U G x (take (behind - at) (drop at bs))) where
-      r : Record
-      r = take n (drop at bs)
+-- one record
+module _ (bs : List ℕ) (route U G : ℕ) {x₀ : Seen} {from : ℕ} (x : Seen) (at : ℕ) (w : Further bs route U G x₀ from x at) {n : ℕ}
+    (en : n ≡ length (next (drop at bs))) (s : n ≡ 0 → ⊥) {behind : ℕ} (eb : behind ≡ at + n) {x′ : Seen}
+    (ex : x′ ≡ seenRecord route U G x (take (behind - at) (drop at bs))) where
+  r : Record
+  r = take n (drop at bs)
 
-      seen-there : x′ ≡ seenRecord route U G x r
-      unfolding r
-      seen-there = ex ∙ rw (lent bs at en eb)
+  seen-there : x′ ≡ seenRecord route U G x r
+  unfolding r
+  seen-there = ex ∙ rw (lent bs at en eb)
 
-      kind-there : x′ .kind ≡ kind r
-      unfolding seenRecord
-      kind-there = ap (λ (y : Seen). y .kind) seen-there
+  kind-there : x′ .kind ≡ kind r
+  unfolding seenRecord
+  kind-there = ap (λ (y : Seen). y .kind) seen-there
 
-      behind-there : behind ≡ at + length r
-      unfolding r
-      behind-there = eb ∙ ap (λ (i : ℕ). at + i) (sym (some-there bs at en))
+  behind-there : behind ≡ at + length r
+  unfolding r
+  behind-there = eb ∙ ap (λ (i : ℕ). at + i) (sym (some-there bs at en))
 
-      pub gather-end : x′ .kind ≡ 4 → {y : Gathered}
-          → y ≡ record { used = behind; kinds = x′ .kinds; numbers = x′ .numbers; none = x′ .none }
-          → y ≡ gathered route U G (records bs)
-      unfolding gathered seenAll endFrom r
-      gather-end t e =
-          let f : kind r ≡ 4 = sym kind-there ∙ t in
-          e ∙ rw (w .used, w .seen, here bs at en s, f, ← behind-there, ← seen-there)
+  -- it is the last
+  ended : x′ .kind ≡ 4
+      → gatheredFrom route U G x at (records (drop at bs))
+      ≡ record { used = behind; kinds = x′ .kinds; numbers = x′ .numbers; none = x′ .none }
+  unfolding gatheredFrom seenAll endFrom r
+  ended t =
+      let f : kind r ≡ 4 = sym kind-there ∙ t in
+      rw (here bs at en s, f, ← behind-there, ← seen-there)
 
-      pub gather-next : (x′ .kind ≡ 4 → ⊥) → Gathering bs route U G x′ behind
-      unfolding seenAll endFrom r
-      gather-next t =
-          let not-end : isEnd r ≡ false = ne-eqb (kind r) 4 (λ f. t (kind-there ∙ f)) in
-          record {
-            inside = rw eb (fits-at bs at (w .inside) en);
-            used = w .used ∙ rw (here bs at en s, not-end, ← behind-there, ← eb);
-            seen = w .seen ∙ rw (here bs at en s, not-end, seen-there, eb);
-          }
+  pub gather-next : (x′ .kind ≡ 4 → ⊥) → Further bs route U G x₀ from x′ behind
+  unfolding gatheredFrom seenAll endFrom r
+  gather-next t =
+      let not-end : isEnd r ≡ false = ne-eqb (kind r) 4 (λ f. t (kind-there ∙ f)) in
+      record {
+        onward = omega (arith, w .onward);
+        inside = rw eb (fits-at bs at (w .inside) en);
+        same = w .same ∙ rw (here bs at en s, not-end, ← behind-there, seen-there, eb);
+      }
+
+pub gather-end : (bs : List ℕ) (route U G : ℕ) (x : Seen) (at : ℕ) → Further bs route U G nothingSeen 0 x at → {n : ℕ}
+    → n ≡ length (next (drop at bs)) → (n ≡ 0 → ⊥) → {behind : ℕ} → behind ≡ at + n → {x′ : Seen}
+    → x′ ≡ seenRecord route U G x (take (behind - at) (drop at bs)) → x′ .kind ≡ 4 → {y : Gathered}
+    → y ≡ record { used = behind; kinds = x′ .kinds; numbers = x′ .numbers; none = x′ .none }
+    → y ≡ gathered route U G (records bs)
+gather-end bs route U G x at w en s eb ex t e = e ∙ sym (given bs route U G x at w ∙ ended bs route U G x at w en s eb ex t)

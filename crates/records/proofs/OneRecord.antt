@@ -7,25 +7,27 @@ use Prim.Native.Nat.{ℕ, zero, suc, _+_, _-_, _*_, _^_, _≤_, _<_}
 use native.Mathlib.Numerals.{add-one}
 use native.Mathlib.Omega.{arith}
 use lib.Dec.{ltb, eqb}
-use lib.ListN.{length, getD}
+use lib.ListN.{length, getD, drop}
 use lib.Pow.{pow-mono}
 use borrow.Author.Tests.{ltb-true, eqb-true, ne-eqb, not-true, not-false}
 use Rattle.ring.specs.Polynomial.{everyBelow}
-use Rattle.ring.specs.Lists.{has}
+use Rattle.ring.specs.Lists.{listed, has}
 use Rattle.ring.proofs.Bool.{and-right}
 use Rattle.ring.proofs.Every.{every-all}
-use Rattle.tables.specs.declared.Question.the-variants.{Letters, Route, Records, Kinds, Numbers}
+use Rattle.ring.proofs.Lists.{listed-getD}
+use Rattle.tables.specs.declared.Question.the-variants.{Letters, Route, Records, Kinds, Numbers, Order}
 use Rattle.tables.specs.Questions.{asks, firstNo}
 use Rattle.tables.specs.Inner.Asking.{also}
 use Rattle.tables.proofs.FirstNo.{also-none, ask-then}
 use Rattle.order.specs.Inner.Place.{rank}
 use Rattle.entry.specs.Record.{Record, routeField, unknownsField, givensField, unknownField, maskField, stateField, fields, widths, size}
-use Rattle.entry.specs.Record.{kind, among, valueOf, isEnd, isNone, isMonomial, tableIn, fieldFits, inBounds}
+use Rattle.entry.specs.Record.{kind, among, valueOf, isEnd, isNone, isOrder, isMonomial, isDefault, inBounds}
 use Rattle.entry.specs.Questions.{routeFits, mayFollow}
 use Rattle.entry.specs.Inner.Places.{place, placeOf, standsBehind}
 use Rattle.entry.proofs.Fields.{start-route, start-unknowns, start-givens, condition-mask, answer-unknown, answer-mask, end-route}
 use Rattle.entry.proofs.Fields.{none-state, lacks, lacking, of-every, unbounded, in-bounds, condition-fits, answer-fits, none-fits}
-use Rattle.entry.proofs.Fields.{no-size}
+use Rattle.entry.proofs.Fields.{order-fits, no-size}
+use Rattle.entry.proofs.Made.{needed-other}
 use Rattle.entry.proofs.Places.{rank-small, place-monomial, place-other}
 use Rattle.calls.specs.declared.Verdict.the-variants.{None}
 use Rattle.records.specs.declared.Seen.{Seen}
@@ -39,17 +41,17 @@ same false a = refl
 -- ---- sizes
 -- those of the kinds, as the code lists them
 abbrev pub sizes : List ℕ
-sizes = 0 ∷ 4 ∷ 3 ∷ 4 ∷ 2 ∷ 2 ∷ []
+sizes = 0 ∷ 4 ∷ 3 ∷ 4 ∷ 2 ∷ 2 ∷ 7 ∷ []
 
-pub sized : (k : ℕ) {w : ℕ} → w ≡ k → w < 6 → getD sizes w 0 ≡ size k
+pub sized : (k : ℕ) {w : ℕ} → w ≡ k → w < 7 → getD sizes w 0 ≡ size k
 unfolding everyBelow size fields widths
-sized k {w} e h = eqb-true _ _ (every-all 6 (λ k. eqb (getD sizes k 0) (size k)) refl w h) ∙ ap size e
+sized k {w} e h = eqb-true _ _ (every-all 7 (λ k. eqb (getD sizes k 0) (size k)) refl w h) ∙ ap size e
 
-pub no-kind : (k : ℕ) {w : ℕ} → w ≡ k → 6 ≤ w → 0 ≡ size k
+pub no-kind : (k : ℕ) {w : ℕ} → w ≡ k → 7 ≤ w → 0 ≡ size k
 unfolding everyBelow has size fields widths
-no-kind k q h = sym (no-size (0 ∷ 1 ∷ 2 ∷ 3 ∷ 4 ∷ 5 ∷ []) refl k far)
+no-kind k q h = sym (no-size (0 ∷ 1 ∷ 2 ∷ 3 ∷ 4 ∷ 5 ∷ 6 ∷ []) refl k far)
   where
-    far : has k (0 ∷ 1 ∷ 2 ∷ 3 ∷ 4 ∷ 5 ∷ []) ≡ false
+    far : has k (0 ∷ 1 ∷ 2 ∷ 3 ∷ 4 ∷ 5 ∷ 6 ∷ []) ≡ false
     far =
         rw (
           ne-eqb k 0 (λ e. absurd (omega arith)),
@@ -60,6 +62,7 @@ no-kind k q h = sym (no-size (0 ∷ 1 ∷ 2 ∷ 3 ∷ 4 ∷ 5 ∷ []) refl k far
           ne-eqb k 4 (λ e. absurd (omega arith)),
           ne-eqb k 5
               (λ e. absurd (omega arith)),
+          ne-eqb k 6 (λ e. absurd (omega arith)),
         )
 
 -- how many bytes a record of a kind has
@@ -83,6 +86,17 @@ module _ (r : Record) (w : length r ≡ size (kind r)) where
   pub long-5 : getD r 0 0 ≡ 5 → length r ≡ 2
   unfolding kind size fields widths
   long-5 e = w ∙ rw e
+
+  pub long-6 : getD r 0 0 ≡ 6 → length r ≡ 7
+  unfolding kind size fields widths
+  long-6 e = w ∙ rw e
+
+-- the six bytes of an order
+pub six-of : (r : Record) → length r ≡ 7
+    → getD r 1 0 ∷ getD r 2 0 ∷ getD r 3 0 ∷ getD r 4 0 ∷ getD r 5 0 ∷ getD r 6 0 ∷ [] ≡ drop 1 r
+unfolding listed
+six-of r e =
+    let l : listed 7 (λ m. getD r m 0) ≡ r = ap (λ (k : ℕ). listed k (λ m. getD r m 0)) (sym e) ∙ listed-getD r in ap (drop 1) l
 
 -- ---- what the first record says
 module _ (r : Record) where
@@ -140,9 +154,10 @@ module _ (p k : ℕ) where
   unfolding mayFollow
   follow-first e = rw e
 
-  pub follow-start : {a b c : Bool} → p ≡ 1 → a ≡ (eqb k 4 || eqb k 5) → b ≡ (eqb k 3 || a) → c ≡ (eqb k 2 || b) → c ≡ mayFollow p k
+  pub follow-start : {a b c d : Bool} → p ≡ 1 → a ≡ (eqb k 5 || eqb k 6) → b ≡ (eqb k 4 || a) → c ≡ (eqb k 3 || b) → d ≡ (eqb k 2 || c)
+      → d ≡ mayFollow p k
   unfolding mayFollow has
-  follow-start e ea eb ec = rw (e, ec, eb, ea, or-false (eqb k 5))
+  follow-start e ea eb ec ed = rw (e, ed, ec, eb, ea, or-false (eqb k 6))
 
   pub follow-condition : {a b c : Bool} → p ≡ 2 → a ≡ (eqb k 4 || eqb k 5) → b ≡ (eqb k 3 || a) → c ≡ (eqb k 2 || b) → c ≡ mayFollow p k
   unfolding mayFollow has
@@ -156,15 +171,20 @@ module _ (p k : ℕ) where
   unfolding mayFollow has
   follow-none e = rw (e, or-false (eqb k 4))
 
-pub follow-other : (p k : ℕ) → (p ≡ 0 → ⊥) → (p ≡ 1 → ⊥) → (p ≡ 2 → ⊥) → (p ≡ 3 → ⊥) → (p ≡ 5 → ⊥) → false ≡ mayFollow p k
+  pub follow-order : {a b c : Bool} → p ≡ 6 → a ≡ (eqb k 4 || eqb k 5) → b ≡ (eqb k 3 || a) → c ≡ (eqb k 2 || b) → c ≡ mayFollow p k
+  unfolding mayFollow has
+  follow-order e ea eb ec = rw (e, ec, eb, ea, or-false (eqb k 5))
+
+pub follow-other : (p k : ℕ) → (p ≡ 0 → ⊥) → (p ≡ 1 → ⊥) → (p ≡ 2 → ⊥) → (p ≡ 3 → ⊥) → (p ≡ 5 → ⊥) → (p ≡ 6 → ⊥) → false ≡ mayFollow p k
 unfolding mayFollow has
-follow-other zero k a b c d e = absurd (a refl)
-follow-other (suc zero) k a b c d e = absurd (b refl)
-follow-other (suc (suc zero)) k a b c d e = absurd (c refl)
-follow-other (suc (suc (suc zero))) k a b c d e = absurd (d refl)
-follow-other (suc (suc (suc (suc zero)))) k a b c d e = refl
-follow-other (suc (suc (suc (suc (suc zero))))) k a b c d e = absurd (e refl)
-follow-other (suc (suc (suc (suc (suc (suc p)))))) k a b c d e = refl
+follow-other zero k a b c d e f = absurd (a refl)
+follow-other (suc zero) k a b c d e f = absurd (b refl)
+follow-other (suc (suc zero)) k a b c d e f = absurd (c refl)
+follow-other (suc (suc (suc zero))) k a b c d e f = absurd (d refl)
+follow-other (suc (suc (suc (suc zero)))) k a b c d e f = refl
+follow-other (suc (suc (suc (suc (suc zero))))) k a b c d e f = absurd (e refl)
+follow-other (suc (suc (suc (suc (suc (suc zero)))))) k a b c d e f = absurd (f refl)
+follow-other (suc (suc (suc (suc (suc (suc (suc p))))))) k a b c d e f = refl
 
 -- ---- what is said
 pub said-now : (state : ℕ) {none v : ℕ} → none ≡ 0 → v ≡ state → v + 1 ≡ saidFirst none state
@@ -193,18 +213,16 @@ module _ (x : Seen) (k i m : ℕ) (fits : Bool) {follows : Bool} (ef : follows �
   unfolding seenMonomial
   monomial-out h e = e ∙ rw (ef, not-true fits h)
 
-  pub monomial-in : {n : ℕ} → not fits ≡ false → n ≡ rank 10 m
-      → y ≡ record {
-        kind = k;
-        place = 16384 * i + n + 1;
-        kinds = x .kinds && follows;
-        numbers = x .numbers && ltb (x .place)
-            (16384 * i + n + 1);
-        none = x .none;
-      }
+  pub monomial-in : {p : ℕ} → not fits ≡ false → p ≡ place i m
+      → y ≡ record { kind = k; place = p; kinds = x .kinds && follows; numbers = x .numbers && ltb (x .place) p; none = x .none }
       → y ≡ seenMonomial x k i m fits
-  unfolding seenMonomial place
-  monomial-in {n} h en e = e ∙ rw (ef, not-false fits h, en, add-one)
+  unfolding seenMonomial
+  monomial-in h ep e = e ∙ rw (ef, not-false fits h, ep)
+
+-- the place, from the rank
+pub place-is : (i m : ℕ) {n : ℕ} → n ≡ rank 10 m → 16384 * i + n + 1 ≡ place i m
+unfolding place
+place-is i m en = rw (en, add-one)
 
 behind-place : (q i m : ℕ) → standsBehind q (place i m) ≡ ltb q (place i m)
 unfolding standsBehind place
@@ -259,7 +277,8 @@ module _ (route U G : ℕ) (x : Seen) (r : Record) where
   unfolding everyBelow among fields unbounded
   see-end ek ef eg e =
       let k : kind r ≡ 4 = kind-is r 4 ek in
-      e ∙ seen-other _ true k (rw k) (eg ∙ rw (k, ef, end-route r k)) (sym (in-bounds U G r (rw k))) (rw k)
+      let o : isOrder r ≡ false = rw k in
+      e ∙ seen-other _ true k (rw k) (eg ∙ rw (k, ef, end-route r k)) (sym (in-bounds U G r (rw k) ∙ needed-other U r o)) (rw k)
 
   pub see-none : {y : Seen} {masks states v none : ℕ} {f : Bool} → Bounds U G masks states → getD r 0 0 ≡ 5 → f ≡ mayFollow (x .kind) 5
       → none ≡ saidFirst (x .none) (getD r 1 0) → v ≡ getD r 1 0
@@ -271,16 +290,25 @@ module _ (route U G : ℕ) (x : Seen) (r : Record) where
       e ∙ seen-other _ _ k (rw k) (ef ∙ rw k (sym (and-true _))) (sym (none-fits U G r k ∙ rw (none-state r k, ← ev, ← b .of-states)))
       (en ∙ rw (k, none-state r k))
 
+  pub see-order : {y : Seen} {f d : Bool} {o : List ℕ} → getD r 0 0 ≡ 6 → f ≡ mayFollow (x .kind) 6 → o ≡ drop 1 r → d ≡ isDefault U o
+      → y ≡ record { kind = 6; place = 0; kinds = x .kinds && f; numbers = x .numbers && not d; none = x .none }
+      → y ≡ seenRecord route U G x r
+  unfolding among fields
+  see-order ek ef eo ed e =
+      let k : kind r ≡ 6 = kind-is r 6 ek in
+      e ∙ seen-other _ _ k (rw k) (ef ∙ rw k (sym (and-true _))) (rw (ed, eo) (sym (order-fits U G r k))) (rw k)
+
   pub see-other : {y : Seen} {f : Bool} → (getD r 0 0 ≡ 2 → ⊥) → (getD r 0 0 ≡ 3 → ⊥) → (getD r 0 0 ≡ 4 → ⊥) → (getD r 0 0 ≡ 5 → ⊥)
-      → f ≡ mayFollow (x .kind) (getD r 0 0)
+      → (getD r 0 0 ≡ 6 → ⊥) → f ≡ mayFollow (x .kind) (getD r 0 0)
       → y ≡ record { kind = getD r 0 0; place = 0; kinds = x .kinds && f; numbers = x .numbers && true; none = x .none }
       → y ≡ seenRecord route U G x r
   unfolding kind everyBelow among fields unbounded has
-  see-other n2 n3 n4 n5 ef e =
+  see-other n2 n3 n4 n5 n6 ef e =
       e ∙ seen-other _ true refl (lacks maskField (2 ∷ 3 ∷ []) refl (kind r) (rw (ne-eqb (kind r) 2 n2, ne-eqb (kind r) 3 n3)))
       (ef ∙ rw (ne-eqb (kind r) 4 n4) (sym (and-true _)))
       (sym (in-bounds U G r
-      (free (of-every (λ k. has k (2 ∷ 3 ∷ 5 ∷ []) || unbounded (fields k)) refl (λ k z. right (has k (2 ∷ 3 ∷ 5 ∷ [])) (rw z)) (kind r)))))
+      (free (of-every (λ k. has k (2 ∷ 3 ∷ 5 ∷ []) || unbounded (fields k)) refl (λ k z. right (has k (2 ∷ 3 ∷ 5 ∷ [])) (rw z)) (kind r)))
+      ∙ needed-other U r (ne-eqb (kind r) 6 n6)))
       (rw (ne-eqb (kind r) 5 n5))
     where
       right : (a : Bool) {b : Bool} → b ≡ true → (a || b) ≡ true
@@ -306,12 +334,14 @@ pub rank-fits : (m : ℕ) {k : ℕ} → m < 1024 → k ≡ rank 10 m → k < 163
 rank-fits m h e = rw e (rank-small m h)
 
 -- ---- the first no of what has been gathered, question by question
-pub chain : (x : Gathered) (fits : Bool) (route : ℕ) {q1 q2 q3 q4 q5 w : ℕ} {b : Bool} → q1 ≡ also 0 (asks Records (ltb 0 (x .used)) ∷ [])
+pub chain : (x : Gathered) (fits : Bool) (route : ℕ) (inOrder : Bool) {q1 q2 q3 q4 q5 q6 w : ℕ} {b : Bool} → q1 ≡ also 0 (asks Records (ltb 0 (x .used)) ∷ [])
     → q2 ≡ also q1 (asks Kinds (x .kinds) ∷ []) → q3 ≡ also q2 (asks Letters fits ∷ []) → w ≡ route → b ≡ routeFits w
-    → q4 ≡ also q3 (asks Route b ∷ []) → q5 ≡ also q4 (asks Numbers (x .numbers) ∷ []) → q5 ≡ firstNo (gatheredQuestions x fits route)
-chain x fits route {q1} {q2} {q3} {q4} {q5} {w} {b} e1 e2 e3 ew eb e4 e5 =
-    ask-then 0 q1 q5 Records _ _ _ e1 refl
-    (ask-then q1 q2 q5 Kinds _ _ _ e2 refl
-    (ask-then q2 q3 q5 Letters _ _ _ e3 refl
-    (ask-then q3 q4 q5 Route b (routeFits route) _ e4 (eb ∙ ap routeFits ew) e5)))
-    ∙ sym (also-none (gatheredQuestions x fits route))
+    → q4 ≡ also q3 (asks Route b ∷ []) → q5 ≡ also q4 (asks Numbers (x .numbers) ∷ [])
+    → q6 ≡ also q5 (asks Order inOrder ∷ []) → q6 ≡ firstNo (gatheredQuestions x fits route inOrder)
+chain x fits route inOrder {q1} {q2} {q3} {q4} {q5} {q6} {w} {b} e1 e2 e3 ew eb e4 e5 e6 =
+    ask-then 0 q1 q6 Records _ _ _ e1 refl
+    (ask-then q1 q2 q6 Kinds _ _ _ e2 refl
+    (ask-then q2 q3 q6 Letters _ _ _ e3 refl
+    (ask-then q3 q4 q6 Route b (routeFits route) _ e4 (eb ∙ ap routeFits ew)
+    (ask-then q4 q5 q6 Numbers _ _ _ e5 refl e6))))
+    ∙ sym (also-none (gatheredQuestions x fits route inOrder))

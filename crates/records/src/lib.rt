@@ -4,25 +4,28 @@
 ghost use mathlib.Core.Path.{_≡_};
 ghost use mathlib.Core.Bool.{true, _&&_, _||_, cond};
 ghost use Prim.Native.Nat.{_+_, _*_, _^_, _≤_, _<_};
-ghost use lib.Dec.{ltb};
+ghost use lib.Dec.{eqb};
 ghost use lib.ListN.{length, drop};
 ghost use Rattle.tables.specs.Questions.{firstNo};
+ghost use Rattle.order.specs.Inner.Place.{AreLetters};
 ghost use Rattle.entry.specs.Record.{routeField, unknownsField, givensField, size, kind, valueOf};
 ghost use Rattle.entry.specs.Held.{next, records};
 ghost use Rattle.entry.specs.Questions.{mayFollow};
-ghost use Rattle.records.specs.Inner.Headings.{startOf};
+ghost use Rattle.entry.specs.Inner.Places.{place};
+ghost use Rattle.records.specs.Inner.Headings.{startOf, orderBehind};
 ghost use Rattle.records.specs.Inner.Gathering.{Whole, Bounds, saidFirst, seenMonomial, seenRecord, gathered, saidBy};
-ghost use Rattle.records.specs.Inner.Gathering.{gatheredQuestions, surveyOf};
+ghost use Rattle.records.specs.Inner.Gathering.{Further, placed, gatheredQuestions, surveyOf};
 use calls::Heading;
 use calls::Verdict;
 use ring::State;
 use tables::Question;
 
-// What going over an entry gives: the first no of 10, 11, 1, 2 and 12, or 0, and what the entry says.
+// What going over an entry gives: the first no of 10, 11, 1, 2, 12 and 17, or 0, and what the entry says.
 pub struct Survey {
     pub refusal: u8,
     pub heading: Heading,
     pub verdict: Verdict,
+    pub order: [u8; 6],
 }
 
 // What has been seen of the records up to a place.
@@ -32,6 +35,12 @@ pub struct Seen {
     pub kinds: bool, // question 11 of the records so far
     pub numbers: bool, // question 12 of the records so far
     pub none: usize, // 1 above the state that the first kind 5 says, 0 if there was none
+}
+
+// A place in the bytes, and what has been seen of the records before it.
+pub struct Position {
+    pub at: usize,
+    pub seen: Seen,
 }
 
 // What has been seen when the records end, and the length used, 0 if there is no kind 4.
@@ -56,13 +65,13 @@ pub fn mask_of(low: u8, high: u8) -> usize
 }
 
 // 'one byte of kind, then a body whose length the kind fixes': the sizes of the kinds, 0 where there is no such kind.
-const SIZES: [usize; 6] = [0, 4, 3, 4, 2, 2];
+const SIZES: [usize; 7] = [0, 4, 3, 4, 2, 2, 7];
 
 fn size_of(kind: u8) -> usize
     ensures { λ n. ⌜ n ≡ size kind ⌝ }
 {
     let k = wide(kind);
-    if k < 6 {
+    if k < 7 {
         return SIZES[k];
     }
     0
@@ -81,6 +90,17 @@ pub fn size_at(s: &[u8], at: usize) -> usize
         return 0;
     }
     n
+}
+
+// Does a whole record of kind k, which has n bytes, stand at a place?
+pub fn is_there(s: &[u8], at: usize, k: u8, n: usize) -> bool
+    requires { ⌜ (at ≤ length (now s)) × (n ≡ size k) × (0 < n) ⌝ }
+    ensures { λ b. ⌜ b ≡ eqb (kind (next (drop at (now (s .entry))))) k ⌝ }
+{
+    if s.len() - at < n {
+        return false;
+    }
+    s[at] == k
 }
 
 // The route that a record says, 0 if none.
@@ -139,10 +159,14 @@ fn may_follow(p: u8, k: u8) -> bool
 {
     match p {
         0 => k == 1,
-        1 => either(k == 2, either(k == 3, either(k == 4, k == 5))),
+        1 => either(
+            k == 2,
+            either(k == 3, either(k == 4, either(k == 5, k == 6))),
+        ),
         2 => either(k == 2, either(k == 3, either(k == 4, k == 5))),
         3 => either(k == 3, k == 4),
         5 => k == 4,
+        6 => either(k == 2, either(k == 3, either(k == 4, k == 5))),
         _ => false,
     }
 }
@@ -180,9 +204,17 @@ fn seen_next(seen: Seen, k: u8, p: usize, follows: bool, fits: bool, none: usize
     }
 }
 
-// A monomial of table i. One rising number tells its place: its table, then its rank in the written order.
-fn see_monomial(seen: Seen, k: u8, i: usize, m: usize, fits: bool) -> Seen
-    requires { ⌜ (i ≤ 256) × (fits ≡ true → m < 1024) ⌝ }
+// The place of the monomial m of table i. One rising number tells it: the table, then the rank in the written order.
+fn place_of(counts: &[u8; 32], i: usize, m: usize) -> usize
+    requires { ⌜ AreLetters (now counts) × (i ≤ 256) × (m < 1024) ⌝ }
+    ensures { λ p. ⌜ p ≡ place i m ⌝ }
+{
+    16384 * i + order::rank_of(counts, m) + 1
+}
+
+// A monomial of table i.
+fn see_monomial(seen: Seen, k: u8, i: usize, m: usize, fits: bool, counts: &[u8; 32]) -> Seen
+    requires { ⌜ (i ≤ 256) × (fits ≡ true → m < 1024) × AreLetters (now counts) ⌝ }
     ensures { λ x. ⌜ x ≡ seenMonomial seen k i m fits ⌝ }
 {
     let follows = may_follow(seen.kind, k);
@@ -190,14 +222,31 @@ fn see_monomial(seen: Seen, k: u8, i: usize, m: usize, fits: bool) -> Seen
     if !fits {
         return seen_next(seen, k, 0, follows, false, none);
     }
-    let p = 16384 * i + order::rank_of(m) + 1;
+    let p = place_of(counts, i, m);
     let rises = seen.place < p;
     seen_next(seen, k, p, follows, rises, none)
 }
 
+// The bytes of an order, from its record.
+fn order_in(r: &[u8]) -> [u8; 6]
+    requires { ⌜ length (now r) ≡ 7 ⌝ }
+    ensures { λ o. ⌜ o ≡ drop 1 (now (r .entry)) ⌝ }
+{
+    [r[1], r[2], r[3], r[4], r[5], r[6]]
+}
+
 // What has been seen with one more record.
-fn see(seen: Seen, route: u8, u: usize, g: usize, masks: usize, states: usize, r: &[u8]) -> Seen
-    requires { ⌜ Bounds u g masks states × Whole (now r) × (0 < length (now r)) ⌝ }
+fn see(
+    seen: Seen,
+    route: u8,
+    u: usize,
+    g: usize,
+    masks: usize,
+    states: usize,
+    counts: &[u8; 32],
+    r: &[u8],
+) -> Seen
+    requires { ⌜ Bounds u g masks states × Whole (now r) × (0 < length (now r)) × AreLetters (now counts) ⌝ }
     ensures { λ x. ⌜ x ≡ seenRecord route u g seen (now (r .entry)) ⌝ }
 {
     let k = r[0];
@@ -205,12 +254,12 @@ fn see(seen: Seen, route: u8, u: usize, g: usize, masks: usize, states: usize, r
     match k {
         2 => {
             let m = mask_of(r[1], r[2]);
-            see_monomial(seen, 2, 0, m, m < masks)
+            see_monomial(seen, 2, 0, m, m < masks, counts)
         }
         3 => {
             let j = wide(r[1]);
             let m = mask_of(r[2], r[3]);
-            see_monomial(seen, 3, j + 1, m, both(j < u, m < masks))
+            see_monomial(seen, 3, j + 1, m, both(j < u, m < masks), counts)
         }
         4 => {
             let follows = both(may_follow(seen.kind, 4), r[1] == route);
@@ -220,6 +269,11 @@ fn see(seen: Seen, route: u8, u: usize, g: usize, masks: usize, states: usize, r
             let follows = may_follow(seen.kind, 5);
             let said = said_first(none, r[1]);
             seen_next(seen, 5, 0, follows, wide(r[1]) < states, said)
+        }
+        6 => {
+            let follows = may_follow(seen.kind, 6);
+            let is_default = entry::is_default(u, order_in(r));
+            seen_next(seen, 6, 0, follows, !is_default, none)
         }
         _ => {
             let follows = may_follow(seen.kind, k);
@@ -242,11 +296,117 @@ fn gathered_at(used: usize, seen: Seen) -> Gathered
     }
 }
 
+fn position_at(at: usize, seen: Seen, place: usize) -> Position
+    ensures { λ r. ⌜ r ≡ record { at = at; seen = placed seen place } ⌝ }
+{
+    let kind = seen.kind;
+    let kinds = seen.kinds;
+    let numbers = seen.numbers;
+    let none = seen.none;
+    Position {
+        at,
+        seen: Seen {
+            kind,
+            place,
+            kinds,
+            numbers,
+            none,
+        },
+    }
+}
+
+// Goes over the records of kind 2 that stand behind one of kind 2, as long as each passes question 12: of what has been seen only the
+// place changes.
+fn pass_conditions(
+    s: &[u8],
+    from: usize,
+    seen: Seen,
+    route: u8,
+    u: usize,
+    g: usize,
+    masks: usize,
+    counts: &[u8; 32],
+) -> Position
+    requires { ⌜ (from ≤ length (now s)) × (seen .kind ≡ 2) × Bounds u g masks (2 ^ g) × AreLetters (now counts) ⌝ }
+    ensures { λ r. ⌜ Further (now (s .entry)) route u g seen from (r .seen) (r .at) ⌝ }
+{
+    let mut at = from;
+    let mut place = seen.place;
+    while is_there(s, at, 2, 3) {
+        let m = mask_of(s[at + 1], s[at + 2]);
+        if masks <= m {
+            return position_at(at, seen, place);
+        }
+        let p = place_of(counts, 0, m);
+        if p <= place {
+            return position_at(at, seen, place);
+        }
+        place = p;
+        at += 3;
+    }
+    position_at(at, seen, place)
+}
+
+// The same for kind 3.
+fn pass_answers(
+    s: &[u8],
+    from: usize,
+    seen: Seen,
+    route: u8,
+    u: usize,
+    g: usize,
+    masks: usize,
+    counts: &[u8; 32],
+) -> Position
+    requires { ⌜ (from ≤ length (now s)) × (seen .kind ≡ 3) × Bounds u g masks (2 ^ g) × AreLetters (now counts) ⌝ }
+    ensures { λ r. ⌜ Further (now (s .entry)) route u g seen from (r .seen) (r .at) ⌝ }
+{
+    let mut at = from;
+    let mut place = seen.place;
+    while is_there(s, at, 3, 4) {
+        let j = wide(s[at + 1]);
+        let m = mask_of(s[at + 2], s[at + 3]);
+        if !both(j < u, m < masks) {
+            return position_at(at, seen, place);
+        }
+        let p = place_of(counts, j + 1, m);
+        if p <= place {
+            return position_at(at, seen, place);
+        }
+        place = p;
+        at += 4;
+    }
+    position_at(at, seen, place)
+}
+
+// Most records are monomials behind one of their kind: each of the two kinds has a loop of its own, which asks no more than it must.
+fn pass_monomials(
+    s: &[u8],
+    from: usize,
+    seen: Seen,
+    route: u8,
+    u: usize,
+    g: usize,
+    masks: usize,
+    counts: &[u8; 32],
+) -> Position
+    requires { ⌜ (from ≤ length (now s)) × Bounds u g masks (2 ^ g) × AreLetters (now counts) ⌝ }
+    ensures { λ r. ⌜ Further (now (s .entry)) route u g seen from (r .seen) (r .at) ⌝ }
+{
+    let kind = seen.kind;
+    match kind {
+        2 => pass_conditions(s, from, seen, route, u, g, masks, counts),
+        3 => pass_answers(s, from, seen, route, u, g, masks, counts),
+        _ => Position { at: from, seen },
+    }
+}
+
 // Goes over the records to the first kind 4, or to where no whole record stands.
 fn gather(s: &[u8], route: u8, u: usize, g: usize, masks: usize, states: usize) -> Gathered
     requires { ⌜ Bounds u g masks states ⌝ }
     ensures { λ r. ⌜ r ≡ gathered route u g (records (now (s .entry))) ⌝ }
 {
+    let counts = order::letter_counts();
     let mut at = 0;
     let mut seen = Seen {
         kind: 0,
@@ -261,24 +421,27 @@ fn gather(s: &[u8], route: u8, u: usize, g: usize, masks: usize, states: usize) 
             return gathered_at(0, seen);
         }
         let behind = at + n;
-        seen = see(seen, route, u, g, masks, states, &s[at..behind]);
-        at = behind;
-        if seen.kind == 4 {
-            return gathered_at(at, seen);
+        let next = see(seen, route, u, g, masks, states, &counts, &s[at..behind]);
+        if next.kind == 4 {
+            return gathered_at(behind, next);
         }
+        let to = pass_monomials(s, behind, next, route, u, g, masks, &counts);
+        at = to.at;
+        seen = to.seen;
     }
     gathered_at(0, seen)
 }
 
-// The first no of 10, 11, 1, 2 and 12, or 0; `fits` answers 1.
-fn refusal_of(gathered: Gathered, fits: bool, route: u8) -> u8
-    ensures { λ r. ⌜ r ≡ firstNo (gatheredQuestions gathered fits route) ⌝ }
+// The first no of 10, 11, 1, 2, 12 and 17, or 0; `fits` answers 1, `ordered` 17.
+fn refusal_of(gathered: Gathered, fits: bool, route: u8, ordered: bool) -> u8
+    ensures { λ r. ⌜ r ≡ firstNo (gatheredQuestions gathered fits route ordered) ⌝ }
 {
     let q = tables::ask(0, Question::Records, 0 < gathered.used);
     let q = tables::ask(q, Question::Kinds, gathered.kinds);
     let q = tables::ask(q, Question::Letters, fits);
     let q = tables::ask(q, Question::Route, entry::route_fits(wide(route)));
-    tables::ask(q, Question::Numbers, gathered.numbers)
+    let q = tables::ask(q, Question::Numbers, gathered.numbers);
+    tables::ask(q, Question::Order, ordered)
 }
 
 fn verdict_of(none: usize) -> Verdict
@@ -316,6 +479,28 @@ fn start_of(s: &[u8]) -> Heading
     }
 }
 
+// The order's bytes: those of a kind 6 that stands second, or the order 0, 1, 2, ..
+fn order_of(s: &[u8], u: usize) -> [u8; 6]
+    ensures { λ o. ⌜ o ≡ orderBehind u (records (now (s .entry))) ⌝ }
+{
+    let n = size_at(s, 0);
+    if n == 0 {
+        return solution::default_order(u);
+    }
+    if s[0] == 4 {
+        return solution::default_order(u);
+    }
+    let m = size_at(s, n);
+    if m == 0 {
+        return solution::default_order(u);
+    }
+    if s[n] != 6 {
+        return solution::default_order(u);
+    }
+    let end = n + m;
+    order_in(&s[n..end])
+}
+
 // Goes over the entry that the bytes begin with.
 pub fn survey_entry(s: &[u8]) -> Survey
     ensures { λ r. ⌜ r ≡ surveyOf (records (now (s .entry))) ⌝ }
@@ -328,7 +513,9 @@ pub fn survey_entry(s: &[u8]) -> Survey
     let u = fitting(fits, unknowns);
     let g = fitting(fits, givens);
     let gathered = gather(s, route, u, g, tables::pow2(u + g), tables::pow2(g));
-    let refusal = refusal_of(gathered, fits, route);
+    let order = order_of(s, unknowns);
+    let ordered = solution::order_fits(unknowns, order);
+    let refusal = refusal_of(gathered, fits, route, ordered);
     let used = gathered.used;
     let heading = Heading {
         route,
@@ -341,5 +528,6 @@ pub fn survey_entry(s: &[u8]) -> Survey
         refusal,
         heading,
         verdict,
+        order,
     }
 }

@@ -4,7 +4,7 @@
 use mathlib.Core.Path.{_≡_, refl, sym, ap, _∙_}
 use mathlib.Core.Bool.{true}
 use mathlib.Core.List.{List, [], _∷_, _++_, map}
-use Prim.Native.Nat.{ℕ, _+_, _-_, _*_, _^_, _≤_, _<_}
+use Prim.Native.Nat.{ℕ, _+_, _-_, _^_, _≤_, _<_}
 use native.Mathlib.Omega.{arith}
 use lib.Dec.{leb}
 use lib.ListN.{length, take, length-append}
@@ -26,18 +26,22 @@ use Rattle.grammar.specs.Text.{textTable}
 use Rattle.notation.specs.Inner.Work.{textWords}
 use Rattle.notation.proofs.Values.{table-text}
 use Rattle.order.specs.Order.{order}
-use Rattle.solution.specs.Condition.{Condition, width, conditionOf}
-use Rattle.entry.specs.Record.{Record, fields, lowFirst, bodyOf, startRecord, endRecord, noneRecord}
+use Rattle.solution.specs.Condition.{Condition, ordered, defaultOrder, conditionOf}
+use Rattle.solution.specs.Order.{defaultBytes, orderFits}
+use Rattle.solution.specs.Elimination.{solve}
+use Rattle.solution.proofs.Order.{default-each, default-fits, take-orderBytes}
+use Rattle.entry.specs.Record.{Record, fields, lowFirst, bodyOf, startRecord, endRecord, noneRecord, bytes}
 use Rattle.entry.specs.Inner.Codes.{listedRecord}
-use Rattle.entry.specs.Entry.{archivedRecords, entry}
+use Rattle.entry.specs.Entry.{archivedRecords}
 use Rattle.entry.specs.Questions.{routeFits}
 use Rattle.entry.proofs.Back.{written-whole}
-use Rattle.entry.proofs.Theorems.{entry-bound}
+use Rattle.entry.proofs.OrderRecord.{default-left-out}
+use Rattle.entry.proofs.Bound.{entry-without}
 use Rattle.writer.specs.declared.Listing.{Listing}
 use Rattle.writer.specs.declared.Listing.the-variants.{Solved, None}
 use Rattle.writer.specs.Inner.Steps.{countOf, noneOf, entryFrom, Lists, Listable}
 use Rattle.writer.proofs.Monomials.{transformed}
-use Rattle.writer.proofs.Parts.{ordered}
+use Rattle.writer.proofs.Parts.{ordered as masks-ordered}
 use Rattle.printing.specs.Print.{lineFeed, hexadecimal, recordLines}
 use Rattle.printing.proofs.Records.{lines-append, line-of, line-length, lines-most}
 use Rattle.sheet_lines.specs.Inner.Feeding.{lineRoom, tableOf, IsValues}
@@ -148,14 +152,14 @@ module _ (state route : ℕ) {at a : ℕ} {l₀ l₁ : List ℕ} (p : Put l₀ a
 -- the whole
 module _ (route U G : ℕ) (found : Listing) (codes : List ℕ) where
   -- the lines of a listed entry, part by part
-  lines-parts : recordLines (entryFrom route U G found codes)
+  lines-parts : recordLines (entryFrom route U G [] found codes)
       ≡ recordLines (startRecord route U G ∷ map listedRecord (take (countOf found) codes)) ++ recordLines
       (noneOf found ++ (endRecord route ∷ []))
   unfolding entryFrom
   lines-parts = lines-append (startRecord route U G ∷ map listedRecord (take (countOf found) codes))
       (noneOf found ++ (endRecord route ∷ []))
 
-  lines-length : length (recordLines (entryFrom route U G found codes))
+  lines-length : length (recordLines (entryFrom route U G [] found codes))
       ≡ 9 + length (recordLines (map listedRecord (take (countOf found) codes))) + length
       (recordLines (noneOf found ++ (endRecord route ∷ [])))
   lines-length =
@@ -166,31 +170,32 @@ module _ (route U G : ℕ) (found : Listing) (codes : List ℕ) where
       (front-length route U G (map listedRecord (take (countOf found) codes)))
 
   module _ {told all : ℕ} (e : found ≡ Solved told all) where
-    solved-length : length (recordLines (entryFrom route U G found codes)) ≡ 14 + length (recordLines (map listedRecord (take all codes)))
+    solved-length : length (recordLines (entryFrom route U G [] found codes))
+        ≡ 14 + length (recordLines (map listedRecord (take all codes)))
     solved-length =
-        let p : length (recordLines (entryFrom route U G found codes))
+        let p : length (recordLines (entryFrom route U G [] found codes))
         ≡ 9 + length (recordLines (map listedRecord (take all codes))) + length (recordLines (endRecord route ∷ [])) = lines-length
         ∙ rw e in
         omega (arith, end-length route)
 
-    pub solved-front : (at room : ℕ) → at + length (recordLines (entryFrom route U G found codes)) ≤ room
+    pub solved-front : (at room : ℕ) → at + length (recordLines (entryFrom route U G [] found codes)) ≤ room
         → at + (9 + length (recordLines (map listedRecord (take all codes)))) ≤ room
     solved-front at room h = omega (arith, solved-length)
 
     module _ {at a : ℕ} {l₀ l₁ : List ℕ}
         (p : Put l₀ at (recordLines (startRecord route U G ∷ map listedRecord (take all codes))) a l₁) where
-      pub solved-end : at + length (recordLines (entryFrom route U G found codes)) ≤ length l₀ → a + 5 ≤ length l₁
+      pub solved-end : at + length (recordLines (entryFrom route U G [] found codes)) ≤ length l₀ → a + 5 ≤ length l₁
       solved-end h = omega (arith, solved-length, p .place, put-length p, front-length route U G (map listedRecord (take all codes)))
 
       pub solved-put : {r : ℕ} {l₂ : List ℕ} → Put l₁ a (recordLines (endRecord route ∷ [])) r l₂
-          → Put l₀ at (recordLines (entryFrom route U G found codes)) r l₂
+          → Put l₀ at (recordLines (entryFrom route U G [] found codes)) r l₂
       solved-put q = put-same (put-both p q) (sym (lines-parts ∙ rw e))
 
   module _ {told s : ℕ} (e : found ≡ None told s) where
-    unsolved-length : length (recordLines (entryFrom route U G found codes))
+    unsolved-length : length (recordLines (entryFrom route U G [] found codes))
         ≡ 19 + length (recordLines (map listedRecord (take told codes)))
     unsolved-length =
-        let p : length (recordLines (entryFrom route U G found codes))
+        let p : length (recordLines (entryFrom route U G [] found codes))
         ≡ 9 + length (recordLines (map listedRecord (take told codes))) + length (recordLines (noneRecord s ∷ endRecord route ∷ [])) =
         lines-length ∙ rw e in
         let last : List ℕ = recordLines (endRecord route ∷ []) in
@@ -202,35 +207,49 @@ module _ (route U G : ℕ) (found : Listing) (codes : List ℕ) where
           end-length route,
         )
 
-    pub unsolved-front : (at room : ℕ) → at + length (recordLines (entryFrom route U G found codes)) ≤ room
+    pub unsolved-front : (at room : ℕ) → at + length (recordLines (entryFrom route U G [] found codes)) ≤ room
         → at + (9 + length (recordLines (map listedRecord (take told codes)))) ≤ room
     unsolved-front at room h = omega (arith, unsolved-length)
 
     module _ {at a : ℕ} {l₀ l₁ : List ℕ}
         (p : Put l₀ at (recordLines (startRecord route U G ∷ map listedRecord (take told codes))) a l₁) where
-      pub unsolved-end : at + length (recordLines (entryFrom route U G found codes)) ≤ length l₀ → a + 10 ≤ length l₁
+      pub unsolved-end : at + length (recordLines (entryFrom route U G [] found codes)) ≤ length l₀ → a + 10 ≤ length l₁
       unsolved-end h = omega (arith, unsolved-length, p .place, put-length p, front-length route U G (map listedRecord (take told codes)))
 
       pub unsolved-put : {r : ℕ} {l₂ : List ℕ} → Put l₁ a (recordLines (noneRecord s ∷ endRecord route ∷ [])) r l₂
-          → Put l₀ at (recordLines (entryFrom route U G found codes)) r l₂
+          → Put l₀ at (recordLines (entryFrom route U G [] found codes)) r l₂
       unsolved-put q = put-same (put-both p q) (sym (lines-parts ∙ rw e))
 
 -- ---- what was listed is what is archived, and has room
+-- the order 0, 1, 2, ..
+pub default-asked : (U : ℕ) {order : List ℕ} → order ≡ defaultBytes U → U ≤ 6 → orderFits U order ≡ true
+default-asked U e few = rw e (default-fits U few)
+
+pub default-lists : (U G : ℕ) (t : List ℕ) {order : List ℕ} → order ≡ defaultBytes U → U ≤ 6 → {found : Listing} {codes : List ℕ}
+    → Lists (ordered U G (take U order) t) found codes → Lists (conditionOf U G t) found codes
+default-lists U G t e few w = rw (e, take-orderBytes U (defaultOrder U) few (default-each U)) at w
+
 module _ (route U G : ℕ) (t : List ℕ) {found : Listing} {codes : List ℕ} (w : Lists (conditionOf U G t) found codes) where
-  pub archived-put : {s : List ℕ} → t ≡ s → {at r : ℕ} {old new : List ℕ} → Put old at (recordLines (entryFrom route U G found codes)) r new
+  archived : entryFrom route U G [] found codes ≡ archivedRecords route (conditionOf U G t)
+  archived =
+      ap (λ (orders : List Record). entryFrom route U G orders found codes) (sym (default-left-out U G t)) ∙ w .records route
+
+  pub archived-put : {s : List ℕ} → t ≡ s → {at r : ℕ} {old new : List ℕ}
+      → Put old at (recordLines (entryFrom route U G [] found codes)) r new
       → Put old at (recordLines (archivedRecords route (conditionOf U G s))) r new
-  archived-put es p = put-same p (ap recordLines (w .records route ∙ ap (λ (x : List ℕ). archivedRecords route (conditionOf U G x)) es))
+  archived-put es p = put-same p (ap recordLines (archived ∙ ap (λ (x : List ℕ). archivedRecords route (conditionOf U G x)) es))
 
   pub archived-room : (at room : ℕ) → lettersFit U G ≡ true → at + lineRoom ≤ room
-      → at + length (recordLines (entryFrom route U G found codes)) ≤ room
-  unfolding entry
+      → at + length (recordLines (entryFrom route U G [] found codes)) ≤ room
+  unfolding bytes
   archived-room at room l h =
       let c : Condition = conditionOf U G t in
       omega (
         arith,
-        ap (λ (rs : List Record). length (recordLines rs)) (w .records route),
+        ap (λ (rs : List Record). length (recordLines rs)) archived,
         lines-most (archivedRecords route c) (written-whole route c _),
-        entry-bound route c l,
+        entry-without route c (solve c) (unknowns-small U G l) (letters-small U G l),
+        ap (λ (rs : List Record). length (bytes rs)) (default-left-out U G t),
       )
 
 -- ---- the written order
@@ -239,4 +258,4 @@ few-are n few ek e = rw ek e
 
 -- all of a buffer
 pub filled-order : (o : ℕ) {new : List ℕ} (rest : List ℕ) → length new ≡ 2 ^ o → new ≡ order o ++ rest → new ≡ order o
-filled-order o {new} rest h e = sym (take-all (2 ^ o) new (omega arith)) ∙ ordered o rest refl e
+filled-order o {new} rest h e = sym (take-all (2 ^ o) new (omega arith)) ∙ masks-ordered o rest refl e

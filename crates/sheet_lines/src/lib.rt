@@ -200,7 +200,7 @@ fn put_none(out: &mut [u8], at: usize, state: u8, route: usize) -> usize
     put_end(out, told, route)
 }
 
-// The records of an entry that was listed.
+// The records of an entry that was listed, its order being 0, 1, 2, ..
 fn put_found(
     out: &mut [u8],
     at: usize,
@@ -211,8 +211,8 @@ fn put_found(
     codes: &[u16],
 ) -> usize
     requires { ⌜ (route < 256) × (u < 256) × (g < 256) × (countOf found ≤ length (now codes))
-        × (at + length (recordLines (entryFrom route u g found (now codes))) ≤ length (now out)) ⌝ }
-    ensures { λ r. ⌜ Put (now (out .entry)) at (recordLines (entryFrom route u g found (now (codes .entry)))) r
+        × (at + length (recordLines (entryFrom route u g [] found (now codes))) ≤ length (now out)) ⌝ }
+    ensures { λ r. ⌜ Put (now (out .entry)) at (recordLines (entryFrom route u g [] found (now (codes .entry)))) r
         (now (out .exit)) ⌝ }
 {
     match found {
@@ -227,7 +227,8 @@ fn put_found(
     }
 }
 
-// The records of the entry of a condition by its values, which are used up. `masks` has the written order, `coefficients` and `codes` are room.
+// The records of the entry of a condition by its values, which are used up, unknown 0 going first, then 1, and so on. `masks` has the
+// written order, `coefficients` and `codes` are room.
 fn put_values(
     out: &mut [u8],
     at: usize,
@@ -246,7 +247,8 @@ fn put_values(
         (recordLines (archivedRecords route (conditionOf u g (tableOf (u + g) (now (values .entry)))))) r (now (out .exit)) ⌝ }
 {
     writer::transform(u + g, values, coefficients);
-    let found = writer::list_entry(u, g, coefficients, values, masks, codes);
+    let order = solution::default_order(u);
+    let found = writer::list_entry(u, g, order, coefficients, values, masks, codes);
     put_found(out, at, route, u, g, found, codes)
 }
 

@@ -17,11 +17,12 @@ use Rattle.tables.proofs.FirstNo.{no-to, yes-counts, each-yes, then-further, al
 use Rattle.tables.proofs.Questions.{failed, passed as yes-said, letters-small, unknowns-small, pow-small}
 use Rattle.tables.proofs.Questions.{room-enough, held-bits, lent-table}
 use Rattle.tables.proofs.Answered.{reply-behind, call-stops, call-refused, call-done, call-gives, call-first}
+use Rattle.solution.specs.Condition.{ordered}
 use Rattle.solution.specs.Order.{orderFits, lentCondition}
 use Rattle.calls.specs.Questions.{asksSolution, solvingQuestions, handedQuestions}
 use Rattle.calls.specs.Solving.{solvingCall, handedTable, handedCall}
 use Rattle.solver.specs.declared.Method.{Method}
-use Rattle.solver.specs.Inner.Methods.{tableQuestions, ordered, tableBy, solveBy}
+use Rattle.solver.specs.Inner.Methods.{tableQuestions, tableBy, solveBy}
 use Rattle.solver.proofs.OnWords.{length-tableBy}
 use Rattle.solver.proofs.Written.{handed-front, length-handed}
 

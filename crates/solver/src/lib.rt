@@ -19,13 +19,14 @@ ghost use Rattle.ring.specs.Table.{IsTable, AreBits, held, answerTable};
 ghost use Rattle.tables.specs.Questions.{firstNo};
 ghost use Rattle.tables.specs.Answered.{answered};
 ghost use Rattle.words.specs.Inner.Words.{wordsOf, bitAt, answerWords};
+ghost use Rattle.solution.specs.Condition.{ordered};
 ghost use Rattle.solution.specs.Order.{orderFits};
 ghost use Rattle.solution.specs.Inner.ByPoints.{zeroChoice};
 ghost use Rattle.calls.specs.declared.Solving.the-variants.{Said};
 ghost use Rattle.calls.specs.Questions.{handedQuestions};
 ghost use Rattle.calls.specs.Operations.{outcome};
 ghost use Rattle.calls.specs.Solving.{solving, solvingCall, booleCall, particularCall, lowenheimCall, handedTable, handedCall};
-ghost use Rattle.solver.specs.Inner.Methods.{tableQuestions, ordered, tableBy, solveBy, valueWords, booleWords, solveWords, verdict};
+ghost use Rattle.solver.specs.Inner.Methods.{tableQuestions, tableBy, solveBy, valueWords, booleWords, solveWords, verdict};
 ghost use Rattle.solver.specs.Inner.Words.{partValue, mixedValue};
 
 // Which answers are asked for.

@@ -1,38 +1,37 @@
 -- An entry, listed: the condition's monomials and those of the answers, unknown by unknown. The records of their numbers are the entry's,
--- and
--- their bytes are three for each monomial of the condition and four for each of an answer.
+-- and their bytes are three for each monomial of the condition and four for each of an answer.
 -- Assumes nothing.
 use mathlib.Core.Path.{_≡_, refl, sym, ap, ap₂, _∙_}
-use mathlib.Core.List.{List, [], _∷_, _++_, append-assoc, append-nil, map, map-append}
+use mathlib.Core.Bool.{true, cond}
+use mathlib.Core.List.{List, [], _∷_, _++_, append-assoc, map, map-append}
 use Prim.Native.Nat.{ℕ, zero, suc, _+_, _-_, _*_, _^_, _≤_, _<_}
-use native.Mathlib.Nat.{add-zero, zero-add, suc-mul, add-mul, one-mul, mul-le-mul, mul-le-mul-right}
-use native.Mathlib.Numerals.{add-one}
+use native.Mathlib.Nat.{zero-add}
 use native.Mathlib.Omega.{arith}
 use lib.Pow.{pow-mono}
 use lib.ListN.{length, take, drop, length-append, length-map}
 use Rattle.ring.specs.declared.State.{State}
 use Rattle.ring.specs.Polynomial.{Polynomial, value}
-use Rattle.ring.specs.Table.{IsTable, present, table, tabulate, held, answerTable}
-use Rattle.ring.proofs.Table.{present-table, held-answerTable, same-table, is-table, present-tabulate}
+use Rattle.ring.specs.Table.{present, table, held, answerTable}
+use Rattle.ring.proofs.Table.{present-table, held-answerTable}
 use Rattle.ring.proofs.Value.{value-cong, involution}
 use Rattle.tables.specs.Answered.{Reply, Answered}
 use Rattle.words.specs.Inner.Words.{wordsOf, bitAt, answerWords}
 use Rattle.words.proofs.Words.{at-known, words-cong, size-words}
-use Rattle.words.proofs.Letters.{room, value-low, values-taken, count-small}
+use Rattle.words.proofs.Letters.{room}
 use Rattle.order.specs.Order.{order, monomials}
 use Rattle.order.specs.Inner.Listing.{tagged, Listed}
-use Rattle.order.proofs.Lists.{length-keep}
-use Rattle.order.proofs.Order.{length-order, monomials-same}
-use Rattle.order.proofs.Listing.{length-tagged}
 use Rattle.elimination.proofs.Slots.{answer-part}
-use Rattle.solution.specs.Condition.{Condition, width, polynomial, conditionOf, defaultOrder}
+use Rattle.solution.specs.Condition.{Condition, ordered, width, polynomial, IsOrder}
+use Rattle.solution.specs.Order.{orderBytes, orderFits}
 use Rattle.solution.specs.Elimination.{Verdict, solved, none, booleAnswers, booleTable, solve}
-use Rattle.solution.proofs.Order.{default-order}
-use Rattle.solver.specs.Inner.Methods.{ordered, valueWords, verdict, solveWords}
+use Rattle.solution.proofs.Order.{fits-bytes}
+use Rattle.solver.specs.Inner.Methods.{valueWords, verdict, solveWords}
 use Rattle.solver.proofs.OnWords.{solved-by-values, none-by-values}
-use Rattle.entry.specs.Record.{Record, fields, lowFirst, bodyOf, conditionRecord, answerRecord, startRecord, endRecord, bytes}
+use Rattle.entry.specs.Record.{Record, fields, lowFirst, bodyOf, conditionRecord, answerRecord, startRecord, endRecord}
+use Rattle.entry.specs.Record.{isDefault, bytes}
 use Rattle.entry.specs.Inner.Codes.{listedRecord}
-use Rattle.entry.specs.Entry.{conditionRecords, answerRecords, verdictRecords, entryRecords, entry}
+use Rattle.entry.specs.Entry.{orderRecords, conditionRecords, answerRecords, verdictRecords, entryRecords, entry}
+use Rattle.entry.proofs.OrderRecord.{order-body}
 use Rattle.entry.proofs.Codes.{condition-codes, answer-codes}
 use Rattle.entry.proofs.Bound.{length-bytes, condition-bytes, answer-bytes, entry-most}
 use Rattle.entry.proofs.Verdicts.{VerdictFits, solve-fits}
@@ -40,7 +39,8 @@ use Rattle.calls.specs.declared.Verdict.{Verdict as Answer}
 use Rattle.calls.specs.declared.Verdict.the-variants as answers
 use Rattle.writer.specs.declared.Listing.{Listing}
 use Rattle.writer.specs.declared.Listing.the-variants.{Solved, None}
-use Rattle.writer.specs.Inner.Steps.{answerPart, answerCodes, sizeOf, entryFrom, Lists, Listable, Ready, Sized, handOut}
+use Rattle.writer.specs.Inner.Steps.{answerPart, answerCodes, sizeOf, archivedOrder, entryFrom, Lists, Listable}
+use Rattle.writer.specs.Inner.Steps.{Ready, Sized, handOut}
 use Rattle.writer.proofs.Monomials.{listed-both, packed-values, packed-table}
 
 -- ---- the answers
@@ -85,17 +85,25 @@ condition-size c =
     omega (arith, condition-bytes ms, length-map ms conditionRecord)
 
 entry-length : (route : ℕ) (c : Condition)
-    → length (entry route c) ≡ 6 + (length (bytes (conditionRecords c)) + length (bytes (verdictRecords (c .U) (width c) (solve c))))
+    → length (entry route c)
+    ≡ 6 + (length (bytes (orderRecords c))
+    + (length (bytes (conditionRecords c)) + length (bytes (verdictRecords (c .U) (width c) (solve c)))))
 unfolding entry entryRecords bytes fields bodyOf lowFirst
 entry-length route c =
+    let orders : List Record = orderRecords c in
     let told : List Record = conditionRecords c in
     let said : List Record = verdictRecords (c .U) (width c) (solve c) in
-    omega (arith, length-bytes told (said ++ (endRecord route ∷ [])), length-bytes said (endRecord route ∷ []))
+    omega (
+      arith,
+      length-bytes orders (told ++ (said ++ (endRecord route ∷ []))),
+      length-bytes told (said ++ (endRecord route ∷ [])),
+      length-bytes said (endRecord route ∷ []),
+    )
 
 -- ---- an entry, from the coefficients of its condition
-module _ (U G : ℕ) (coefficients : List ℕ) where
+module _ (U G : ℕ) (o coefficients : List ℕ) where
   abbrev pub theCondition : Condition
-  theCondition = conditionOf U G (table (U + G) (bitAt coefficients))
+  theCondition = ordered U G o (table (U + G) (bitAt coefficients))
 
   module _ (h : U + G ≤ 10) {old codes : List ℕ} {told : ℕ}
       (w : Listed old 0 (tagged 0 (monomials (U + G) (bitAt coefficients))) told codes) where
@@ -121,7 +129,7 @@ module _ (U G : ℕ) (coefficients : List ℕ) where
           size = none-size;
         }
       where
-        none-size : (route : ℕ) → 6 + (3 * told + 2) ≡ length (entry route theCondition)
+        none-size : (route : ℕ) → 6 + (length (bytes (orderRecords theCondition)) + (3 * told + 2)) ≡ length (entry route theCondition)
         none-size route =
             omega (arith, entry-length route theCondition, condition-size theCondition, told-is, said-length e)
 
@@ -144,12 +152,13 @@ module _ (U G : ℕ) (coefficients : List ℕ) where
             told = omega (arith, a .place);
             count = omega (arith, a .inside, a .long);
             records = λ route.
-                rw (e, both-listed) (ap (λ (l : List Record). startRecord route U G ∷ l)
+                rw (e, both-listed) (ap (λ (l : List Record). startRecord route U G ∷ (orderRecords theCondition ++ l))
                 (append-assoc (conditionRecords theCondition) (answerRecords U (U + G) (answerTable U (U + G) b)) (endRecord route ∷ [])));
             size = solved-size;
           }
         where
-          solved-size : (route : ℕ) → 6 + (3 * told + 4 * (all - told)) ≡ length (entry route theCondition)
+          solved-size : (route : ℕ)
+              → 6 + (length (bytes (orderRecords theCondition)) + (3 * told + 4 * (all - told))) ≡ length (entry route theCondition)
           solved-size route =
               omega (
                 arith,
@@ -164,30 +173,28 @@ module _ (U G : ℕ) (coefficients : List ℕ) where
               )
 
   -- the verdict by values is the entry's
-  module _ {values order : List ℕ} (ev : values ≡ wordsOf (2 ^ (U + G - 6)) (value (U + G) (bitAt coefficients)))
-      (eo : order ≡ defaultOrder U)
+  module _ {values : List ℕ} (ev : values ≡ wordsOf (2 ^ (U + G - 6)) (value (U + G) (bitAt coefficients)))
       (v : Answer) (ws : List ℕ)
-      (says : (t : List ℕ) → values ≡ valueWords (ordered U G order t) → verdict v ws ≡ solveWords (ordered U G order t)) where
+      (says : (t : List ℕ) → values ≡ valueWords (ordered U G o t) → verdict v ws ≡ solveWords (ordered U G o t)) where
     said : verdict v ws ≡ solveWords theCondition
     said =
         says (theCondition .table)
         (ev ∙ words-cong (2 ^ (U + G - 6)) _ _
         (λ p l. value-cong (U + G) _ _ p (λ m k. sym (present-table (U + G) (bitAt coefficients) m k))))
-        ∙ ap (λ (o : List ℕ). solveWords (ordered U G o (theCondition .table))) eo
 
     pub said-none : {state : State} → v ≡ answers.None state → solve theCondition ≡ none state
     said-none {state} e = none-by-values theCondition state (rw e at said)
 
     pub said-solved : v ≡ answers.Solved
-        → (solve theCondition ≡ solved (answerTable U (U + G) (booleAnswers (U + G) (polynomial theCondition) (defaultOrder U))))
-        × (ws ≡ answerWords U (2 ^ (U + G - 6)) (λ j. value (U + G) (booleAnswers (U + G) (polynomial theCondition) (defaultOrder U) j)))
+        → (solve theCondition ≡ solved (answerTable U (U + G) (booleAnswers (U + G) (polynomial theCondition) o)))
+        × (ws ≡ answerWords U (2 ^ (U + G - 6)) (λ j. value (U + G) (booleAnswers (U + G) (polynomial theCondition) o j)))
     unfolding booleTable
     said-solved e = solved-by-values theCondition ws (rw e at said)
 
     -- a state is a byte
-    pub state-byte : {state : State} → v ≡ answers.None state → G ≤ 8 → state .0 < 256
-    state-byte {state} e h =
-        let f : VerdictFits U G (none state) = rw (said-none e) at (solve-fits theCondition (default-order U)) in
+    pub state-byte : {state : State} → IsOrder U o → v ≡ answers.None state → G ≤ 8 → state .0 < 256
+    state-byte {state} is e h =
+        let f : VerdictFits U G (none state) = rw (said-none e) at (solve-fits theCondition is) in
         let b : 2 ^ G ≤ 2 ^ 8 = pow-mono h in
         omega arith
 
@@ -203,7 +210,7 @@ module _ (U G : ℕ) (coefficients : List ℕ) where
 
 -- ---- what was listed is the entry
 -- a condition's table in words
-module _ (U G : ℕ) (t coefficients values masks : List ℕ) (r : Ready (conditionOf U G t))
+module _ (U G : ℕ) (bs t coefficients values masks : List ℕ) (r : Ready U G bs t)
     (e : coefficients ≡ wordsOf (2 ^ (U + G - 6)) (present t)) where
   pub ready-listable : values ≡ wordsOf (2 ^ (U + G - 6)) (value (6 + (U + G - 6)) (bitAt coefficients)) → masks ≡ order (U + G)
       → Listable U G coefficients values masks
@@ -217,27 +224,42 @@ module _ (U G : ℕ) (t coefficients values masks : List ℕ) (r : Ready (condit
         ordered = em;
       }
 
-  pub ready-lists : {found : Listing} {codes : List ℕ} → Lists (conditionOf U G (table (U + G) (bitAt coefficients))) found codes
-      → Lists (conditionOf U G t) found codes
+  pub ready-lists : {found : Listing} {codes : List ℕ} → Lists (ordered U G (take U bs) (table (U + G) (bitAt coefficients))) found codes
+      → Lists (ordered U G (take U bs) t) found codes
   ready-lists w = rw (packed-table (U + G) t coefficients (r .is-table) e) at w
 
-module _ (route : ℕ) {c : Condition} {found : Listing} {codes : List ℕ} (w : Lists c found codes) where
-  pub lists-bytes : bytes (entryFrom route (c .U) (c .G) found codes) ≡ entry route c
-  unfolding entry
-  lists-bytes = ap bytes (w .records route)
+-- the record of an order that passes 17
+orders-are : (U G : ℕ) (bs t : List ℕ) → orderFits U bs ≡ true → orderRecords (ordered U G (take U bs) t) ≡ archivedOrder U bs
+unfolding orderRecords archivedOrder
+orders-are U G bs t fits =
+    ap (λ (r : Record). cond (isDefault U (orderBytes (take U bs))) [] (r ∷ [])) (order-body (take U bs))
+    ∙ ap (λ (l : List ℕ). cond (isDefault U l) [] ((6 ∷ l) ∷ [])) (sym (fits-bytes U bs fits))
 
-  -- 'No entry exceeds 27,654 bytes'
-  pub lists-sized : c .U ≤ 6 → width c ≤ 10 → Sized found codes (bytes (entryFrom route (c .U) (c .G) found codes))
+module _ (route U G : ℕ) (bs t : List ℕ) (r : Ready U G bs t) {found : Listing} {codes : List ℕ}
+    (w : Lists (ordered U G (take U bs) t) found codes) where
+  abbrev made : List ℕ
+  made = bytes (entryFrom route U G (archivedOrder U bs) found codes)
+
+  abbrev c : Condition
+  c = ordered U G (take U bs) t
+
+  made-is : made ≡ entry route c
   unfolding entry
-  lists-sized hu hn =
+  made-is =
+      ap (λ (orders : List Record). bytes (entryFrom route U G orders found codes)) (sym (orders-are U G bs t (r .in-order)))
+      ∙ ap bytes (w .records route)
+
+  pub lists-sized : Sized (archivedOrder U bs) found codes made
+  unfolding entry
+  lists-sized =
       record {
         told = w .told;
         count = w .count;
-        size = w .size route ∙ sym (ap length lists-bytes);
-        small = omega (arith, w .size route, entry-most route c (solve c) hu hn);
+        size = ap (λ (orders : List Record). 6 + (length (bytes orders) + sizeOf found)) (sym (orders-are U G bs t (r .in-order)))
+            ∙ w .size route ∙ sym (ap length made-is);
+        small = omega (arith, ap length made-is, entry-most route c (solve c) (r .unknowns) (r .letters));
       }
 
   -- question 14 of its bytes is that of the entry
-  pub lists-out : {done : Answered Reply} (out : List ℕ) → done ≡ handOut (bytes (entryFrom route (c .U) (c .G) found codes)) out
-      → done ≡ handOut (entry route c) out
-  lists-out out e = e ∙ ap (λ (made : List ℕ). handOut made out) lists-bytes
+  pub lists-out : {done : Answered Reply} (out : List ℕ) → done ≡ handOut made out → done ≡ handOut (entry route c) out
+  lists-out out e = e ∙ ap (λ (bytes : List ℕ). handOut bytes out) made-is

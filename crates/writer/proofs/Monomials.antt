@@ -2,7 +2,7 @@
 -- by unknown.
 -- Assumes nothing.
 use mathlib.Core.Path.{_≡_, refl, sym, ap, ap₂, _∙_}
-use mathlib.Core.List.{List, [], _∷_, _++_, append-assoc, append-nil}
+use mathlib.Core.List.{List, [], _++_, append-assoc, append-nil}
 use Prim.Native.Nat.{ℕ, zero, suc, _+_, _-_, _*_, _^_, _≤_, _<_}
 use native.Mathlib.Nat.{add-zero, suc-mul, add-mul, one-mul, mul-le-mul, mul-le-mul-right}
 use native.Mathlib.Numerals.{add-one}
@@ -120,10 +120,6 @@ answers-room U n f tag h hn r w =
 
 pub words-fit : (u k n : ℕ) → u ≤ 6 → k ≡ 2 ^ (n - 6) → n ≤ 10 → u * k ≤ 96
 words-fit u k n h e hn = let m : u * k ≤ 6 * 16 = mul-le-mul h (count-small k n e hn) in omega arith
-
--- document 01's order of the unknowns, as far as there are any
-pub unknowns-part : (u : ℕ) → u ≤ 6 → u ≡ length {A = ℕ} (take u (0 ∷ 1 ∷ 2 ∷ 3 ∷ 4 ∷ 5 ∷ []))
-unknowns-part u h = sym (length-take-le {A = ℕ} u (0 ∷ 1 ∷ 2 ∷ 3 ∷ 4 ∷ 5 ∷ []) h)
 
 -- the parts of scratch words that are lent on, for one polynomial and for u of them
 module _ (k n : ℕ) (l : List ℕ) (e : k ≡ 2 ^ (n - 6)) (h : n ≤ 10) where

@@ -1,28 +1,30 @@
 // Writing an archive entry: the condition is solved here, so that the answers are Boole's. `write_entry` is the public call of the library.
-// `list_entry` is for the program that prints entries too: all monomials of an entry, as numbers, from a condition's coefficients and values
-// in words. The other functions are inner work.
+// `list_entry` is for the program that prints entries too: all monomials of an entry, as numbers, from a condition's coefficients and
+// values in words. The other functions are inner work. An order comes as six bytes, first eliminated first, 255 behind its unknowns.
 use calls::Verdict;
 use calls::Written;
 use tables::Question;
 ghost use mathlib.Core.Path.{_≡_};
-ghost use mathlib.Core.List.{[], _∷_, map};
+ghost use mathlib.Core.Bool.{true};
+ghost use mathlib.Core.List.{[], _∷_, _++_, map};
 ghost use Prim.Native.Nat.{_+_, _-_, _*_, _^_, _≤_, _<_};
-ghost use lib.ListN.{length};
+ghost use lib.ListN.{length, take};
 ghost use Rattle.ring.specs.Polynomial.{value};
 ghost use Rattle.ring.specs.Table.{table};
 ghost use Rattle.tables.specs.Questions.{firstNo};
 ghost use Rattle.tables.specs.Answered.{answered};
 ghost use Rattle.tables.specs.Inner.Put.{Put};
 ghost use Rattle.words.specs.Inner.Words.{wordsOf, bitAt};
-ghost use Rattle.order.specs.Order.{order, monomials};
+ghost use Rattle.order.specs.Order.{order as writtenOrder, monomials};
 ghost use Rattle.order.specs.Inner.Listing.{tagged, Listed};
-ghost use Rattle.solution.specs.Condition.{conditionOf, defaultOrder};
+ghost use Rattle.solution.specs.Condition.{ordered};
+ghost use Rattle.solution.specs.Order.{orderFits};
 ghost use Rattle.entry.specs.Record.{bytes};
 ghost use Rattle.entry.specs.Inner.Codes.{listedRecord};
 ghost use Rattle.entry.specs.Entry.{entry};
 ghost use Rattle.calls.specs.Entries.{writeCall, written};
-ghost use Rattle.writer.specs.Inner.Steps.{answerCodes, countOf, toldOf, sizeOf, entryFrom, Lists, Listable, Ready, Sized};
-ghost use Rattle.writer.specs.Inner.Steps.{conditionQuestions, handOut};
+ghost use Rattle.writer.specs.Inner.Steps.{answerCodes, countOf, toldOf, sizeOf, archivedOrder, entryFrom};
+ghost use Rattle.writer.specs.Inner.Steps.{Lists, Listable, Ready, Sized, conditionQuestions, handOut};
 
 // What listing an entry finds: how many monomials the condition has, and how many it has with its answers; or, where there is no solution,
 // how many the condition has, and the state.
@@ -87,7 +89,7 @@ fn list_values(
     from: usize,
     own: &mut [u64],
 ) -> usize
-    requires { ⌜ (n ≤ 10) × (tag + 1024 ≤ 65536) × (length (now values) ≡ 2 ^ (n - 6)) × (now masks ≡ order n)
+    requires { ⌜ (n ≤ 10) × (tag + 1024 ≤ 65536) × (length (now values) ≡ 2 ^ (n - 6)) × (now masks ≡ writtenOrder n)
         × (from + 2 ^ n ≤ length (now codes)) × (length (now own) ≡ 2 ^ (n - 6)) ⌝ }
     ensures { λ r. ⌜ Listed (now (codes .entry)) from (tagged tag (monomials n (value n (bitAt (now (values .entry)))))) r
         (now (codes .exit)) ⌝ }
@@ -105,7 +107,7 @@ fn list_answer(
     codes: &mut [u16],
     from: usize,
 ) -> usize
-    requires { ⌜ (j < 6) × (n ≤ 10) × (length (now values) ≡ 2 ^ (n - 6)) × (now masks ≡ order n)
+    requires { ⌜ (j < 6) × (n ≤ 10) × (length (now values) ≡ 2 ^ (n - 6)) × (now masks ≡ writtenOrder n)
         × (from + 2 ^ n ≤ length (now codes)) ⌝ }
     ensures { λ r. ⌜ Listed (now (codes .entry)) from (tagged (1024 * (j + 1)) (monomials n (value n (bitAt (now (values .entry))))))
         r (now (codes .exit)) ⌝ }
@@ -123,7 +125,7 @@ fn list_answers(
     codes: &mut [u16],
     from: usize,
 ) -> usize
-    requires { ⌜ (u ≤ 6) × (n ≤ 10) × (length (now answers) ≡ u * 2 ^ (n - 6)) × (now masks ≡ order n)
+    requires { ⌜ (u ≤ 6) × (n ≤ 10) × (length (now answers) ≡ u * 2 ^ (n - 6)) × (now masks ≡ writtenOrder n)
         × (from + u * 2 ^ n ≤ length (now codes)) ⌝ }
     ensures { λ r. ⌜ Listed (now (codes .entry)) from (answerCodes u n (now (answers .entry))) r (now (codes .exit)) ⌝ }
 {
@@ -141,16 +143,16 @@ fn list_answers(
 fn list_with(
     u: usize,
     g: usize,
+    order: [u8; 6],
     coefficients: &[u64],
     values: &mut [u64],
     masks: &[u16],
     codes: &mut [u16],
-    order: &[usize],
     answers: &mut [u64],
 ) -> Listing
-    requires { ⌜ Listable u g (now coefficients) (now values) (now masks) × (7168 ≤ length (now codes)) × (now order ≡ defaultOrder u)
+    requires { ⌜ Listable u g (now coefficients) (now values) (now masks) × (7168 ≤ length (now codes)) × (orderFits u order ≡ true)
         × (length (now answers) ≡ u * 2 ^ (u + g - 6)) ⌝ }
-    ensures { λ r. ⌜ Lists (conditionOf u g (table (u + g) (bitAt (now (coefficients .entry))))) r (now (codes .exit)) ⌝ }
+    ensures { λ r. ⌜ Lists (ordered u g (take u order) (table (u + g) (bitAt (now (coefficients .entry))))) r (now (codes .exit)) ⌝ }
 {
     let told = order::list_monomials(u + g, 0, coefficients, masks, codes, 0);
     match solver::solve_values(u, g, order, values, answers) {
@@ -167,25 +169,25 @@ fn list_with(
 pub fn list_entry(
     u: usize,
     g: usize,
+    order: [u8; 6],
     coefficients: &[u64],
     values: &mut [u64],
     masks: &[u16],
     codes: &mut [u16],
 ) -> Listing
-    requires { ⌜ Listable u g (now coefficients) (now values) (now masks) × (7168 ≤ length (now codes)) ⌝ }
-    ensures { λ r. ⌜ Lists (conditionOf u g (table (u + g) (bitAt (now (coefficients .entry))))) r (now (codes .exit)) ⌝ }
+    requires { ⌜ Listable u g (now coefficients) (now values) (now masks) × (7168 ≤ length (now codes)) × (orderFits u order ≡ true) ⌝ }
+    ensures { λ r. ⌜ Lists (ordered u g (take u order) (table (u + g) (bitAt (now (coefficients .entry))))) r (now (codes .exit)) ⌝ }
 {
     let size = u * words::word_count(u + g);
-    let order = [0usize, 1, 2, 3, 4, 5];
     let mut answers = [0u64; 96];
     list_with(
         u,
         g,
+        order,
         coefficients,
         values,
         masks,
         codes,
-        &order[..u],
         &mut answers[..size],
     )
 }
@@ -216,29 +218,60 @@ fn put_monomials(codes: &[u16], out: &mut [u8], from: usize) -> usize
     at
 }
 
-// The entry's start and its monomials.
-fn put_front(route: u8, u: usize, g: usize, codes: &[u16], out: &mut [u8]) -> usize
-    requires { ⌜ (u ≤ 6) × (g ≤ 8) × (4 + length (bytes (map listedRecord (now codes))) ≤ length (now out)) ⌝ }
-    ensures { λ r. ⌜ Put (now (out .entry)) 0 (1 ∷ route ∷ u ∷ g ∷ bytes (map listedRecord (now (codes .entry)))) r
-        (now (out .exit)) ⌝ }
+// The record of an order.
+fn put_order(order: [u8; 6], out: &mut [u8], at: usize) -> usize
+    requires { ⌜ at + 7 ≤ length (now out) ⌝ }
+    ensures { λ r. ⌜ Put (now (out .entry)) at (6 ∷ order) r (now (out .exit)) ⌝ }
+{
+    let half = put4(out, at, 6, order[0], order[1], order[2]);
+    put3(out, half, order[3], order[4], order[5])
+}
+
+// The entry's start, and its order unless that is 0, 1, 2, ..
+fn put_start(route: u8, u: usize, g: usize, order: [u8; 6], out: &mut [u8]) -> usize
+    requires { ⌜ (u ≤ 6) × (g ≤ 8) × (4 + length (bytes (archivedOrder u order)) ≤ length (now out)) ⌝ }
+    ensures { λ r. ⌜ Put (now (out .entry)) 0 (1 ∷ route ∷ u ∷ g ∷ bytes (archivedOrder u order)) r (now (out .exit)) ⌝ }
 {
     let started = put4(out, 0, 1, route, u as u8, g as u8);
+    if entry::is_default(u, order) {
+        return started;
+    }
+    put_order(order, out, started)
+}
+
+// The entry's start and its monomials.
+fn put_front(route: u8, u: usize, g: usize, order: [u8; 6], codes: &[u16], out: &mut [u8]) -> usize
+    requires { ⌜ (u ≤ 6) × (g ≤ 8)
+        × (4 + (length (bytes (archivedOrder u order)) + length (bytes (map listedRecord (now codes)))) ≤ length (now out)) ⌝ }
+    ensures { λ r. ⌜ Put (now (out .entry)) 0
+        (1 ∷ route ∷ u ∷ g ∷ (bytes (archivedOrder u order) ++ bytes (map listedRecord (now (codes .entry))))) r (now (out .exit)) ⌝ }
+{
+    let started = put_start(route, u, g, order, out);
     put_monomials(codes, out, started)
 }
 
 // The entry that was listed, at the start of `out`.
-fn compose(route: u8, u: usize, g: usize, found: Listing, codes: &[u16], out: &mut [u8]) -> usize
+fn compose(
+    route: u8,
+    u: usize,
+    g: usize,
+    order: [u8; 6],
+    found: Listing,
+    codes: &[u16],
+    out: &mut [u8],
+) -> usize
     requires { ⌜ (u ≤ 6) × (g ≤ 8) × (countOf found ≤ length (now codes))
-        × (length (bytes (entryFrom route u g found (now codes))) ≤ length (now out)) ⌝ }
-    ensures { λ r. ⌜ Put (now (out .entry)) 0 (bytes (entryFrom route u g found (now (codes .entry)))) r (now (out .exit)) ⌝ }
+        × (length (bytes (entryFrom route u g (archivedOrder u order) found (now codes))) ≤ length (now out)) ⌝ }
+    ensures { λ r. ⌜ Put (now (out .entry)) 0 (bytes (entryFrom route u g (archivedOrder u order) found (now (codes .entry)))) r
+        (now (out .exit)) ⌝ }
 {
     match found {
         Listing::Solved(_, all) => {
-            let solved = put_front(route, u, g, &codes[..all], out);
+            let solved = put_front(route, u, g, order, &codes[..all], out);
             put2(out, solved, 4, route)
         }
         Listing::None(told, state) => {
-            let listed = put_front(route, u, g, &codes[..told], out);
+            let listed = put_front(route, u, g, order, &codes[..told], out);
             let none = put2(out, listed, 5, state);
             put2(out, none, 4, route)
         }
@@ -247,7 +280,7 @@ fn compose(route: u8, u: usize, g: usize, found: Listing, codes: &[u16], out: &m
 
 // How many bytes the monomials and the verdict take: three for a monomial of the condition, four for one of an answer, two for 'none'.
 fn records_size(found: Listing) -> usize
-    requires { ⌜ (toldOf found ≤ countOf found) × (sizeOf found ≤ 27648) ⌝ }
+    requires { ⌜ (toldOf found ≤ countOf found) × (sizeOf found ≤ 27661) ⌝ }
     ensures { λ r. ⌜ r ≡ sizeOf found ⌝ }
 {
     match found {
@@ -256,42 +289,68 @@ fn records_size(found: Listing) -> usize
     }
 }
 
-// Question 14 of a listed entry, before anything is written.
-fn hand_out(route: u8, u: usize, g: usize, found: Listing, codes: &[u16], out: &mut [u8]) -> Written
-    requires { ⌜ (u ≤ 6) × (g ≤ 8) × Sized found (now codes) (bytes (entryFrom route u g found (now codes))) ⌝ }
-    ensures { λ r. ⌜ answered (written r) (now (out .exit) ∷ [])
-        ≡ handOut (bytes (entryFrom route u g found (now (codes .entry)))) (now (out .entry)) ⌝ }
+// How many bytes the order takes.
+fn order_size(u: usize, order: [u8; 6]) -> usize
+    ensures { λ r. ⌜ (r ≡ length (bytes (archivedOrder u order))) × (r ≤ 7) ⌝ }
 {
-    let size = 6 + records_size(found);
+    if entry::is_default(u, order) {
+        return 0;
+    }
+    7
+}
+
+// Question 14 of a listed entry, before anything is written.
+fn hand_out(
+    route: u8,
+    u: usize,
+    g: usize,
+    order: [u8; 6],
+    found: Listing,
+    codes: &[u16],
+    out: &mut [u8],
+) -> Written
+    requires { ⌜ (u ≤ 6) × (g ≤ 8)
+        × Sized (archivedOrder u order) found (now codes) (bytes (entryFrom route u g (archivedOrder u order) found (now codes))) ⌝ }
+    ensures { λ r. ⌜ answered (written r) (now (out .exit) ∷ [])
+        ≡ handOut (bytes (entryFrom route u g (archivedOrder u order) found (now (codes .entry)))) (now (out .entry)) ⌝ }
+{
+    let size = 6 + (order_size(u, order) + records_size(found));
     if out.len() < size {
         return Written::Refused(tables::number(Question::Output));
     }
-    Written::Done(compose(route, u, g, found, codes, out))
+    Written::Done(compose(route, u, g, order, found, codes, out))
 }
 
 // The condition's coefficients and values, with room for them lent.
 fn list_table(
     u: usize,
     g: usize,
+    order: [u8; 6],
     condition: &[u8],
     coefficients: &mut [u64],
     values: &mut [u64],
     masks: &[u16],
     codes: &mut [u16],
 ) -> Listing
-    requires { ⌜ Ready (conditionOf u g (now condition)) × (length (now coefficients) ≡ 2 ^ (u + g - 6))
-        × (length (now values) ≡ 2 ^ (u + g - 6)) × (now masks ≡ order (u + g)) × (7168 ≤ length (now codes)) ⌝ }
-    ensures { λ r. ⌜ Lists (conditionOf u g (now (condition .entry))) r (now (codes .exit)) ⌝ }
+    requires { ⌜ Ready u g order (now condition) × (length (now coefficients) ≡ 2 ^ (u + g - 6))
+        × (length (now values) ≡ 2 ^ (u + g - 6)) × (now masks ≡ writtenOrder (u + g)) × (7168 ≤ length (now codes)) ⌝ }
+    ensures { λ r. ⌜ Lists (ordered u g (take u order) (now (condition .entry))) r (now (codes .exit)) ⌝ }
 {
     words::pack(u + g, condition, coefficients);
     transform(u + g, coefficients, values);
-    list_entry(u, g, coefficients, values, masks, codes)
+    list_entry(u, g, order, coefficients, values, masks, codes)
 }
 
 // The scratch words and the written order live here.
-fn list_condition(u: usize, g: usize, condition: &[u8], codes: &mut [u16]) -> Listing
-    requires { ⌜ Ready (conditionOf u g (now condition)) × (7168 ≤ length (now codes)) ⌝ }
-    ensures { λ r. ⌜ Lists (conditionOf u g (now (condition .entry))) r (now (codes .exit)) ⌝ }
+fn list_condition(
+    u: usize,
+    g: usize,
+    order: [u8; 6],
+    condition: &[u8],
+    codes: &mut [u16],
+) -> Listing
+    requires { ⌜ Ready u g order (now condition) × (7168 ≤ length (now codes)) ⌝ }
+    ensures { λ r. ⌜ Lists (ordered u g (take u order) (now (condition .entry))) r (now (codes .exit)) ⌝ }
 {
     let k = words::word_count(u + g);
     let all = tables::pow2(u + g);
@@ -302,6 +361,7 @@ fn list_condition(u: usize, g: usize, condition: &[u8], codes: &mut [u16]) -> Li
     list_table(
         u,
         g,
+        order,
         condition,
         &mut coefficients[..k],
         &mut values[..k],
@@ -315,41 +375,50 @@ fn write_ready(
     route: u8,
     u: usize,
     g: usize,
+    order: [u8; 6],
     condition: &[u8],
     codes: &mut [u16],
     out: &mut [u8],
 ) -> Written
-    requires { ⌜ Ready (conditionOf u g (now condition)) × (7168 ≤ length (now codes)) ⌝ }
+    requires { ⌜ Ready u g order (now condition) × (7168 ≤ length (now codes)) ⌝ }
     ensures { λ r. ⌜ answered (written r) (now (out .exit) ∷ [])
-        ≡ handOut (entry route (conditionOf u g (now (condition .entry)))) (now (out .entry)) ⌝ }
+        ≡ handOut (entry route (ordered u g (take u order) (now (condition .entry)))) (now (out .entry)) ⌝ }
 {
-    let found = list_condition(u, g, condition, codes);
-    hand_out(route, u, g, found, codes, out)
+    let found = list_condition(u, g, order, condition, codes);
+    hand_out(route, u, g, order, found, codes, out)
 }
 
-// The first no of 1, 2, 4 and 8, or 0.
-fn condition_refusal(route: usize, u: usize, g: usize, condition: &[u8]) -> u8
-    ensures { λ r. ⌜ r ≡ firstNo (conditionQuestions route u g (now (condition .entry))) ⌝ }
+// The first no of 1, 2, 17, 4 and 8, or 0.
+fn condition_refusal(route: usize, u: usize, g: usize, order: [u8; 6], condition: &[u8]) -> u8
+    ensures { λ r. ⌜ r ≡ firstNo (conditionQuestions route u g order (now (condition .entry))) ⌝ }
 {
     if !tables::letters_fit(u, g) {
         return tables::number(Question::Letters);
     }
     let k = tables::pow2(u + g);
     let first = tables::ask(0, Question::Route, entry::route_fits(route));
-    let second = tables::ask(first, Question::Room, tables::has_room(k, condition.len()));
-    tables::ask(second, Question::Bits, tables::holds_bits(k, condition))
+    let second = tables::ask(first, Question::Order, solution::order_fits(u, order));
+    let third = tables::ask(second, Question::Room, tables::has_room(k, condition.len()));
+    tables::ask(third, Question::Bits, tables::holds_bits(k, condition))
 }
 
-// Writes the entry of a condition table to the front of `out`.
-pub fn write_entry(route: usize, u: usize, g: usize, condition: &[u8], out: &mut [u8]) -> Written
+// Writes the entry of a condition table, solved by an order, to the front of `out`.
+pub fn write_entry(
+    route: usize,
+    u: usize,
+    g: usize,
+    order: [u8; 6],
+    condition: &[u8],
+    out: &mut [u8],
+) -> Written
     ensures { λ r. ⌜ answered (written r) (now (out .exit) ∷ [])
-        ≡ writeCall route u g (now (condition .entry)) (now (out .entry)) ⌝ }
+        ≡ writeCall route u g order (now (condition .entry)) (now (out .entry)) ⌝ }
 {
-    let refusal = condition_refusal(route, u, g, condition);
+    let refusal = condition_refusal(route, u, g, order, condition);
     if refusal != 0 {
         return Written::Refused(refusal);
     }
     let k = tables::pow2(u + g);
     let mut codes = [0u16; 7168];
-    write_ready(route as u8, u, g, &condition[..k], &mut codes, out)
+    write_ready(route as u8, u, g, order, &condition[..k], &mut codes, out)
 }

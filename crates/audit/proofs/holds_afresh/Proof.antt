@@ -7,7 +7,6 @@ use lib.Seq.{length-take-le}
 use Rattle.tables.proofs.Questions.{pow-small}
 use Rattle.words.proofs.Letters.{count-small}
 use Rattle.reader.proofs.Buffers.{heading-small, heading-unknowns, size-small}
-use Rattle.solver.proofs.OnWords.{first-unknowns}
 use Rattle.audit.proofs.Same.{every-small}
 use Rattle.audit.proofs.holds_afresh.Statement.{statement}
 use Rattle.audit.proofs.holds_afresh.Tie as tie
@@ -34,11 +33,11 @@ every-fit c = every-small _ _ _ (few c) (small (c .before .before)) (c .word-cou
 
 answers-hold-requires : tie.Need-answers-hold-requires
 answers-hold-requires c κs =
-    let known = c .before .before .before .before .before .before in
-    let start = c .before .before .before .before .before .before .before .before .before .before in
-    let e = c .before .before .before .before .before .before .before .pow2 .ensures in
+    let known = c .before .before .before .before .before in
+    let start = c .before .before .before .before .before .before .before .before .before in
+    let e = c .before .before .before .before .before .before .pow2 .ensures in
     let f = known .word-count .ensures in (
-      (start .pre, first-unknowns _ (few known)),
+      start .pre,
       (
         (length-take-le _ _ (fits known) ∙ e, length-take-le _ _ (all-fit known) ∙ ap (λ k. start .args .heading .unknowns * k) e),
         (
@@ -59,17 +58,15 @@ holds-afresh-spec =
     (λ c κs. small (c .before))
     (λ c. omega (arith, all-fit c))
     (λ c. omega (arith, every-fit c))
-    (λ c. few c)
-    (λ c. sym (length-take-le _ _ (few (c .before))))
-    (λ c. fits (c .before))
-    (λ c. sym (length-take-le _ _ (fits (c .before .before))))
-    (λ c. all-fit (c .before .before))
-    (λ c. sym (length-take-le _ _ (all-fit (c .before .before .before))))
-    (λ c. words-fit (c .before .before .before))
-    (λ c. sym (length-take-le _ _ (words-fit (c .before .before .before .before))))
-    (λ c. every-fit (c .before .before .before .before))
-    (λ c. sym (length-take-le _ _ (every-fit (c .before .before .before .before .before))))
-    (λ c. words-fit (c .before .before .before .before .before))
-    (λ c. sym (length-take-le _ _ (words-fit (c .before .before .before .before .before .before))))
+    (λ c. fits c)
+    (λ c. sym (length-take-le _ _ (fits (c .before))))
+    (λ c. all-fit (c .before))
+    (λ c. sym (length-take-le _ _ (all-fit (c .before .before))))
+    (λ c. words-fit (c .before .before))
+    (λ c. sym (length-take-le _ _ (words-fit (c .before .before .before))))
+    (λ c. every-fit (c .before .before .before))
+    (λ c. sym (length-take-le _ _ (every-fit (c .before .before .before .before))))
+    (λ c. words-fit (c .before .before .before .before))
+    (λ c. sym (length-take-le _ _ (words-fit (c .before .before .before .before .before))))
     answers-hold-requires
     (λ c. search needs))

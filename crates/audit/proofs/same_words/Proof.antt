@@ -4,7 +4,7 @@ use mathlib.Core.Path.{_≡_, refl}
 use Prim.Native.Nat.{_-_}
 use lib.ListN.{length, drop}
 use borrow.Author.Needs.{needs}
-use Rattle.entry.specs.Questions.{sameBytes}
+use Rattle.entry.specs.Record.{sameBytes}
 use Rattle.audit.proofs.Same.{bytes-end, bytes-differ, bytes-next}
 use Rattle.audit.proofs.same_words.Statement.{statement}
 use Rattle.audit.proofs.same_words.Tie as tie

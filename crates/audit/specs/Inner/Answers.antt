@@ -4,7 +4,7 @@ use mathlib.Core.Path.{_≡_}
 use mathlib.Core.List.{List}
 use Prim.Native.Nat.{ℕ}
 use Rattle.tables.specs.Questions.{firstNo}
-use Rattle.entry.specs.Held.{records, heldVerdict}
+use Rattle.entry.specs.Held.{records, orderIn, heldVerdict}
 use Rattle.calls.specs.declared.Heading.{Heading}
 use Rattle.calls.specs.declared.Verdict.{Verdict}
 use Rattle.calls.specs.Questions.{entryQuestions}
@@ -17,8 +17,9 @@ pub record AreAnswers (U n : ℕ) (t : List ℕ) : Type 0 where
   pub polynomials : ℕ → Polynomial
   pub are : t ≡ answerTable U n polynomials
 
--- the heading of bytes that pass the questions which reading puts too, and what they say
-pub record Audits (bs : List ℕ) (heading : Heading) (told : Verdict) : Type 0 where
+-- the heading of bytes that pass the questions which reading puts too, what they say, and their order
+pub record Audits (bs : List ℕ) (heading : Heading) (told : Verdict) (order : List ℕ) : Type 0 where
   pub passed : firstNo (entryQuestions (records bs)) ≡ 0
   pub headed : heading ≡ headingOf (records bs)
   pub says : told ≡ said (heldVerdict (records bs))
+  pub in-order : order ≡ orderIn (records bs)

@@ -5,7 +5,7 @@ use Prim.Native.Nat.{_-_}
 use lib.ListN.{length, drop}
 use borrow.Author.Needs.{needs}
 use Rattle.entry.specs.Record.{sameBytes}
-use Rattle.entry.proofs.Same.{bytes-end, bytes-differ, bytes-next}
+use Rattle.entry.proofs.SameBytes.{bytes-end, bytes-differ, bytes-next}
 use Rattle.entry.proofs.same_bytes.Statement.{statement}
 use Rattle.entry.proofs.same_bytes.Tie as tie
 

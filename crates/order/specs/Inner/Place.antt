@@ -7,6 +7,7 @@ use mathlib.Core.List.{List, []}
 use Prim.Native.Nat.{ℕ, zero, suc, _+_, _*_, _-_, _^_, _≤_}
 use lib.Dec.{ltb}
 use lib.ListN.{getD}
+use Rattle.ring.specs.Lists.{listed}
 use Rattle.order.specs.Order.{letters}
 
 -- how many masks for n letters have k
@@ -18,6 +19,10 @@ choose (suc n) (suc k) = choose n k + choose n (suc k)
 -- a table of these counts: row n, entry k
 abbrev pub AreCounts : List (List ℕ) → Type 0
 AreCounts t = (n k : ℕ) → n ≤ 10 → k ≤ 10 → getD (getD t n []) k 0 ≡ choose n k
+
+-- a table of the numbers of letters of the masks below 32
+abbrev pub AreLetters : List ℕ → Type 0
+AreLetters t = t ≡ listed 32 letters
 
 -- the mask number r, counted from 0, of those for n letters that have k: the choose n k masks without the last letter come first
 unfoldable pub nth : ℕ → ℕ → ℕ → ℕ

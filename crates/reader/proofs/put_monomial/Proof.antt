@@ -13,8 +13,9 @@ small : (c : tie.After-wide)
     → (c .wide .result * c .before .before .before .before .before .before .before .before .before .before .before .args .k ≤ 10240)
     × (c .before .before .before .mask-of2 .result < 1024)
 small c =
-    put-small _ _ _ _ (c .before .before .before .before .before .before .before .before .before .before .before .pre)
-    (c .before .before .before .before .before .before .match .keys2) (c .wide .ensures) (c .before .before .before .mask-of2 .ensures)
+    let asked = c .before .before .before .before .before .before .before .before .before .before .before .pre in
+    put-small _ _ _ (asked .letters) (asked .bounds) (asked .size) (c .before .before .before .before .before .before .match .keys2)
+    (c .wide .ensures) (c .before .before .before .mask-of2 .ensures)
 
 pub put-monomial-spec : {M : Type 1} → statement M
 put-monomial-spec =

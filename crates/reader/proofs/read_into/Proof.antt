@@ -44,13 +44,15 @@ read-into-spec =
     let e = c .before .before .before .before .before .before .before .before .clear .ensures in
     let of-k = f .before .before .before .pow2 .ensures in
     (heading-fits _ (asked .0) (asked .1), search again-size))
+    (λ c κs. search needs)
     (λ c. search needs)
     (λ c. search needs)
-    (λ c. let f = c .before .before .before .before .before .before .before .before .before .before .before .before .before .before .before in
+    (λ c. let f = c .before .before .before .before .before .before .before .before .before .before .before .before .before .before .before .before .before in
     let asked = f .before .before .before .before .before .before .before .pre in
-    let filled = c .before .before .before .before .fill .ensures in
+    let filled = c .before .before .before .before .before .before .fill .ensures in
     let condition-cleared =
-    c .before .before .before .before .before .before .before .before .before .before .before .before .before .clear .ensures in
-    let answers-cleared = c .before .before .before .before .before .before .before .before .before .clear2 .ensures in
-    read-done _ (asked .0) (asked .1) _ _ (f .before .before .before .pow2 .ensures) (f .before .before .room-refusal .ensures)
-    (f .before .if1 .left) (asked .2) (f .answer-room .ensures) condition-cleared (filled .0) answers-cleared (filled .1)))
+    c .before .before .before .before .before .before .before .before .before .before .before .before .before .before .before .clear .ensures in
+    let answers-cleared = c .before .before .before .before .before .before .before .before .before .before .before .clear2 .ensures in
+    read-done _ (asked .0) (asked .1) _ _ _ (f .before .before .before .pow2 .ensures) (f .before .before .room-refusal .ensures)
+    (f .before .if1 .left) (asked .2) (f .answer-room .ensures) condition-cleared (filled .0) answers-cleared (filled .1)
+    (asked .3) (c .put-order .ensures)))

@@ -5,9 +5,10 @@ use mathlib.Core.Bool.{true, false, _&&_, cond}
 use mathlib.Core.List.{List, [], _∷_}
 use Prim.Native.Nat.{ℕ, _+_, _-_, _*_, _^_, _≤_, _<_}
 use lib.Dec.{leb}
-use lib.ListN.{length, set}
+use lib.ListN.{length, drop, set}
 use Rattle.ring.specs.Table.{tabulate}
 use Rattle.entry.specs.Record.{Record, maskField, valueOf, isMonomial, tableIn, inBounds}
+use Rattle.entry.specs.Held.{records}
 use Rattle.entry.specs.Inner.Places.{fitsBehind}
 use Rattle.calls.specs.declared.Verdict.{Verdict}
 use Rattle.calls.specs.declared.Verdict.the-variants.{Solved, None}
@@ -46,3 +47,11 @@ pub record Fitting (U G : ℕ) (rs : List Record) : Type 0 where
   pub letters : U + G ≤ 10
   pub from : ℕ
   pub fits : fitsBehind U G from rs ≡ true
+
+-- a table in the midst of filling: filled from the records from `at` on it is what t₀ is filled from those from `from` on
+pub record Filling (put : Record → List ℕ → List ℕ) (bs : List ℕ) (U G : ℕ) (t₀ : List ℕ) (from : ℕ) (t : List ℕ) (at : ℕ) : Type 0 where
+  pub onward : from ≤ at
+  pub inside : at ≤ length bs
+  pub long : length t ≡ length t₀
+  pub same : filled put (records (drop from bs)) t₀ ≡ filled put (records (drop at bs)) t
+  pub fitting : Fitting U G (records (drop at bs))

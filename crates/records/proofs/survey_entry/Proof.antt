@@ -24,4 +24,6 @@ survey-entry-spec =
     (λ c κs. search survey-bounds)
     (λ c κs. search needs)
     (λ c κs. search needs)
+    (λ c κs. search needs)
+    (λ c κs. search needs)
     (λ c. search survey-is))

@@ -5,11 +5,11 @@ use mathlib.Core.Bool.{Bool, true, _&&_, cond}
 use mathlib.Core.List.{List, [], _∷_}
 use Prim.Native.Nat.{ℕ, zero, suc, _+_, _^_, _≤_}
 use lib.Dec.{eqb, ltb}
-use lib.ListN.{length}
-use Rattle.tables.specs.declared.Question.the-variants.{Letters, Route, Records, Kinds, Numbers}
+use lib.ListN.{length, drop}
+use Rattle.tables.specs.declared.Question.the-variants.{Letters, Route, Records, Kinds, Numbers, Order}
 use Rattle.tables.specs.Questions.{Asked, asks, firstNo}
 use Rattle.entry.specs.Record.{Record, routeField, stateField, size, kind, valueOf, isEnd, isNone, inBounds}
-use Rattle.entry.specs.Held.{heldVerdict}
+use Rattle.entry.specs.Held.{records, orderIn, heldVerdict}
 use Rattle.entry.specs.Questions.{routeFits, mayFollow}
 use Rattle.entry.specs.Inner.Places.{place, placeOf, standsBehind}
 use Rattle.calls.specs.Questions.{entryQuestions}
@@ -71,21 +71,44 @@ gathered route U G rs =
     let x : Seen = seenAll route U G nothingSeen rs in
     record { used = lengthUsed rs; kinds = x .kinds; numbers = x .numbers; none = x .none }
 
+-- where the first kind 4 of records that begin at a place ends, 0 if there is none
+unfoldable pub endFrom : ℕ → List Record → ℕ
+endFrom at [] = 0
+endFrom at (r ∷ rs) = cond (isEnd r) (at + length r) (endFrom (at + length r) rs)
+
+-- what has been seen when records that begin at a place end, behind those before it
+unfoldable pub gatheredFrom : ℕ → ℕ → ℕ → Seen → ℕ → List Record → Gathered
+gatheredFrom route U G x at rs =
+    let y : Seen = seenAll route U G x rs in
+    record { used = endFrom at rs; kinds = y .kinds; numbers = y .numbers; none = y .none }
+
+-- a place further on: the records from `from` on, behind x, give what those from `at` on give behind y
+pub record Further (bs : List ℕ) (route U G : ℕ) (x : Seen) (from : ℕ) (y : Seen) (at : ℕ) : Type 0 where
+  pub onward : from ≤ at
+  pub inside : at ≤ length bs
+  pub same : gatheredFrom route U G x from (records (drop from bs)) ≡ gatheredFrom route U G y at (records (drop at bs))
+
+-- the same but for the place of the last monomial
+abbrev pub placed : Seen → ℕ → Seen
+placed x p = record { kind = x .kind; place = p; kinds = x .kinds; numbers = x .numbers; none = x .none }
+
 -- what is said, by 1 above the state, or 0
 abbrev pub saidBy : ℕ → Verdict
 saidBy zero = Solved
 saidBy (suc state) = None (record { 0 = state })
 
--- 10, 11, 1, 2, 12 by what has been gathered; `fits` answers 1
-abbrev pub gatheredQuestions : Gathered → Bool → ℕ → List Asked
-gatheredQuestions x fits route =
+-- 10, 11, 1, 2, 12, 17 by what has been gathered; `fits` answers 1, `inOrder` 17
+abbrev pub gatheredQuestions : Gathered → Bool → ℕ → Bool → List Asked
+gatheredQuestions x fits route inOrder =
     asks Records (ltb 0 (x .used))
     ∷ asks Kinds (x .kinds)
     ∷ asks Letters fits
     ∷ asks Route (routeFits route)
     ∷ asks Numbers (x .numbers)
+    ∷ asks Order inOrder
     ∷ []
 
--- what going over the entry gives: the first no of 10, 11, 1, 2 and 12, or 0, and what the entry says
+-- what going over the entry gives: the first no of 10, 11, 1, 2, 12 and 17, or 0, and what the entry says
 abbrev pub surveyOf : List Record → Survey
-surveyOf rs = record { refusal = firstNo (entryQuestions rs); heading = headingOf rs; verdict = said (heldVerdict rs) }
+surveyOf rs =
+    record { refusal = firstNo (entryQuestions rs); heading = headingOf rs; verdict = said (heldVerdict rs); order = orderIn rs }

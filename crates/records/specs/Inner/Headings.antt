@@ -1,12 +1,13 @@
--- What the start of an entry says, the length used, and whether the entry says 'none'.
+-- What the start of an entry says, its order, the length used, and whether the entry says 'none'.
 -- Assumes nothing.
 use mathlib.Core.Bool.{cond}
 use mathlib.Core.List.{List}
 use Prim.Native.Nat.{ℕ}
-use lib.ListN.{length}
+use lib.ListN.{length, drop}
 use Rattle.solution.specs.Elimination.{solved, none, Verdict as Said}
-use Rattle.entry.specs.Record.{Record, bytes}
-use Rattle.entry.specs.Held.{routeOf, unknownsOf, givensOf}
+use Rattle.solution.specs.Order.{defaultBytes}
+use Rattle.entry.specs.Record.{Record, isOrder, bytes}
+use Rattle.entry.specs.Held.{second, routeOf, unknownsOf, givensOf}
 use Rattle.entry.specs.Questions.{hasEnd}
 use Rattle.calls.specs.declared.Heading.{Heading}
 use Rattle.calls.specs.declared.Verdict.{Verdict}
@@ -19,6 +20,10 @@ lengthUsed rs = cond (hasEnd rs) (length (bytes rs)) 0
 -- what the start says
 abbrev pub startOf : List Record → Heading
 startOf rs = record { route = routeOf rs; unknowns = unknownsOf rs; givens = givensOf rs; used = 0 }
+
+-- the order's bytes: those of a kind 6 that stands second, or the order 0, 1, 2, .. of U unknowns
+unfoldable pub orderBehind : ℕ → List Record → List ℕ
+orderBehind U rs = cond (isOrder (second rs)) (drop 1 (second rs)) (defaultBytes U)
 
 -- the same, and the length used
 unfoldable pub headingOf : List Record → Heading

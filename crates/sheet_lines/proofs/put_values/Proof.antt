@@ -3,7 +3,8 @@ use Prim.Native.Nat.{_+_}
 use native.Mathlib.Omega.{arith}
 use borrow.Author.Needs.{needs}
 use Rattle.tables.proofs.Questions.{letters-small, unknowns-small}
-use Rattle.sheet_lines.proofs.Entries.{givens-small, route-small, values-size, listable, archived-room, archived-put, same-table}
+use Rattle.sheet_lines.proofs.Entries.{givens-small, route-small, values-size, listable, default-asked, default-lists}
+use Rattle.sheet_lines.proofs.Entries.{archived-room, archived-put, same-table}
 use Rattle.sheet_lines.proofs.put_values.Statement.{statement}
 use Rattle.sheet_lines.proofs.put_values.Tie as tie
 
@@ -17,20 +18,26 @@ transform-requires c κs =
 
 list-entry-requires : tie.Need-list-entry-requires
 list-entry-requires c κs =
-    let after-transform = c .before .before .before .before .before in
-    let start = after-transform .before .before .before .before .before .before .before .before in
-    (listable (start .pre .0) (after-transform .transform .ensures) (start .pre .2) (start .pre .4), omega (arith, start .pre .5))
+    let after-default-order = c .before .before .before in
+    let after-transform = after-default-order .before .before .before in
+    let start = after-transform .before .before .before .before .before .before .before .before in (
+      listable (start .pre .0) (after-transform .transform .ensures) (start .pre .2) (start .pre .4),
+      omega (arith, start .pre .5),
+      default-asked _ (after-default-order .default-order .ensures) (unknowns-small _ _ (start .pre .0)),
+    )
 
 put-found-requires : tie.Need-put-found-requires
 put-found-requires c κs =
     let after-list-entry = c .before .before .before .before .before .before in
-    let start = after-list-entry .before .before .before .before .before .before .before .before .before .before .before .before .before
-    .before in (
+    let after-default-order = after-list-entry .before .before .before .before in
+    let start = after-default-order .before .before .before .before .before .before .before .before .before .before .before in
+    let few = unknowns-small _ _ (start .pre .0) in
+    let lists = default-lists _ _ _ (after-default-order .default-order .ensures) few (after-list-entry .list-entry .ensures) in (
       route-small _ (start .pre .1),
-      omega (arith, unknowns-small _ _ (start .pre .0)),
+      omega arith,
       omega (arith, givens-small _ _ (start .pre .0)),
       after-list-entry .list-entry .ensures .count,
-      archived-room _ _ _ _ (after-list-entry .list-entry .ensures) _ _ (start .pre .0) (start .pre .6),
+      archived-room _ _ _ _ lists _ _ (start .pre .0) (start .pre .6),
     )
 
 same-length : tie.Need-same-length
@@ -48,9 +55,12 @@ same-length-4 c = search needs
 returns : tie.Need-returns
 returns c =
     let after-list-entry = c .before .before .before .before .before .before .before .before .before in
-    let after-transform = after-list-entry .before .before .before .before .before .before in
+    let after-default-order = after-list-entry .before .before .before .before in
+    let after-transform = after-default-order .before .before .before in
     let start = after-transform .before .before .before .before .before .before .before .before in
-    archived-put _ _ _ _ (after-list-entry .list-entry .ensures)
+    let few = unknowns-small _ _ (start .pre .0) in
+    let lists = default-lists _ _ _ (after-default-order .default-order .ensures) few (after-list-entry .list-entry .ensures) in
+    archived-put _ _ _ _ lists
     (same-table (start .args .u + start .args .g) (start .args .values .now) (after-transform .transform .ensures))
     ((c .before .before .put-found) .ensures)
 
@@ -60,6 +70,7 @@ put-values-spec =
     (tie.spec
     add-transform
     transform-requires
+    (λ c κs. search needs)
     list-entry-requires
     put-found-requires
     same-length

@@ -1,7 +1,8 @@
 -- `solution::holds_each` meets its contract: every number so far is there once. Assumes nothing.
 use mathlib.Core.Path.{_≡_, refl, sym, _∙_}
 use mathlib.Core.Bool.{true}
-use Prim.Native.Nat.{_-_, _≤_}
+use Prim.Native.Nat.{ℕ, _-_, _≤_}
+use native.Mathlib.Omega.{arith}
 use borrow.Author.Needs.{needs}
 use borrow.Author.Tests.{eq-eqb, ne-eqb}
 use lib.Dec.{eqb}
@@ -22,11 +23,16 @@ unfolding everyBelow
 loop-holds c = (search needs, refl)
 
 returns : tie.Need-returns Inv-loop μ-loop
-returns c = every-fails _ _ _ (c .before .before .loop-test .taken) (ne-eqb _ 1 (λ e. c .if1 .taken (c .before .times .ensures ∙ e)))
+returns c =
+    let count : ℕ = c .before .times .result in
+    let other : count ≡ 1 → ⊥ = λ e. omega arith in
+    every-fails _ _ _ (c .before .before .loop-test .taken) (ne-eqb _ 1 (λ e. other (c .before .times .ensures ∙ e)))
 
 loop-again : tie.Need-loop-again Inv-loop μ-loop
 loop-again c =
-    (search needs, every-more _ _ (c .before .before .before .loop .inv .1) (eq-eqb _ 1 (sym (c .before .times .ensures) ∙ c .if1 .left)))
+    let count : ℕ = c .before .times .result in
+    let one : count ≡ 1 = omega arith in
+    (search needs, every-more _ _ (c .before .before .before .loop .inv .1) (eq-eqb _ 1 (sym (c .before .times .ensures) ∙ one)))
 
 returns-2 : tie.Need-returns-2 Inv-loop μ-loop
 returns-2 c = every-end _ _ _ (c .before .loop .inv .0) (c .loop-test .left) (c .before .loop .inv .1)

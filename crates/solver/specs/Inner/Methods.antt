@@ -18,10 +18,6 @@ use Rattle.calls.specs.Questions.{asksSolution}
 use Rattle.solver.specs.declared.Method.{Method}
 use Rattle.solver.specs.declared.Method.the-variants.{Boole, Particular, Lowenheim}
 
--- the condition with the table t, its unknowns in this order
-abbrev pub ordered : ℕ → ℕ → List ℕ → List ℕ → Condition
-ordered U G order t = record { U = U; G = G; order = order; table = t }
-
 -- questions 1, 17, 4 and 8 of a call that solves
 unfoldable pub tableQuestions : ℕ → ℕ → List ℕ → List ℕ → ℕ → List Asked
 tableQuestions U G order condition room =

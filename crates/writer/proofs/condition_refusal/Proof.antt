@@ -3,33 +3,15 @@ use mathlib.Core.Path.{_≡_}
 use mathlib.Core.Bool.{true}
 use native.Mathlib.Omega.{arith}
 use borrow.Author.Needs.{needs}
-use Rattle.tables.specs.Questions.{lettersFit, roomQuestions, bitQuestions, bufferQuestions}
-use Rattle.tables.proofs.FirstNo.{ask-then, ask-last}
-use Rattle.tables.proofs.Questions.{failed, passed, letters-small}
-use Rattle.calls.proofs.Buffers.{letters-no, letters-yes}
-use Rattle.writer.specs.Inner.Steps.{conditionQuestions}
+use Rattle.tables.specs.Questions.{lettersFit}
+use Rattle.tables.proofs.Questions.{passed, letters-small}
+use Rattle.writer.proofs.Asked.{letters-refused, asked}
 use Rattle.writer.proofs.condition_refusal.Statement.{statement}
 use Rattle.writer.proofs.condition_refusal.Tie as tie
-
-returns : tie.Need-returns
-unfolding conditionQuestions
-returns c = letters-no _ _ _ _ (c .number .ensures) (failed (c .before .before .letters-fit .ensures) (c .before .if1 .taken))
 
 -- question 1 is passed
 letters : (c : tie.Else1) → lettersFit (c .before .before .before .args .u) (c .before .before .before .args .g) ≡ true
 letters c = passed (c .before .letters-fit .ensures) (c .if1 .left)
-
-returns-2 : tie.Need-returns-2
-unfolding conditionQuestions bufferQuestions roomQuestions bitQuestions
-returns-2 c =
-    let second = c .before .before in
-    let first = second .before .before in
-    let powered = first .before .before in
-    rw (← powered .pow2 .ensures)
-    (letters-yes _ _ _ _ (letters (powered .before))
-    (ask-then _ _ _ _ _ _ _ (first .ask .ensures) (first .before .route-fits .ensures)
-    (ask-then _ _ _ _ _ _ _ (second .ask2 .ensures) (second .before .has-room .ensures)
-    (ask-last _ _ _ _ _ (c .ask3 .ensures) (c .before .holds-bits .ensures)))))
 
 pub condition-refusal-spec : {M : Type 1} → statement M
 condition-refusal-spec =
@@ -37,7 +19,7 @@ condition-refusal-spec =
     (tie.spec
     (λ c κs. search needs)
     (λ c κs. search needs)
-    returns
+    (λ c. search letters-refused)
     (λ c. omega (arith, letters-small _ _ (letters c)))
     (λ c κs. letters-small _ _ (letters c))
     (λ c κs. search needs)
@@ -46,4 +28,6 @@ condition-refusal-spec =
     (λ c κs. search needs)
     (λ c κs. search needs)
     (λ c κs. search needs)
-    returns-2)
+    (λ c κs. search needs)
+    (λ c κs. search needs)
+    (λ c. search asked))

@@ -10,6 +10,8 @@ hand-out-spec =
     tie.close
     (tie.spec
     (λ c κs. search needs)
+    (λ c κs. (search needs, omega arith))
+    (λ c. search needs)
     (λ c. search needs)
     (λ c κs. search needs)
     (λ c. search output-short)

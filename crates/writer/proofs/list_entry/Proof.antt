@@ -1,8 +1,7 @@
--- Document 01's order of the unknowns, and room for the answers' words. Assumes nothing.
+-- Room for the answers' words. Assumes nothing.
 use native.Mathlib.Omega.{arith}
 use borrow.Author.Needs.{needs}
-use Rattle.solver.proofs.OnWords.{first-unknowns}
-use Rattle.writer.proofs.Monomials.{words-fit, unknowns-part, answers-part, answers-size}
+use Rattle.writer.proofs.Monomials.{words-fit, answers-part, answers-size}
 use Rattle.writer.proofs.list_entry.Statement.{statement}
 use Rattle.writer.proofs.list_entry.Tie as tie
 
@@ -18,11 +17,9 @@ list-entry-spec =
     (λ c. search needs)
     (λ c κs. search needs)
     mul-size
-    (λ c. search needs)
-    (λ c. search unknowns-part)
     (λ c. search words-fit)
     (λ c. search answers-part)
-    (λ c κs. (search needs, search needs, search first-unknowns, search answers-size))
+    (λ c κs. (search needs, search needs, search needs, search answers-size))
     (λ c. search needs)
     (λ c. search needs)
     (λ c. search needs))

@@ -12,7 +12,7 @@ list-table-spec =
     (λ c κs. search needs)
     (λ c. search needs)
     (λ c κs. search needs)
-    (λ c κs. (search ready-listable, search needs))
+    (λ c κs. (search ready-listable, search needs, search needs))
     (λ c. search needs)
     (λ c. search needs)
     (λ c. search needs)

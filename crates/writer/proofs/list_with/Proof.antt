@@ -2,7 +2,7 @@
 use native.Mathlib.Omega.{arith}
 use borrow.Author.Needs.{needs}
 use Rattle.words.proofs.Words.{size-words}
-use Rattle.solver.proofs.OnWords.{lists-each}
+use Rattle.solution.proofs.Order.{fits-order}
 use Rattle.writer.proofs.Monomials.{first-room, answers-room}
 use Rattle.writer.proofs.Entries.{state-byte, lists-solved, lists-none}
 use Rattle.writer.proofs.list_with.Statement.{statement}
@@ -12,11 +12,11 @@ use Rattle.writer.proofs.list_with.Tie as tie
 cast-state : tie.Need-cast-t26
 cast-state c =
     let solved = c .before .before .before .before .before .before .before .before in
-    let start = solved .before .before .before .before .before .before .before .before .before .before .before .before .before in
+    let start = solved .before .before .before .before .before .before .before .before .before .before .before .before in
     omega (
       arith,
-      state-byte _ _ (start .args .coefficients .now) (start .pre .0 .values-are) (start .pre .2) _ _ (solved .solve-values .ensures)
-          ((c .before .before .state) .given .1) (start .pre .0 .givens),
+      state-byte _ _ _ (start .args .coefficients .now) (start .pre .0 .values-are) _ _ (solved .solve-values .ensures)
+          (fits-order _ _ (start .pre .2)) ((c .before .before .state) .given .1) (start .pre .0 .givens),
     )
 
 returns : tie.Need-returns
@@ -24,8 +24,8 @@ returns c =
     let answers = c .before .before in
     let solved = answers .before .before .before .before .before .before .before .before .before in
     let listed = solved .before .before .before .before .before in
-    let start = listed .before .before .before .before .before .before .before .before in
-    lists-solved _ _ (start .args .coefficients .now) (start .pre .0 .values-are) (start .pre .2) _ _ (solved .solve-values .ensures)
+    let start = listed .before .before .before .before .before .before .before in
+    lists-solved _ _ _ (start .args .coefficients .now) (start .pre .0 .values-are) _ _ (solved .solve-values .ensures)
     (start .pre .0 .letters) (listed .list-monomials .ensures) ((answers .before .before .before .enum-told) .given .1)
     (answers .list-answers .ensures)
 
@@ -33,8 +33,8 @@ returns-2 : tie.Need-returns-2
 returns-2 c =
     let solved = c .before .before .before .before .before .before .before .before in
     let listed = solved .before .before .before .before .before in
-    let start = listed .before .before .before .before .before .before .before .before in
-    lists-none _ _ (start .args .coefficients .now) (start .pre .0 .values-are) (start .pre .2) _ _ (solved .solve-values .ensures)
+    let start = listed .before .before .before .before .before .before .before in
+    lists-none _ _ _ (start .args .coefficients .now) (start .pre .0 .values-are) _ _ (solved .solve-values .ensures)
     (start .pre .0 .letters) (listed .list-monomials .ensures) ((c .before .before .state) .given .1)
 
 pub list-with-spec : {M : Type 1} → statement M
@@ -43,7 +43,7 @@ list-with-spec =
     (tie.spec
     (λ c. search needs)
     (λ c κs. (search needs, omega arith, search needs, search needs, search first-room))
-    (λ c κs. (search needs, search needs, search lists-each, search size-words, search needs))
+    (λ c κs. (search needs, search needs, search needs, search size-words, search needs))
     (λ c. search needs)
     (λ c. search needs)
     (λ c κs. (search needs, search needs, search needs, search needs, search answers-room))

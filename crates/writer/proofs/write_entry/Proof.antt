@@ -1,7 +1,5 @@
 -- The call asks the questions on the table, and then writes. Assumes nothing.
-use mathlib.Core.Path.{sym}
 use native.Mathlib.Omega.{arith}
-use lib.Seq.{length-take-le}
 use borrow.Author.Needs.{needs}
 use Rattle.writer.proofs.Asked.{fine-small, fine-route, fine-part, fine-ready, write-refused, write-done}
 use Rattle.writer.proofs.write_entry.Statement.{statement}
@@ -13,9 +11,9 @@ write-entry-spec =
     (tie.spec
     (λ c κs. search needs)
     (λ c. search write-refused)
-    (λ c. omega (arith, fine-small _ _ _ _ (c .before .condition-refusal .ensures) (c .if1 .left)))
+    (λ c. omega (arith, fine-small _ _ _ _ _ (c .before .condition-refusal .ensures) (c .if1 .left)))
     (λ c κs. search fine-small)
-    (λ c. omega (arith, fine-route _ _ _ _ (c .before .before .condition-refusal .ensures) (c .before .if1 .left)))
+    (λ c. omega (arith, fine-route _ _ _ _ _ (c .before .before .condition-refusal .ensures) (c .before .if1 .left)))
     (λ c. search fine-part)
     (λ c. search needs)
     (λ c κs. (search fine-ready, omega arith))

@@ -8,12 +8,14 @@ hand-out-requires : tie.Need-hand-out-requires
 hand-out-requires c κs =
     let listed = c .before .before .before .before in
     let ready = listed .before .before .before .before .before .pre .0 in
-    (ready .unknowns, ready .givens, lists-sized _ (listed .list-condition .ensures) (ready .unknowns) (ready .letters))
+    (ready .unknowns, ready .givens, lists-sized _ _ _ _ _ ready (listed .list-condition .ensures))
 
 returns : tie.Need-returns
 returns c =
     let handed = c .before .before in
-    lists-out _ (handed .before .before .before .before .before .list-condition .ensures) _ (handed .hand-out .ensures)
+    let listed = handed .before .before .before .before .before in
+    let ready = listed .before .before .before .before .before .pre .0 in
+    lists-out _ _ _ _ _ ready (listed .list-condition .ensures) _ (handed .hand-out .ensures)
 
 pub write-ready-spec : {M : Type 1} → statement M
 write-ready-spec =
