@@ -32,7 +32,7 @@ fn show_verdict(verdict: Verdict) {
     }
 }
 
-fn show_read(r: Read, order: &[u8], condition: &[u8], answers: &[u8]) {
+fn show_read(r: Read, order: [u8; 6], condition: &[u8], answers: &[u8]) {
     match r {
         Read::Entry(heading, verdict) => {
             show_verdict(verdict);
@@ -40,7 +40,7 @@ fn show_read(r: Read, order: &[u8], condition: &[u8], answers: &[u8]) {
         }
         Read::Refused(q) => cases::show_refused(q),
     }
-    cases::show_hex(order);
+    cases::show_hex(&order);
     cases::show_digits(condition);
     cases::show_digits(answers);
     cases::show_line_end();
@@ -55,7 +55,7 @@ fn write(f: cases::Fields, order: [u8; 6], condition: &[u8], out: &mut [u8]) {
 fn read(bytes: &[u8], condition: &mut [u8], answers: &mut [u8]) {
     let mut order = [7u8; 6];
     let r = reader::read_entry(bytes, &mut order, condition, answers);
-    show_read(r, &order, condition, answers);
+    show_read(r, order, condition, answers);
 }
 
 fn run_write(line: &[u8], f: cases::Fields, order: [u8; 6]) {
