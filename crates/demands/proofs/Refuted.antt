@@ -5,7 +5,7 @@
 -- Assumes nothing.
 use mathlib.Core.Path.{_≡_, refl, sym, ap, _∙_}
 use mathlib.Core.Bool.{true, false, true≢false}
-use mathlib.Core.List.{List, [], _∷_}
+use mathlib.Core.List.{List, [], _∷_, _++_}
 use Prim.Native.Nat.{ℕ, zero, suc, _<_}
 use native.Mathlib.Omega.{arith}
 use lib.ListN.{getD}
@@ -20,7 +20,11 @@ use Rattle.solution.specs.Order.{orderBytes}
 use Rattle.solution.specs.Elimination.{solved, nextCondition, remains, answerFrom, booleAnswers, particular, lowenheim, ownLowenheim}
 use Rattle.solution.specs.Elimination.{isZero, solvable, booleTable, solve}
 use Rattle.solution.specs.General.{SmallestBlocked, Solves}
-use Rattle.entry.specs.Record.{kind, size, fields, widths, valueOf, valueIn, fromLowFirst, among}
+use Rattle.entry.specs.Record.{kind, size, fields, widths, valueOf, valueIn, fromLowFirst, among, bodyFits, sameBytes, isDefault, isNeeded}
+use Rattle.entry.specs.Record.{inBounds}
+use Rattle.entry.specs.Entry.{entry, Archivable}
+use Rattle.entry.specs.Questions.{allInBounds, numbersFit}
+use Rattle.entry.proofs.Theorems.{reads-back}
 use Rattle.solution.proofs.Letters.{value-putIn, own-holds}
 use Rattle.entry.specs.Held.{next, untilEnd, firstRecords, records, hasMonomial, conditionIn, answersIn, unlessNone, says, heldCondition}
 use Rattle.entry.specs.Held.{orderIn, heldVerdict}
@@ -351,3 +355,22 @@ pub order-left-out-refuted : Demand3 u*v-v-first order-left-out-archived → ⊥
 unfolding records firstRecords next untilEnd kind size fields widths valueOf valueIn fromLowFirst among heldCondition orderIn orderBytes defaultOrder listed
 order-left-out-refuted h =
     let e : _≡_ {A = ℕ} 0 1 = ap (λ (c : Condition). getD (c .order) 0 0) (h .condition-read) in absurd (omega arith)
+
+-- kind 6 for the order 0, 1, 2, ..: no condition has such an entry, whatever stands behind it
+abbrev default-named-archived : List ℕ
+default-named-archived =
+    1 ∷ 7 ∷ 2 ∷ 0
+    ∷ 6 ∷ 0 ∷ 1 ∷ 255 ∷ 255 ∷ 255 ∷ 255
+    ∷ 2 ∷ 3 ∷ 0
+    ∷ 3 ∷ 0 ∷ 1 ∷ 0
+    ∷ 3 ∷ 0 ∷ 3 ∷ 0
+    ∷ 3 ∷ 1 ∷ 2 ∷ 0
+    ∷ 4 ∷ 7
+    ∷ []
+
+pub default-named-refuted : (route : ℕ) (c : Condition) (behind : List ℕ) → Archivable route c
+    → entry route c ++ behind ≡ default-named-archived → ⊥
+unfolding records firstRecords next untilEnd kind size fields widths valueOf valueIn fromLowFirst numbersFit allInBounds inBounds bodyFits isNeeded isDefault sameBytes orderBytes defaultOrder listed
+default-named-refuted route c behind a e =
+    let fits : numbersFit (records default-named-archived) ≡ true = rw e at (reads-back route c behind a .passes .numbers) in
+    true≢false (sym fits)
