@@ -33,11 +33,12 @@ number Grammar = 7
 number Bits = 8
 -- 'Has the condition a solution? (a no also gives the state)'
 number Solution = 9
--- 'Does every record, to the first kind 4, have kind 1 to 5 and a whole body, and is there a kind 4?'
+-- 'Does every record, to the first kind 4, have kind 1 to 5 and a whole body, and is there a kind 4?' (kind 6 too: document 02, C-11)
 number Records = 10
 -- 'Are the kinds in the entry's order, both routes equal?'
 number Kinds = 11
--- 'Are masks below 2^n, unknowns below U, the state below 2^G, all in order, none twice?'
+-- 'Are masks below 2^n, unknowns below U, the state below 2^G, all in order, none twice?' (and no kind 6 for the order 0, 1, 2 and so
+-- on: document 02, C-11)
 number Numbers = 12
 -- 'Do the answers, or the state, equal those solved afresh?'
 number Afresh = 13
