@@ -180,7 +180,8 @@ module _ (rs : List Record) (h : Heading) (eh : h ≡ headingOf rs) (t : List �
     unfolding heldCondition
     read-back = rw (eo, et, heading-u rs eh, heading-g rs eh)
 
-    pub hold-none : (state : State) (b : Bool) (w : Verdict (List ℕ)) → w ≡ solveWords (ordered (h .unknowns) (h .givens) (take (h .unknowns) o) t)
+    pub hold-none : (state : State) (b : Bool) (w : Verdict (List ℕ))
+        → w ≡ solveWords (ordered (h .unknowns) (h .givens) (take (h .unknowns) o) t)
         → said (heldVerdict rs) ≡ None state → b ≡ sameVerdict (none state) w → b ≡ answersHold rs
     unfolding answersHold
     hold-none state b w ew es eb =

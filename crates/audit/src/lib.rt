@@ -1,5 +1,5 @@
-// The audit of an archive entry: it is read, its condition is solved afresh by its own order, and the two are compared, by values that stand 64 to a word.
-// `audit` is the public call of the library; the other functions are its own, and what these require it meets.
+// The audit of an archive entry: it is read, its condition is solved afresh by its own order, and the two are compared, by values that
+// stand 64 to a word. `audit` is the public call of the library; the other functions are its own, and what these require it meets.
 use calls::Heading;
 use calls::Read;
 use calls::Verdict;

@@ -41,7 +41,8 @@ module _ (route U G : ℕ) (order condition out : List ℕ) (z : firstNo (writeQ
   output-is = rw z
 
   -- demand 2: the route, U, G, the order, the condition, solved or 'none' and the state, the answers and the length come back
-  pub written-reads-back : ReadsBack route (lentCondition U G order condition) (records (firstBuffer (writeCall route U G order condition out)))
+  pub written-reads-back : ReadsBack route (lentCondition U G order condition)
+      (records (firstBuffer (writeCall route U G order condition out)))
   written-reads-back = rw output-is (reads-back route (lentCondition U G order condition) _ archivable)
 
   -- it passes the audit
@@ -51,7 +52,8 @@ module _ (route U G : ℕ) (order condition out : List ℕ) (z : firstNo (writeQ
       (written-reads-back .passes, rw output-is (entry-holds route (lentCondition U G order condition) _ archivable))
 
   -- demand 3: what its kind 3 and kind 5 records say of the condition is right
-  pub written-right : RightVerdict (lentCondition U G order condition) (says (records (firstBuffer (writeCall route U G order condition out))))
+  pub written-right : RightVerdict (lentCondition U G order condition)
+      (says (records (firstBuffer (writeCall route U G order condition out))))
   written-right = rw output-is
       (entry-right route (lentCondition U G order condition) _ (archived-order route (lentCondition U G order condition) archivable))
 

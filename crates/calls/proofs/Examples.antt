@@ -1,5 +1,5 @@
--- Walks over the volume of document 01's sample sheet, whole, from other places and damaged, and over entries with an order, right and wrong, by
--- computation.
+-- Walks over the volume of document 01's sample sheet, whole, from other places and damaged, and over entries with an order, right and
+-- wrong, by computation.
 -- Assumes nothing.
 use mathlib.Core.Path.{_≡_, refl}
 use mathlib.Core.List.{List, [], _∷_, _++_}

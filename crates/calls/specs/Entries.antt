@@ -35,8 +35,8 @@ written (written-variants.Done size) = accepted (size ∷ [])
 written (written-variants.Refused number) = refused number []
 
 -- ---- reading: it 'stops after kind 4 and gives the route, U, G, whether the entry is solved or 'none' and in which state, and the length used;
--- it fills the condition table and, if solved, the answer tables; a 'none' entry leaves the answer buffer untouched'. 'Reading gives' the order,
--- into six bytes that are lent for it
+-- it fills the condition table and, if solved, the answer tables; a 'none' entry leaves the answer buffer untouched'. 'Reading gives' the
+-- order, into six bytes that are lent for it
 -- the state of a verdict that says 'none'
 abbrev pub stateOf : {A : Type 0} → Said A → List ℕ
 stateOf (solved a) = []

@@ -1,7 +1,6 @@
--- The questions that each call puts, in their order (document 01, 'The questions, and the number if the answer is no'; document 02, C-11): 'The
--- first no counts'.
--- U unknowns and G givens, n = U + G; a table has 2 ^ n bytes, an answer or handed buffer U of them. A buffer that is only written comes as its
--- number of bytes.
+-- The questions that each call puts, in their order (document 01, 'The questions, and the number if the answer is no'; document 02, C-11):
+-- 'The first no counts'. U unknowns and G givens, n = U + G; a table has 2 ^ n bytes, an answer or handed buffer U of them. A buffer that
+-- is only written comes as its number of bytes.
 -- Assumes nothing.
 use mathlib.Core.Bool.{Bool, _&&_, _||_}
 use mathlib.Core.List.{List, [], _∷_, _++_}

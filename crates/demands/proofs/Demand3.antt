@@ -1,6 +1,7 @@
--- THE THEOREM: demand 3 holds of the bytes that are archived for every condition that has an entry, with any order of its unknowns, every route
--- and every list of letters, and so for every accepted text. The bytes are `entry route c`; that the calls hand these over is `over-the-calls`.
--- What the entry's records say is right (`entry-right`), and a written entry reads back (`reads-back`); both are put into the demand's own words here.
+-- THE THEOREM: demand 3 holds of the bytes that are archived for every condition that has an entry, with any order of its unknowns, every
+-- route and every list of letters, and so for every accepted text. The bytes are `entry route c`; that the calls hand these over is
+-- `over-the-calls`. What the entry's records say is right (`entry-right`), and a written entry reads back (`reads-back`); both are put into
+-- the demand's own words here.
 -- Assumes nothing.
 use mathlib.Core.Path.{_≡_, refl, sym, ap, _∙_}
 use mathlib.Core.Bool.{Bool, true, false, _||_, cond}

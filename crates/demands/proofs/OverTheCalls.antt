@@ -12,7 +12,7 @@ use Rattle.tables.specs.Questions.{firstNo}
 use Rattle.tables.specs.Answered.{Reply, accepted, after, Answered, answered, call, _into_}
 use Rattle.tables.proofs.Answered.{call-done, call-also}
 use Rattle.grammar.specs.Text.{textTable}
-use Rattle.solution.specs.Condition.{Condition, width, ordered}
+use Rattle.solution.specs.Condition.{Condition, width, ordered, ListsEach}
 use Rattle.solution.specs.Order.{orderBytes, orderFits, lentCondition}
 use Rattle.solution.proofs.Order.{length-orderBytes, fits-each, fits-bytes}
 use Rattle.solution.specs.Elimination.{solve}
@@ -96,16 +96,19 @@ module _ (U G : ℕ) (text lent : List ℕ) (z : firstNo (textQuestions U G text
     -- demand 3, from the text, the order and the lent buffers to what is read back, by the calls' contracts
     pub over-the-calls : (route : ℕ) (out : List ℕ) → firstNo (writeQuestions route U G order (textRead U G text lent) (length out)) ≡ 0
         → OverTheCalls route (ordered U G (take U order) (textTable U G text)) order (textRead U G text lent) out
-    over-the-calls route out written = archives route condition order (textRead U G text lent) out (ap (ordered U G (take U order)) front-of) written
+    over-the-calls route out written =
+        archives route condition order (textRead U G text lent) out (ap (ordered U G (take U order)) front-of) written
 
-    -- and writing is refused for another route than 1 to 250, an order that is none or too short an output alone, so that every accepted text can
-    -- be archived in every order
+    -- and writing is refused for another route than 1 to 250, an order that is none or too short an output alone, so that every accepted
+    -- text can be archived in every order
     pub written-if-room : (route : ℕ) (out : List ℕ) → routeFits route ≡ true → orderFits U order ≡ true
         → length (entry route (ordered U G (take U order) (textTable U G text))) ≤ length out
         → firstNo (writeQuestions route U G order (textRead U G text lent) (length out)) ≡ 0
     written-if-room route out route-fits order-fits fits =
         let accepted = done-exactly U G text (length lent) .0 z .0 in
+        let each : ListsEach U (take U order) = fits-each U order order-fits in
         let a : Archivable route condition =
-        record { letters = accepted .letters; of-route = route-fits; of-order = fits-each U order order-fits; of-table = text-is-table U G text } in
-        ap (λ (bytes : List ℕ). firstNo (writeQuestions route U G bytes (textRead U G text lent) (length out))) (fits-bytes U order order-fits)
+        record { letters = accepted .letters; of-route = route-fits; of-order = each; of-table = text-is-table U G text } in
+        ap (λ (bytes : List ℕ). firstNo (writeQuestions route U G bytes (textRead U G text lent) (length out)))
+        (fits-bytes U order order-fits)
         ∙ asked.written-if-room route condition (textRead U G text lent) (length out) a front-of front-room fits

@@ -1,5 +1,5 @@
--- The entries of document 01's sample, and one with an order, from their texts to their bytes, by computation; and that of nine letters by the
--- law of one given.
+-- The entries of document 01's sample, and one with an order, from their texts to their bytes, by computation; and that of nine letters by
+-- the law of one given.
 -- Assumes nothing.
 use mathlib.Core.Path.{_≡_, refl, ap, _∙_}
 use mathlib.Core.List.{List}

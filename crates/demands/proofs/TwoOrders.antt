@@ -1,5 +1,5 @@
--- Entries of one condition under two orders say the same. What makes a condition zero, and which state is blocked, does not turn on the order; so
--- both say 'none' or neither does, there is one smallest blocked state, and two general solutions are instances of each other.
+-- Entries of one condition under two orders say the same. What makes a condition zero, and which state is blocked, does not turn on the
+-- order; so both say 'none' or neither does, there is one smallest blocked state, and two general solutions are instances of each other.
 -- Assumes nothing.
 use mathlib.Core.Path.{_≡_, refl, sym, ap, _∙_}
 use mathlib.Core.Bool.{Bool, true, false}
@@ -64,7 +64,8 @@ module _ (U G : ℕ) (t a b : List ℕ) (e f : List ℕ) (x : RightVerdict (orde
       go true n = refl
       go false n =
           let s = says-none (answersIn (records e)) (records e) h in
-          let q : solved (answersIn (records f)) ≡ none (s .0) = sym (says-solved (answersIn (records f)) (records f) n) ∙ state-too (s .0) (s .1) in
+          let q : solved (answersIn (records f)) ≡ none (s .0) = sym (says-solved (answersIn (records f)) (records f) n)
+          ∙ state-too (s .0) (s .1) in
           let z : _≡_ {A = ℕ} 0 1 = cc in
           absurd (omega arith)
 

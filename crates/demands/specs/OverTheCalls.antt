@@ -1,6 +1,6 @@
--- Demand 3 over the calls: a text is read by `read_text` into a lent condition buffer, `write_entry` is given an order and lent that buffer and
--- an output, and `read_entry` is lent that output and three buffers more. What a call gives, and what a buffer holds after it, is what its contract says.
--- Lent buffers may be longer than needed and hold any bytes.
+-- Demand 3 over the calls: a text is read by `read_text` into a lent condition buffer, `write_entry` is given an order and lent that buffer
+-- and an output, and `read_entry` is lent that output and three buffers more. What a call gives, and what a buffer holds after it, is what
+-- its contract says. Lent buffers may be longer than needed and hold any bytes.
 -- Assumes nothing.
 use mathlib.Core.Path.{_≡_}
 use mathlib.Core.List.{List, [], _∷_, _++_}
@@ -28,8 +28,8 @@ entryWritten route U G order condition out = firstBuffer (writeCall route U G or
 
 -- reading the bytes e, lent three buffers, gives the condition c, with its order, and the verdict on it
 pub record GivesBack (route : ℕ) (c : Condition) (e order condition answers : List ℕ) : Type 0 where
-  -- solved: reading gives the route, U, G and the length used; the order's bytes, the condition's table and the answer tables are at the fronts of
-  -- their buffers, and every further byte is as it was
+  -- solved: reading gives the route, U, G and the length used; the order's bytes, the condition's table and the answer tables are at the
+  -- fronts of their buffers, and every further byte is as it was
   pub same-answers : (tables : List ℕ) → solve c ≡ solved tables
       → readCall e order condition answers
       ≡ answered (accepted (route ∷ c .U ∷ c .G ∷ length (entry route c) ∷ []))

@@ -53,8 +53,8 @@ orderedText = 117 ∷ 42 ∷ 118 ∷ []
 unfoldable pub vFirst : List ℕ
 vFirst = 1 ∷ 0 ∷ 255 ∷ 255 ∷ 255 ∷ 255 ∷ []
 
--- the entry for route 10, v first: 010a0200, 060100ffffffff, 020300, 03000100, 03010200, 03010300, 040a (start, order, monomial, answers u = u and
--- v = v + u*v, end)
+-- the entry for route 10, v first: 010a0200, 060100ffffffff, 020300, 03000100, 03010200, 03010300, 040a (start, order, monomial,
+-- answers u = u and v = v + u*v, end)
 unfoldable pub orderedEntry : List ℕ
 orderedEntry =
     1 ∷ 10 ∷ 2 ∷ 0

@@ -1,5 +1,5 @@
--- Two entries of one condition, its unknowns in two orders (document 02, C-11): 'General solutions under any two orders must be instances of each
--- other'. Stated of what stands in the entries' kind 3 and kind 5 records.
+-- Two entries of one condition, its unknowns in two orders (document 02, C-11): 'General solutions under any two orders must be instances
+-- of each other'. Stated of what stands in the entries' kind 3 and kind 5 records.
 -- Assumes nothing.
 use mathlib.Core.Path.{_≡_}
 use mathlib.Core.Bool.{false}

@@ -252,7 +252,8 @@ module _ {A : Type 0} (a : A) where
       Shape : List Record → Type 0
       Shape l = l ≡ onlyMonomials l ++ (noneRecords (unlessNone a l) ++ (endRecord route ∷ []))
 
-      behind : (k : ℕ) → kind r ≡ k → isEnd r ≡ false → ((q : ℕ) → kindsFollow (suc (suc q)) route rs ≡ true → endsThere rs ≡ true → Shape rs)
+      behind : (k : ℕ) → kind r ≡ k → isEnd r ≡ false → ((q : ℕ) → kindsFollow (suc (suc q)) route rs ≡ true → endsThere rs ≡ true
+          → Shape rs)
           → among maskField (fields k) ≡ true → Shape rs
       behind zero e n ih m = never m refl
       behind (suc zero) e n ih m = never m refl
@@ -263,7 +264,8 @@ module _ {A : Type 0} (a : A) where
           → Shape (r ∷ rs)
       go k e ih (an-end q) =
           let end : isEnd r ≡ true = rw q in
-          ap (λ (l : List Record). r ∷ l) (nothing-behind r rs c end) ∙ end-shape route r (w .0) q (same-route (suc (suc p)) route r rs o end)
+          ap (λ (l : List Record). r ∷ l) (nothing-behind r rs c end)
+          ∙ end-shape route r (w .0) q (same-route (suc (suc p)) route r rs o end)
           ∙ ap (λ (l : List Record). onlyMonomials (r ∷ l) ++ (noneRecords (unlessNone a (r ∷ l)) ++ (endRecord route ∷ [])))
           (sym (nothing-behind r rs c end))
       go k e ih (a-none q) =
@@ -559,7 +561,8 @@ module _ (rs : List Record) (w : AllMade rs) (k : kindsFit rs ≡ true) (c : end
       fits-front U G 0 (onlyMonomials ss) (noneRecords (unlessNone answered ss) ++ (endRecord (routeOf rs) ∷ [])) (rw q at p)
 
   -- what stands behind the start and the order is told by its monomials and its verdict
-  told-unique : (xs ys : List Record) → AllMade xs → AllMade ys → kindsFollow 6 (routeOf rs) xs ≡ true → kindsFollow 6 (routeOf rs) ys ≡ true
+  told-unique : (xs ys : List Record) → AllMade xs → AllMade ys
+      → kindsFollow 6 (routeOf rs) xs ≡ true → kindsFollow 6 (routeOf rs) ys ≡ true
       → endsThere xs ≡ true → endsThere ys ≡ true → fitsBehind U G 0 xs ≡ true → fitsBehind U G 0 ys ≡ true
       → ((i m : ℕ) → hasMonomial i m xs ≡ hasMonomial i m ys) → unlessNone answered xs ≡ unlessNone answered ys → xs ≡ ys
   told-unique xs ys wx wy ox oy cx cy px py em ev =

@@ -15,7 +15,14 @@ use Rattle.entry.specs.Held.{next, untilEnd, firstRecords, records, orde
 -- state 3, the end
 unfoldable pub eachKind : List Record
 eachKind =
-    startRecord 7 2 8 ∷ orderRecord (1 ∷ 0 ∷ []) ∷ conditionRecord 1 ∷ conditionRecord 258 ∷ answerRecord 1 258 ∷ noneRecord 3 ∷ endRecord 7 ∷ []
+    startRecord 7 2 8
+    ∷ orderRecord (1 ∷ 0 ∷ [])
+    ∷ conditionRecord 1
+    ∷ conditionRecord 258
+    ∷ answerRecord 1 258
+    ∷ noneRecord 3
+    ∷ endRecord 7
+    ∷ []
 
 unfoldable pub eachKindBytes : List ℕ
 eachKindBytes =

@@ -222,7 +222,8 @@ module _ {A : Type 0} (a : A) where
         → unlessNone a (entryRecords route c v) ≡ unlessNone a (verdictRecords (c .U) (width c) v ++ (endRecord route ∷ []))
     unfolding entryRecords conditionRecords unlessNone kind
     entry-unless v =
-        unless-append a (orderRecords c) (conditionRecords c ++ (verdictRecords (c .U) (width c) v ++ (endRecord route ∷ []))) (order-unless c)
+        unless-append a (orderRecords c) (conditionRecords c ++ (verdictRecords (c .U) (width c) v ++ (endRecord route ∷ [])))
+        (order-unless c)
         ∙ unless-append a (map conditionRecord (monomials (width c) (present (c .table))))
         (verdictRecords (c .U) (width c) v ++ (endRecord route ∷ []))
         (monomials-unless 0 (monomials (width c) (present (c .table))))

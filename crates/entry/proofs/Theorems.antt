@@ -97,8 +97,8 @@ written route c a =
       used = refl;
     }
 
--- demand 2: a written entry, with any bytes behind it, reads back: the route, U, G, the order, the condition, solved or 'none' and the state,
--- the answers, and the length used
+-- demand 2: a written entry, with any bytes behind it, reads back: the route, U, G, the order, the condition, solved or 'none' and the
+-- state, the answers, and the length used
 pub reads-back : (route : ℕ) (c : Condition) (behind : List ℕ) → Archivable route c → ReadsBack route c (records (entry route c ++ behind))
 reads-back route c behind a = rw (entry-records route c behind) (written route c a)
 
@@ -135,8 +135,8 @@ pub same-verdict : (v : Verdict (List ℕ)) → sameVerdict v v ≡ true
 same-verdict (solved a) = same-bytes a
 same-verdict (none state) = eq-eqb (state .0) (state .0) refl
 
--- demand 2: 'Bytes that pass the audit are exactly those that the writer makes'. If each of 10, 11, 1, 2, 12, 17, 13 is answered yes, the bytes, as
--- far as they are used, are the entry of the route and condition that reading them gives ..
+-- demand 2: 'Bytes that pass the audit are exactly those that the writer makes'. If each of 10, 11, 1, 2, 12, 17, 13 is answered yes, the
+-- bytes, as far as they are used, are the entry of the route and condition that reading them gives ..
 pub audited-entry : (bs : List ℕ) → AreBytes bs → Passes (records bs) → answersHold (records bs) ≡ true
     → take (length (bytes (records bs))) bs ≡ entry (routeOf (records bs)) (heldCondition (records bs))
 unfolding answersHold entry

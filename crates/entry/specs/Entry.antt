@@ -1,5 +1,5 @@
--- The entry of a condition (document 01, 'The archive entry'; document 02, C-11): 'An entry is one kind 1; kind 2 in written order; kind 3 by unknown,
--- then written order, or one kind 5; one kind 4. Answers are Boole's'.
+-- The entry of a condition (document 01, 'The archive entry'; document 02, C-11): 'An entry is one kind 1; kind 2 in written order; kind 3
+-- by unknown, then written order, or one kind 5; one kind 4. Answers are Boole's'.
 -- Assumes nothing.
 use mathlib.Core.Path.{_≡_}
 use mathlib.Core.Bool.{true, cond}

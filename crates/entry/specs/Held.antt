@@ -1,5 +1,5 @@
--- What some bytes hold (document 01, 'The archive entry'; document 02, C-11): their records, and what these say of a condition and its answers.
--- Every definition is total, on any bytes.
+-- What some bytes hold (document 01, 'The archive entry'; document 02, C-11): their records, and what these say of a condition and its
+-- answers. Every definition is total, on any bytes.
 -- Assumes nothing.
 use mathlib.Core.Bool.{Bool, false, _&&_, _||_, cond}
 use mathlib.Core.List.{List, [], _∷_}

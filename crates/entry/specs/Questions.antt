@@ -23,8 +23,8 @@ unfoldable pub hasEnd : List Record → Bool
 hasEnd [] = false
 hasEnd (r ∷ rs) = isEnd r || hasEnd rs
 
--- 'An entry is one kind 1; kind 2 ..; kind 3 .., or one kind 5; one kind 4', and 'A kind 6 record .. follows kind 1': the kinds that may stand right
--- behind each kind, kind 1 first
+-- 'An entry is one kind 1; kind 2 ..; kind 3 .., or one kind 5; one kind 4', and 'A kind 6 record .. follows kind 1': the kinds that may
+-- stand right behind each kind, kind 1 first
 abbrev pub followers : List (List ℕ)
 followers =
     (2 ∷ 3 ∷ 4 ∷ 5 ∷ 6 ∷ [])

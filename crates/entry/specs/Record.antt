@@ -1,5 +1,6 @@
--- The records of an entry (document 01, 'The archive entry'; document 02, C-11): 'Each record is one byte of kind, then a body whose length the kind fixes.'
--- A record is its bytes. What stands in the body of each kind is said once, in `layout`; lengths, bytes and what a record says follow from it.
+-- The records of an entry (document 01, 'The archive entry'; document 02, C-11): 'Each record is one byte of kind, then a body whose length
+-- the kind fixes.' A record is its bytes. What stands in the body of each kind is said once, in `layout`; lengths, bytes and what a record
+-- says follow from it.
 -- Assumes nothing.
 use mathlib.Core.Bool.{Bool, true, false, _&&_, _||_, not, cond}
 use mathlib.Core.List.{List, [], _∷_, _++_}
@@ -187,7 +188,8 @@ sameBytes (x ∷ xs) (y ∷ ys) = eqb x y && sameBytes xs ys
 unfoldable pub isDefault : ℕ → List ℕ → Bool
 isDefault U bs = sameBytes bs (defaultBytes U)
 
--- 12, of kind 6: it 'is left out for the order 0, 1, 2 and so on, and must be, so question 12 refuses it there, and asks nothing else of kind 6'
+-- 12, of kind 6: it 'is left out for the order 0, 1, 2 and so on, and must be, so question 12 refuses it there, and asks nothing else of
+-- kind 6'
 unfoldable pub isNeeded : ℕ → Record → Bool
 isNeeded U r = not (isOrder r && isDefault U (drop 1 r))
 

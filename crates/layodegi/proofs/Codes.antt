@@ -97,7 +97,8 @@ lacks k (asksGiving question answer given ∷ rest) = not (eqb (number question)
 first-other : (k : ℕ) (questions : List Asked) → (0 ≡ k → ⊥) → lacks k questions ≡ true → firstNo questions ≡ k → ⊥
 unfolding lacks firstNo
 first-other k [] n h e = n e
-first-other k (asksGiving question true given ∷ rest) n h e = first-other k rest n (and-right (not (eqb (number question) k)) (lacks k rest) h) e
+first-other k (asksGiving question true given ∷ rest) n h e =
+    first-other k rest n (and-right (not (eqb (number question) k)) (lacks k rest) h) e
 first-other k (asksGiving question false given ∷ rest) n h e =
     never (and-left (not (eqb (number question) k)) (lacks k rest) h) (rw (eq-eqb (number question) k e))
 
@@ -273,7 +274,8 @@ module _ (U G : ℕ) (order condition : List ℕ) (room : ℕ) where
       let most = smallest-most (2 ^ G) (λ s. blocked U G (polynomial (lentCondition U G order condition)) (record { 0 = s })) in
       omega (arith, most, givens-few U G letters)
 
-  pub solving-decoded : stateReply (code (reply (solvingQuestions U G order condition room) [])) ≡ reply (solvingQuestions U G order condition room) []
+  pub solving-decoded : stateReply (code (reply (solvingQuestions U G order condition room) []))
+      ≡ reply (solvingQuestions U G order condition room) []
   unfolding before-solution solvingQuestions bufferQuestions roomQuestions bitQuestions numbersBelow lacks
   solving-decoded =
       state-back before-solution _ _ refl (first-below 256 before-solution (omega arith) refl)

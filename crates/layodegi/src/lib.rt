@@ -1,6 +1,6 @@
 // The library as C and Rust see it: one exported function for each public call, on numbers and byte slices.
-// A slice passes as a pointer and then a length, an order of six bytes as a pointer alone. Each function has the contract of its call, with the answer as a code
-// (`specs/Codes.antt`).
+// A slice passes as a pointer and then a length, an order of six bytes as a pointer alone. Each function has the contract of its call, with
+// the answer as a code (`specs/Codes.antt`).
 use calls::Heading;
 use calls::Outcome;
 use calls::Read;

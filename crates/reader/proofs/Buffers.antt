@@ -130,7 +130,8 @@ module _ (bs : List ℕ) (p : firstNo (entryQuestions (records bs)) ≡ 0) {h : 
 
     pub read-short : (q ≡ 0 → ⊥) → answered (refused q []) (lent ∷ c ∷ a ∷ []) ≡ readCall bs lent c a
     unfolding readQuestions entryQuestions bufferQuestions roomQuestions bitQuestions
-    read-short n = call-refused (readQuestions (records bs) (length c) (length a)) _ (_ into lent ∷ _ into c ∷ _ into a ∷ []) q refl refusal n
+    read-short n = call-refused (readQuestions (records bs) (length c) (length a)) _
+        (_ into lent ∷ _ into c ∷ _ into a ∷ []) q refl refusal n
 
     module _ (z : q ≡ 0) where
       roomy : (2 ^ (unknownsOf (records bs) + givensOf (records bs)) ≤ length c)

@@ -334,7 +334,8 @@ pub rank-fits : (m : ℕ) {k : ℕ} → m < 1024 → k ≡ rank 10 m → k < 163
 rank-fits m h e = rw e (rank-small m h)
 
 -- ---- the first no of what has been gathered, question by question
-pub chain : (x : Gathered) (fits : Bool) (route : ℕ) (inOrder : Bool) {q1 q2 q3 q4 q5 q6 w : ℕ} {b : Bool} → q1 ≡ also 0 (asks Records (ltb 0 (x .used)) ∷ [])
+pub chain : (x : Gathered) (fits : Bool) (route : ℕ) (inOrder : Bool) {q1 q2 q3 q4 q5 q6 w : ℕ} {b : Bool}
+    → q1 ≡ also 0 (asks Records (ltb 0 (x .used)) ∷ [])
     → q2 ≡ also q1 (asks Kinds (x .kinds) ∷ []) → q3 ≡ also q2 (asks Letters fits ∷ []) → w ≡ route → b ≡ routeFits w
     → q4 ≡ also q3 (asks Route b ∷ []) → q5 ≡ also q4 (asks Numbers (x .numbers) ∷ [])
     → q6 ≡ also q5 (asks Order inOrder ∷ []) → q6 ≡ firstNo (gatheredQuestions x fits route inOrder)

@@ -82,9 +82,19 @@ furtherRows =
 unfoldable pub orderRows : List Row
 orderRows =
     -- (2,0) `u*v`, u first: u = u + u*v, v = v
-    record { condition = ordered 2 0 (0 ∷ 1 ∷ []) (0 ∷ 0 ∷ 0 ∷ 1 ∷ []); verdict = solved (0 ∷ 1 ∷ 0 ∷ 1 ∷ 0 ∷ 0 ∷ 1 ∷ 0 ∷ []); lowenheim = nothing }
+    record {
+      condition = ordered 2 0 (0 ∷ 1 ∷ []) (0 ∷ 0 ∷ 0 ∷ 1 ∷ []);
+      verdict = solved
+          (0 ∷ 1 ∷ 0 ∷ 1 ∷ 0 ∷ 0 ∷ 1 ∷ 0 ∷ []);
+      lowenheim = nothing;
+    }
     -- (2,0) `u*v`, v first: u = u, v = v + u*v
-    ∷ record { condition = ordered 2 0 (1 ∷ 0 ∷ []) (0 ∷ 0 ∷ 0 ∷ 1 ∷ []); verdict = solved (0 ∷ 1 ∷ 0 ∷ 0 ∷ 0 ∷ 0 ∷ 1 ∷ 1 ∷ []); lowenheim = nothing }
+    ∷ record {
+      condition = ordered 2 0 (1 ∷ 0 ∷ []) (0 ∷ 0 ∷ 0 ∷ 1 ∷ []);
+      verdict = solved
+          (0 ∷ 1 ∷ 0 ∷ 0 ∷ 0 ∷ 0 ∷ 1 ∷ 1 ∷ []);
+      lowenheim = nothing;
+    }
     -- (2,0) `u+v+1`, v first: u = u, v = 1 + u; Löwenheim u = u + u*v, v = 1 + u + u*v
     ∷ record {
       condition = ordered 2 0 (1 ∷ 0 ∷ []) (1 ∷ 1 ∷ 1 ∷ 0 ∷ []);
@@ -92,7 +102,12 @@ orderRows =
       lowenheim = theTable (0 ∷ 1 ∷ 0 ∷ 1 ∷ 1 ∷ 1 ∷ 0 ∷ 1 ∷ []);
     }
     -- (2,1) `a`, v first: none, state 1, as with u first
-    ∷ record { condition = ordered 2 1 (1 ∷ 0 ∷ []) (0 ∷ 0 ∷ 0 ∷ 0 ∷ 1 ∷ 0 ∷ 0 ∷ 0 ∷ []); verdict = none (record { 0 = 1 }); lowenheim = nothing }
+    ∷ record {
+      condition = ordered 2 1 (1 ∷ 0 ∷ []) (0 ∷ 0 ∷ 0 ∷ 0 ∷ 1 ∷ 0 ∷ 0 ∷ 0 ∷ []);
+      verdict = none
+          (record { 0 = 1 });
+      lowenheim = nothing;
+    }
     ∷ []
 
 -- the own Löwenheim answer is the one stated, if one is

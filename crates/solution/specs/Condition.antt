@@ -1,4 +1,5 @@
--- What is solved: a condition over its letters, and the order in which its unknowns go (document 01, 'Boole's elimination'; document 02, C-11).
+-- What is solved: a condition over its letters, and the order in which its unknowns go (document 01, 'Boole's elimination'; document 02,
+-- C-11).
 -- Assumes nothing.
 use mathlib.Core.Path.{_≡_}
 use mathlib.Core.List.{List}

@@ -1,5 +1,5 @@
--- An order as it is lent and archived (document 02, C-11): 'six bytes as in kind 6, first eliminated first', 'the unknown numbers in order, then
--- 255 in unused places'.
+-- An order as it is lent and archived (document 02, C-11): 'six bytes as in kind 6, first eliminated first', 'the unknown numbers in order,
+-- then 255 in unused places'.
 -- Assumes nothing.
 use mathlib.Core.Bool.{Bool, _&&_}
 use mathlib.Core.List.{List}

@@ -23,7 +23,7 @@ pub enum Question {
     Solution, // Has the condition a solution?
     Records, // Does every record, to the first kind 4, have kind 1 to 6 and a whole body, and is there a kind 4?
     Kinds, // Are the kinds in the entry's order, both routes equal?
-    Numbers, // Are masks below 2^n, unknowns below U, the state below 2^G, all in order, none twice, and is no kind 6 there for 0, 1, 2, ..?
+    Numbers, // Are masks below 2^n, unknowns below U, the state below 2^G, all in order, none twice, no kind 6 for 0, 1, 2, ..?
     Afresh, // Do the answers, or the state, equal those solved afresh?
     Output, // Is the output at least as long as what is to be written?
     Rising, // Is the route above the one before?

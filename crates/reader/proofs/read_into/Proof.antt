@@ -47,11 +47,13 @@ read-into-spec =
     (λ c κs. search needs)
     (λ c. search needs)
     (λ c. search needs)
-    (λ c. let f = c .before .before .before .before .before .before .before .before .before .before .before .before .before .before .before .before .before in
+    (λ c. let f = c .before .before .before .before .before .before .before .before .before .before .before .before .before
+    .before .before .before .before in
     let asked = f .before .before .before .before .before .before .before .pre in
     let filled = c .before .before .before .before .before .before .fill .ensures in
     let condition-cleared =
-    c .before .before .before .before .before .before .before .before .before .before .before .before .before .before .before .clear .ensures in
+    c .before .before .before .before .before .before .before .before .before .before .before .before .before .before
+    .before .clear .ensures in
     let answers-cleared = c .before .before .before .before .before .before .before .before .before .before .before .clear2 .ensures in
     read-done _ (asked .0) (asked .1) _ _ _ (f .before .before .before .pow2 .ensures) (f .before .before .room-refusal .ensures)
     (f .before .if1 .left) (asked .2) (f .answer-room .ensures) condition-cleared (filled .0) answers-cleared (filled .1)

@@ -10,7 +10,8 @@ use Rattle.records.proofs.order_of.Statement.{statement}
 use Rattle.records.proofs.order_of.Tie as tie
 
 -- the second record ends within the bytes
-within : (c : tie.Else4) → c .before .before .before .before .before .before .before .size-at .result + c .before .before .before .size-at2 .result
+within : (c : tie.Else4)
+    → c .before .before .before .before .before .before .before .size-at .result + c .before .before .before .size-at2 .result
     ≤ length (c .before .before .before .before .before .before .before .before .before .args .s .now)
 within c = search second-within
 
@@ -27,7 +28,8 @@ order-of-spec =
     (λ c κs. search first-within)
     (λ c κs. search needs)
     (λ c. search order-no-second)
-    (λ c. second-some _ (c .before .before .before .before .before .before .size-at .ensures) (c .before .before .size-at2 .ensures) (c .before .if3 .left))
+    (λ c. second-some _ (c .before .before .before .before .before .before .size-at .ensures) (c .before .before .size-at2 .ensures)
+    (c .before .if3 .left))
     (λ c κs. search needs)
     (λ c. search order-other)
     (λ c. omega (arith, within c))

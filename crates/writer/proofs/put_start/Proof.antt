@@ -12,7 +12,8 @@ put-order-requires : tie.Need-put-order-requires
 put-order-requires c κs =
     let asked = c .before .before in
     let put = asked .before .before .before in
-    start-room _ _ (asked .is-default .ensures) _ _ (put .put4 .ensures) (c .before .if1 .left) (omega arith) (put .before .before .before .pre .2)
+    start-room _ _ (asked .is-default .ensures) _ _ (put .put4 .ensures) (c .before .if1 .left) (omega arith) (put .before .before
+    .before .pre .2)
 
 returns-2 : tie.Need-returns-2
 returns-2 c =
