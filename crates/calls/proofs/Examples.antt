@@ -21,7 +21,7 @@ use Rattle.entry.specs.Held.{next, untilEnd, firstRecords, records, hasMonomial
 use Rattle.entry.specs.Held.{orderIn, heldVerdict}
 use Rattle.entry.specs.Questions.{routeFits, hasEnd, mayFollow, kindsFollow, kindsFit, allInBounds, standsBefore, inOrder, allInOrder}
 use Rattle.entry.specs.Questions.{numbersFit, answersHold}
-use Rattle.calls.specs.Questions.{entryQuestions, auditQuestions, routeRises, walkQuestions}
+use Rattle.calls.specs.Questions.{solvingQuestions, writeQuestions, entryQuestions, auditQuestions, routeRises, walkQuestions}
 use Rattle.calls.specs.Walk.{walkAtMost, walkBehind, walkReply}
 
 -- `u+v` with u = v and v = v, but for its end
@@ -89,6 +89,8 @@ walks =
     ∷ record { volume = orderedEntry (orderOf 1 1); place = 0; answer = refused 17 (0 ∷ []) }
     ∷ record { volume = orderedEntry (6 ∷ 1 ∷ 255 ∷ 0 ∷ 255 ∷ 255 ∷ 255 ∷ []); place = 0; answer = refused 17 (0 ∷ []) }
     ∷ record { volume = orderedEntry (orderOf 1 2); place = 0; answer = refused 17 (0 ∷ []) }
+    -- 12 is asked before 17
+    ∷ record { volume = orderedEntry (orderOf 1 1 ++ (2 ∷ 3 ∷ 0 ∷ [])); place = 0; answer = refused 12 (0 ∷ []) }
     -- twice, behind a monomial, cut short
     ∷ record { volume = orderedEntry (orderOf 1 0 ++ orderOf 1 0); place = 0; answer = refused 11 (0 ∷ []) }
     ∷ record { volume = orderedEntry (2 ∷ 0 ∷ 0 ∷ orderOf 1 0); place = 0; answer = refused 11 (0 ∷ []) }
@@ -98,4 +100,15 @@ walks =
 pub walks-hold : AllHold walks
 unfolding times orderBytes orderFits orderIn isDefault isNeeded walkReply walkBehind walkAtMost walkQuestions routeRises firstNo lettersFit auditQuestions entryQuestions answersHold sameBytes numbersFit allInOrder inOrder standsBefore allInBounds inBounds bodyFits kindsFit kindsFollow mayFollow has hasEnd routeFits records firstRecords untilEnd next kind size fields widths valueOf valueIn fromLowFirst among bytes hasMonomial conditionIn answersIn unlessNone heldCondition heldVerdict letters before table tabulate answerTable present solve booleTable solvable isZero everyBelow remains nextCondition product restrict odd count bit defaultOrder listed booleAnswers answerFrom sum letter constant substitute monomial smallestBlocked smallestBelow blocked point value within
 walks-hold = refl also refl also refl also refl also refl also refl also refl also refl also refl also refl also refl also refl also refl
-    also refl also refl also refl also refl also refl also refl also refl also refl also refl also refl also refl also end
+    also refl also refl also refl also refl also refl also refl also refl also refl also refl also refl also refl also refl also end
+
+-- 17 is asked behind 1, behind 2 when writing, and before 4: of an order that has unknown 0 twice, and a condition without bytes
+abbrev noOrder : List ℕ
+noOrder = 0 ∷ 0 ∷ 255 ∷ 255 ∷ 255 ∷ 255 ∷ []
+
+pub order-asked : (firstNo (solvingQuestions 7 0 noOrder [] 0) ≡ 1)
+    × (firstNo (solvingQuestions 2 0 noOrder [] 0) ≡ 17)
+    × (firstNo (writeQuestions 0 2 0 noOrder [] 0) ≡ 2)
+    × (firstNo (writeQuestions 7 2 0 noOrder [] 0) ≡ 17)
+unfolding firstNo solvingQuestions writeQuestions lettersFit routeFits orderFits times everyBelow
+order-asked = (refl, refl, refl, refl)
