@@ -1,5 +1,7 @@
 //! Sixty-four values to a word.
 
+use std::array;
+
 use super::block::{operands, Block, Operands, LOW_LETTERS, MOST_BLOCKS, OPERAND_ONE};
 
 static OPERANDS: Operands<u64> = operands!(u64);
@@ -74,23 +76,31 @@ impl Block for u64 {
         self
     }
 
-    /// By choices: the value where letter j is 1, or where it is 0, as part j says.
+    /// By choices, word by word: the two lowest letters at once, by what stands for each four bits, then
+    /// the others from the last on, halving the words.
     fn look_up<const K: usize>(whole: &[u64; K], parts: &[[u64; K]]) -> [u64; K] {
-        let Some((part, others)) = parts.split_last() else {
-            return *whole;
-        };
-        // the unknowns are among the letters within a word
-        let j = others.len();
-        let (mut one, mut zero) = (*whole, *whole);
-        for k in 0..K {
-            let change = whole[k] ^ whole[k].turned(j);
-            zero[k] ^= Self::LOW[j] & change;
-            one[k] ^= !Self::LOW[j] & change;
-        }
-        let (mut zero, one) = (u64::look_up(&zero, others), u64::look_up(&one, others));
-        for k in 0..K {
-            zero[k] ^= part[k] & (zero[k] ^ one[k]);
-        }
-        zero
+        array::from_fn(|k| {
+            // the unknowns are among the letters within a word; every other stands for itself
+            let put = |j: usize| parts.get(j).map_or(Self::LOW[j], |part| part[k]);
+            let (first, second) = (put(0), put(1));
+            let fours: [u64; 16] = array::from_fn(|bits| {
+                let full = |place: usize| (bits as u64 >> place & 1).wrapping_neg();
+                pick(second, pick(first, full(0), full(1)), pick(first, full(2), full(3)))
+            });
+            let mut words: [u64; 16] = array::from_fn(|q| fours[(whole[k] >> (4 * q) & 15) as usize]);
+            for (j, half) in [(5, 8), (4, 4), (3, 2), (2, 1)] {
+                let (chooses, (zero, one)) = (put(j), words.split_at_mut(half));
+                for (zero, &one) in zero.iter_mut().zip(&*one) {
+                    *zero = pick(chooses, *zero, one);
+                }
+            }
+            words[0]
+        })
     }
+}
+
+/// Of two words, point by point the one that the first chooses.
+#[inline(always)]
+fn pick(chooses: u64, zero: u64, one: u64) -> u64 {
+    zero ^ chooses & (zero ^ one)
 }
