@@ -178,6 +178,16 @@ fn examine(bytes: &[u8]) -> Result<Examined<'_>, Refusal> {
                 fits &= mask < masks && place > last;
                 last = place;
                 length += 3;
+                // those behind it, as long as each passes 12: only the place changes
+                while let [2, low, high, ..] = bytes[length..] {
+                    let mask = u16::from_le_bytes([low, high]) as u64;
+                    let place = place_of(0, mask);
+                    if mask >= masks || place <= last {
+                        break;
+                    }
+                    last = place;
+                    length += 3;
+                }
             }
             [3, unknown, low, high, ..] => {
                 ordered &= before != 5 && before != 0;
@@ -186,6 +196,15 @@ fn examine(bytes: &[u8]) -> Result<Examined<'_>, Refusal> {
                 fits &= mask < masks && (unknown as u64) < unknowns && place > last;
                 last = place;
                 length += 4;
+                while let [3, unknown, low, high, ..] = bytes[length..] {
+                    let mask = u16::from_le_bytes([low, high]) as u64;
+                    let place = place_of(1 + unknown as u64, mask);
+                    if mask >= masks || unknown as u64 >= unknowns || place <= last {
+                        break;
+                    }
+                    last = place;
+                    length += 4;
+                }
             }
             [1, first, u, g, ..] => {
                 ordered &= before == 0;
