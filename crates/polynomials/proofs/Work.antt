@@ -1,7 +1,7 @@
--- The steps of the inner functions put together: a sum, a product by values, and the parts of a substitution.
+-- The steps of the inner functions put together: a sum, a product and a join by values, and the parts of a substitution.
 -- Assumes nothing.
 use mathlib.Core.Path.{_≡_, sym, ap, ap₂, _∙_}
-use mathlib.Core.Bool.{Bool, _&&_, cond}
+use mathlib.Core.Bool.{Bool, _&&_, _||_, cond}
 use mathlib.Core.List.{List}
 use Prim.Native.Nat.{ℕ, _+_, _-_, _*_, _/_, _%_, _^_, _≤_, _<_}
 use native.Mathlib.Omega.{arith}
@@ -10,10 +10,12 @@ use lib.ListN.{length, take, drop}
 use borrow.Author.Tests.{lt-ltb, le-ltb}
 use Rattle.ring.specs.Letters.{bit}
 use Rattle.ring.specs.Lists.{listed}
-use Rattle.ring.specs.Polynomial.{value, sum, product}
+use Rattle.ring.specs.Polynomial.{Polynomial, value, sum, product}
+use Rattle.ring.specs.Join.{join}
 use Rattle.ring.specs.Table.{AreBits, IsTable, present, tabulate, table, held}
 use Rattle.ring.proofs.Lists.{listed-cong}
 use Rattle.ring.proofs.Value.{value-cong, value-product}
+use Rattle.ring.proofs.Join.{value-join}
 use Rattle.tables.proofs.Bits.{bits-take, bits-drop}
 use Rattle.tables.proofs.Filled.{filled}
 use Rattle.tables.proofs.Parts.{held-part}
@@ -28,16 +30,28 @@ pub sum-done : (n : ℕ) (a b o₁ o₂ : List ℕ) → IsTable n a → o₁ ≡
 unfolding table
 sum-done n a b o₁ o₂ t e₁ e₂ = e₂ ∙ rw (e₁, t .size)
 
--- to values, point by point, and back
+-- to values, point by point by an operator, and back
+by-points : (op : Bool → Bool → Bool) (f : Polynomial) (n k : ℕ) (a b x y z out : List ℕ)
+    → ((p : ℕ) → value n f p ≡ op (value n (present a) p) (value n (present b) p)) → k ≡ 2 ^ (n - 6)
+    → x ≡ wordsOf (2 ^ (n - 6)) (value n (present a)) → y ≡ wordsOf (2 ^ (n - 6)) (value n (present b))
+    → z ≡ wordsOf k (λ p. op (bitAt x p) (bitAt y p)) → out ≡ table n (value n (bitAt z)) → out ≡ table n f
+by-points op f n k a b x y z out ef ek ex ey ez eo =
+    eo ∙ table-back n f z (λ p l.
+    let m : p < 64 * 2 ^ (n - 6) = omega (arith, room n) in
+    at-known (2 ^ (n - 6)) _ z (ez ∙ ap (λ (q : ℕ). wordsOf q (λ p. op (bitAt x p) (bitAt y p))) ek) p m
+    ∙ ap₂ op (at-known (2 ^ (n - 6)) _ x ex p m) (at-known (2 ^ (n - 6)) _ y ey p m)
+    ∙ sym (ef p))
+
 pub product-done : (n k : ℕ) (a b x y z out : List ℕ) → k ≡ 2 ^ (n - 6) → x ≡ wordsOf (2 ^ (n - 6)) (value n (present a))
     → y ≡ wordsOf (2 ^ (n - 6)) (value n (present b))
     → z ≡ wordsOf k (λ p. bitAt x p && bitAt y p) → out ≡ table n (value n (bitAt z)) → out ≡ table n (product n (present a) (present b))
-product-done n k a b x y z out ek ex ey ez eo =
-    eo ∙ table-back n (product n (present a) (present b)) z (λ p l.
-    let m : p < 64 * 2 ^ (n - 6) = omega (arith, room n) in
-    at-known (2 ^ (n - 6)) _ z (ez ∙ ap (λ (q : ℕ). wordsOf q (λ p. bitAt x p && bitAt y p)) ek) p m
-    ∙ ap₂ _&&_ (at-known (2 ^ (n - 6)) _ x ex p m) (at-known (2 ^ (n - 6)) _ y ey p m)
-    ∙ sym (value-product n (present a) (present b) p))
+product-done n k a b x y z out =
+    by-points _&&_ (product n (present a) (present b)) n k a b x y z out (value-product n (present a) (present b))
+
+pub join-done : (n k : ℕ) (a b x y z out : List ℕ) → k ≡ 2 ^ (n - 6) → x ≡ wordsOf (2 ^ (n - 6)) (value n (present a))
+    → y ≡ wordsOf (2 ^ (n - 6)) (value n (present b))
+    → z ≡ wordsOf k (λ p. bitAt x p || bitAt y p) → out ≡ table n (value n (bitAt z)) → out ≡ table n (join n (present a) (present b))
+join-done n k a b x y z out = by-points _||_ (join n (present a) (present b)) n k a b x y z out (value-join n (present a) (present b))
 
 -- the handed table j
 module _ (n j size : ℕ) (t : List ℕ) (e : size ≡ 2 ^ n) where

@@ -1,4 +1,4 @@
-// The work of the calls on tables that have passed the questions: the sum, the product, and polynomials put for the unknowns of a condition.
+// The work of the calls on tables that have passed the questions: the sum, the product, the join, and polynomials put for the unknowns of a condition.
 // Nothing here is a public call of the library: the functions are for the crates above, which ask the questions first
 // and then lend slices of exactly the length that is needed. All but the sum go to values in words, and come back.
 ghost use mathlib.Core.Path.{_≡_};
@@ -8,6 +8,7 @@ ghost use lib.ListN.{length, getD, drop};
 ghost use Rattle.ring.specs.Letters.{bit, pointWhere};
 ghost use Rattle.ring.specs.Lists.{listed};
 ghost use Rattle.ring.specs.Polynomial.{sum, product, substitute};
+ghost use Rattle.ring.specs.Join.{join};
 ghost use Rattle.ring.specs.Table.{AreBits, IsTable, present, table, held, forUnknowns};
 ghost use Rattle.words.specs.Inner.Words.{wordOf, wordsOf, bitAt, answerWords};
 ghost use Rattle.polynomials.specs.Inner.LookUp.{chosen, placeOf, putFor};
@@ -48,6 +49,28 @@ pub fn multiply(n: usize, a: &[u8], b: &[u8], out: &mut [u8])
     let mut first = [0u64; 16];
     let mut second = [0u64; 16];
     multiply_with(n, a, b, out, &mut first[..k], &mut second[..k]);
+}
+
+fn join_with(n: usize, a: &[u8], b: &[u8], out: &mut [u8], first: &mut [u64], second: &mut [u64])
+    requires { ⌜ (n ≤ 10) × IsTable n (now a) × IsTable n (now b) × (length (now out) ≡ 2 ^ n) × (length (now first) ≡ 2 ^ (n - 6))
+        × (length (now second) ≡ 2 ^ (n - 6)) ⌝ }
+    ensures { λ _. ⌜ now (out .exit) ≡ table n (join n (present (now (a .entry))) (present (now (b .entry)))) ⌝ }
+{
+    words::take_values(n, a, first);
+    words::take_values(n, b, second);
+    words::join_into(first, second);
+    words::put_table(n, first, out);
+}
+
+// Two tables joined, into a third. The scratch words live here.
+pub fn join(n: usize, a: &[u8], b: &[u8], out: &mut [u8])
+    requires { ⌜ (n ≤ 10) × IsTable n (now a) × IsTable n (now b) × (length (now out) ≡ 2 ^ n) ⌝ }
+    ensures { λ _. ⌜ now (out .exit) ≡ table n (join n (present (now (a .entry))) (present (now (b .entry)))) ⌝ }
+{
+    let k = words::word_count(n);
+    let mut first = [0u64; 16];
+    let mut second = [0u64; 16];
+    join_with(n, a, b, out, &mut first[..k], &mut second[..k]);
 }
 
 // One bit of a word at all points.

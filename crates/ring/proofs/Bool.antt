@@ -67,6 +67,13 @@ pub ruleset ac = (xor-assoc, xor-comm, xor-left-comm, and-assoc, and-comm, and-l
 pub ruleset ring =
     (xor-assoc, xor-comm, xor-left-comm, and-assoc, and-comm, and-left-comm, and-xor, xor-and, xor-false, and-false, and-true, and-self)
 
+-- `s|t` is s + t + s*t
+pub or-ring : (a b : Bool) → (a ⊕ b ⊕ (a && b)) ≡ (a || b)
+or-ring true true = refl
+or-ring true false = refl
+or-ring false true = refl
+or-ring false false = refl
+
 -- a program's `^` on bools
 pub xor-code : (a b : Bool) → not (Bool·beq a b) ≡ (a ⊕ b)
 xor-code true true = refl

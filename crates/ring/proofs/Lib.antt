@@ -10,3 +10,4 @@ pub mod Transform
 pub mod Restrict
 pub mod Substitute
 pub mod Table
+pub mod Join

@@ -1,4 +1,5 @@
 pub mod Letters
 pub mod Polynomial
 pub mod Lists
+pub mod Join
 pub mod Table

@@ -7,6 +7,7 @@ pub mod Blocked
 pub mod Order
 pub mod OrderAsked
 pub mod Verdict
+pub mod Join
 pub mod Theorems
 pub mod Written
 pub mod ByPoints
