@@ -1,17 +1,17 @@
--- The questions that each call puts, in their order (document 01, 'The questions, and the number if the answer is no'; document 02, C-11):
+-- The questions that each call puts, in their order (document 01, 'The questions, and the number if the answer is no'; document 02, C-11 and C-12):
 -- 'The first no counts'. U unknowns and G givens, n = U + G; a table has 2 ^ n bytes, an answer or handed buffer U of them. A buffer that
 -- is only written comes as its number of bytes.
 -- Assumes nothing.
 use mathlib.Core.Bool.{Bool, _&&_, _||_}
-use mathlib.Core.List.{List, [], _∷_, _++_}
+use mathlib.Core.List.{List, [], _∷_, _++_, map}
 use Prim.Native.Nat.{ℕ, _+_, _*_, _^_}
 use lib.Dec.{eqb, leb, ltb}
 use lib.ListN.{length}
 use Rattle.ring.specs.declared.State.{State}
 use Rattle.ring.specs.declared.Choice.{Choice}
 use Rattle.tables.specs.declared.Question.the-variants.{Letters, Route, TextLength, Signs, Declared, Grammar, Solution, Records, Kinds}
-use Rattle.tables.specs.declared.Question.the-variants.{Numbers, Afresh, Output, Rising, Range, Order}
-use Rattle.tables.specs.Questions.{Asked, asks, asksGiving, lettersFit, reads, writes, bufferQuestions, inRange}
+use Rattle.tables.specs.declared.Question.the-variants.{Numbers, Afresh, Output, Rising, Range, Order, Name, Marked}
+use Rattle.tables.specs.Questions.{Asked, asks, asksGiving, lettersFit, reads, writes, bitQuestions, bufferQuestions, inRange}
 use Rattle.grammar.specs.Symbols.{allSigns, allDeclared}
 use Rattle.grammar.specs.Reader.{grammarReads}
 use Rattle.solution.specs.Condition.{Condition, width, polynomial}
@@ -114,3 +114,27 @@ routeRises before route = eqb before 0 || ltb before route
 -- 'Walk: the audit's, then 15, per entry'
 unfoldable pub walkQuestions : ℕ → List Record → List Asked
 walkQuestions before rs = auditQuestions rs ++ (asks Rising (routeRises before (routeOf rs)) ∷ [])
+
+-- 'The session starts with a U and G, under question 1'
+unfoldable pub startQuestions : ℕ → ℕ → List Asked
+startQuestions U G = asks Letters (lettersFit U G) ∷ []
+
+-- 'every step first puts 1 and 8 to the session handed in (8 to its present table and those of marked names)', which are these tables
+unfoldable pub sessionQuestions : ℕ → ℕ → List (List ℕ) → List Asked
+sessionQuestions U G tables = asks Letters (lettersFit U G) ∷ bitQuestions (map (reads (2 ^ (U + G))) tables)
+
+-- 'Adding a table h over those letters, under 4 and 8'
+unfoldable pub addQuestions : ℕ → ℕ → List (List ℕ) → List ℕ → List Asked
+addQuestions U G tables h = sessionQuestions U G tables ++ bufferQuestions (reads (2 ^ (U + G)) h ∷ [])
+
+-- 18: 'is the name a byte `A` to `D`'
+unfoldable pub isName : ℕ → Bool
+isName name = leb 65 name && leb name 68
+
+-- marking: the session's, then 18
+unfoldable pub markQuestions : ℕ → ℕ → List (List ℕ) → ℕ → List Asked
+markQuestions U G tables name = sessionQuestions U G tables ++ (asks Name (isName name) ∷ [])
+
+-- returning: then 19, 'when returning, is it marked'
+unfoldable pub returnQuestions : ℕ → ℕ → List (List ℕ) → ℕ → Bool → List Asked
+returnQuestions U G tables name marked = sessionQuestions U G tables ++ (asks Name (isName name) ∷ asks Marked marked ∷ [])

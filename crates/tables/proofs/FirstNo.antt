@@ -10,7 +10,7 @@ use borrow.Author.Tests.{ltb-true}
 use Rattle.ring.proofs.Bool.{and-left, and-right}
 use Rattle.tables.specs.declared.Question.{Question}
 use Rattle.tables.specs.declared.Question.the-variants.{Letters, Route, TextLength, Room, Signs, Declared, Grammar, Bits, Solution}
-use Rattle.tables.specs.declared.Question.the-variants.{Records, Kinds, Numbers, Afresh, Output, Rising, Range, Order}
+use Rattle.tables.specs.declared.Question.the-variants.{Records, Kinds, Numbers, Afresh, Output, Rising, Range, Order, Name, Marked}
 use Rattle.tables.specs.Questions.{Asked, asks, asksGiving, number, firstNo}
 use Rattle.tables.specs.Inner.Asking.{also}
 
@@ -33,6 +33,8 @@ number-some Output e = omega arith
 number-some Rising e = omega arith
 number-some Range e = omega arith
 number-some Order e = omega arith
+number-some Name e = omega arith
+number-some Marked e = omega arith
 
 -- ---- the question in front
 -- it is answered no
@@ -82,6 +84,11 @@ also-kept (suc found) questions n = refl
 pub also-none : (questions : List Asked) → firstNo questions ≡ also 0 questions
 unfolding also
 also-none questions = refl
+
+pub also-nothing : (found : ℕ) → found ≡ also found []
+unfolding also firstNo
+also-nothing zero = refl
+also-nothing (suc found) = refl
 
 pub first-also : (questions further : List Asked) → firstNo (questions ++ further) ≡ also (firstNo questions) further
 unfolding firstNo also

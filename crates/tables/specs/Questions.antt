@@ -11,7 +11,7 @@ use Rattle.ring.specs.declared.State.{State}
 use Rattle.ring.specs.declared.Choice.{Choice}
 use Rattle.tables.specs.declared.Question.{Question}
 use Rattle.tables.specs.declared.Question.the-variants.{Letters, Route, TextLength, Room, Signs, Declared, Grammar, Bits, Solution}
-use Rattle.tables.specs.declared.Question.the-variants.{Records, Kinds, Numbers, Afresh, Output, Rising, Range, Order}
+use Rattle.tables.specs.declared.Question.the-variants.{Records, Kinds, Numbers, Afresh, Output, Rising, Range, Order, Name, Marked}
 
 -- the number of each question, 1 to 16 document 01's
 abbrev pub number : Question → ℕ
@@ -50,6 +50,10 @@ number Rising = 15
 number Range = 16
 -- 'does the order hold each unknown once and then only 255' (document 02, C-11)
 number Order = 17
+-- 'is the name a byte `A` to `D`' (document 02, C-12)
+number Name = 18
+-- 'when returning, is it marked' (document 02, C-12)
+number Marked = 19
 
 -- a question as it is put: whether the answer is yes, and what a no gives with its number
 pub data Asked : Type 0 where

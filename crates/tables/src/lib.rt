@@ -29,6 +29,8 @@ pub enum Question {
     Rising, // Is the route above the one before?
     Range, // Is the state below 2^G and the choice below 2^U?
     Order, // Does the order hold each unknown once and then only 255?
+    Name, // Is the name a byte `A` to `D`?
+    Marked, // When returning, is it marked?
 }
 
 // The number of a question.
@@ -53,6 +55,8 @@ pub fn number(question: Question) -> u8
         Question::Rising => 15,
         Question::Range => 16,
         Question::Order => 17,
+        Question::Name => 18,
+        Question::Marked => 19,
     }
 }
 
