@@ -1,7 +1,7 @@
 -- What a list of steps leaves behind (document 02, C-12): the session after it, by the contracts of the calls, and the lists of added
 -- conditions 'as the history defines it', by document 02's words alone. `proofs/History.antt` shows that the session holds their tables.
 -- Assumes nothing.
-use mathlib.Core.Bool.{Bool, true, false, _&&_, cond}
+use mathlib.Core.Bool.{Bool, true, false, not, _&&_, cond}
 use mathlib.Core.List.{List, [], _∷_, _++_, map}
 use Prim.Native.Nat.{ℕ, _-_, _+_, _^_}
 use lib.Dec.{eqb}
@@ -68,6 +68,13 @@ unfoldable mutual
   listUnder n name (adds h ∷ before) = listUnder n name before
   listUnder n name (marks x ∷ before) = cond (isName x && eqb x name) (stored (presentList n before)) (listUnder n name before)
   listUnder n name (returns x ∷ before) = listUnder n name before
+
+-- no step of the list marks the name x
+unfoldable pub leavesMark : ℕ → History → Bool
+leavesMark x [] = true
+leavesMark x (adds h ∷ before) = leavesMark x before
+leavesMark x (marks name ∷ before) = not (eqb name x) && leavesMark x before
+leavesMark x (returns name ∷ before) = leavesMark x before
 
 -- is a list stored?
 abbrev pub isStored : Stored → Bool
