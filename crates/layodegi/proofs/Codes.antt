@@ -1,5 +1,5 @@
 -- No answer is lost in its code: taken apart, the code that an exported function returns gives back the answer that its contract names,
--- whatever the caller lends. For numbers of questions are at most 17, a state is below 256, an entry has at most 27,661 bytes, and a volume
+-- whatever the caller lends. For numbers of questions are bytes, a state is below 256, an entry has at most 27,661 bytes, and a volume
 -- at most 250 entries, since their routes rise.
 -- Assumes nothing.
 use mathlib.Core.Path.{_≡_, refl, sym, ap, _∙_, subst}
@@ -22,7 +22,7 @@ use Rattle.tables.specs.declared.Question.the-variants.{Letters, Solution, Orde
 use Rattle.tables.specs.Questions.{Asked, asks, asksGiving, number, firstNo, lettersFit, reads, writes, roomQuestions, bitQuestions}
 use Rattle.tables.specs.Questions.{bufferQuestions}
 use Rattle.tables.specs.Answered.{Reply, accepted, refused, reply}
-use Rattle.tables.proofs.FirstNo.{number-some, yes-to, asked-before, numbersBelow, first-below}
+use Rattle.tables.proofs.FirstNo.{number-some, first-small, yes-to, asked-before}
 use Rattle.tables.proofs.Answered.{givesNothing, reply-behind, reply-stops}
 use Rattle.tables.proofs.Questions.{letters-small, unknowns-small}
 use Rattle.solution.specs.Condition.{polynomial}
@@ -40,12 +40,15 @@ use Rattle.entry.proofs.Verdicts.{VerdictFits}
 use Rattle.entry.proofs.Theorems.{entry-bound}
 use Rattle.calls.specs.Questions.{asksSolution, valueQuestions, pairQuestions, substituteQuestions, textQuestions}
 use Rattle.calls.specs.Questions.{solvingQuestions, handedQuestions, writeQuestions, entryQuestions, readQuestions, auditQuestions}
-use Rattle.calls.specs.Questions.{walkQuestions}
-use Rattle.calls.specs.Operations.{valueAt}
+use Rattle.calls.specs.Questions.{walkQuestions, startQuestions, addQuestions, markQuestions, returnQuestions}
+use Rattle.calls.specs.Operations.{outcome, valueAt}
 use Rattle.calls.specs.Entries.{lentEntry, readValues, stateOf}
 use Rattle.calls.specs.Walk.{walkRefusal, walkReply, Ends, at-end, refused-at, Walks}
 use Rattle.calls.proofs.Questions.{passes-exactly}
 use Rattle.calls.proofs.Volume.{walk-exact, entries-most}
+use Rattle.session.specs.declared.Session.{Session}
+use Rattle.session.specs.Session.{newSession, askedTables, under, added, marked, returned, stepped, startStep}
+use Rattle.session.specs.History.{Action, adds, marks, returns, stepFrom}
 use Rattle.layodegi.specs.Codes.{narrow, code, headingCode, entryCode, numbered, stateIn, plainReply, valueReply, stateReply}
 use Rattle.layodegi.specs.Codes.{countReply, entryReply}
 
@@ -67,20 +70,20 @@ reply-numbered (asksGiving question true [] ∷ rest) values p = reply-numbered 
 reply-numbered (asksGiving question false [] ∷ rest) values p = numbered-some (number question) values (number-some question)
 reply-numbered (asksGiving question answer (x ∷ given) ∷ rest) values p = let z : _≡_ {A = ℕ} 0 1 = (cc) in absurd (omega arith)
 
-plain-back : (questions : List Asked) → givesNothing questions ≡ true → firstNo questions < 256
+plain-back : (questions : List Asked) → givesNothing questions ≡ true
     → plainReply (code (reply questions [])) ≡ reply questions []
 unfolding numbered
-plain-back questions p h = rw (reply-numbered questions [] p) (go (firstNo questions) h)
+plain-back questions p = rw (reply-numbered questions [] p) (go (firstNo questions) (first-small questions))
   where
     go : (q : ℕ) → q < 256 → plainReply (code (numbered q [])) ≡ numbered q []
     go zero l = refl
     go (suc n) l = let e : suc n % 256 ≡ suc n = omega arith in rw e
 
-value-back : (questions : List Asked) (v : ℕ) → givesNothing questions ≡ true → firstNo questions < 256
+value-back : (questions : List Asked) (v : ℕ) → givesNothing questions ≡ true
     → (firstNo questions ≡ 0 → v < 4294967296)
     → valueReply (code (reply questions (v ∷ []))) ≡ reply questions (v ∷ [])
 unfolding numbered
-value-back questions v p h f = rw (reply-numbered questions (v ∷ []) p) (go (firstNo questions) h f)
+value-back questions v p f = rw (reply-numbered questions (v ∷ []) p) (go (firstNo questions) (first-small questions) f)
   where
     go : (q : ℕ) → q < 256 → (q ≡ 0 → v < 4294967296) → valueReply (code (numbered q (v ∷ []))) ≡ numbered q (v ∷ [])
     go zero l small =
@@ -103,12 +106,12 @@ first-other k (asksGiving question false given ∷ rest) n h e =
     never (and-left (not (eqb (number question) k)) (lacks k rest) h) (rw (eq-eqb (number question) k e))
 
 -- question 9 behind questions with other numbers
-state-back : (front : List Asked) (answer : Bool) (s : ℕ) → givesNothing front ≡ true → firstNo front < 256 → (firstNo front ≡ 9 → ⊥)
+state-back : (front : List Asked) (answer : Bool) (s : ℕ) → givesNothing front ≡ true → (firstNo front ≡ 9 → ⊥)
     → (firstNo front ≡ 0 → s < 4294967296)
     → stateReply (code (reply (front ++ (asksGiving Solution answer (s ∷ []) ∷ [])) []))
     ≡ reply (front ++ (asksGiving Solution answer (s ∷ []) ∷ [])) []
 unfolding numbered reply
-state-back front answer s p h o f = go (ℕ-discrete (firstNo front) 0)
+state-back front answer s p o f = go (ℕ-discrete (firstNo front) 0)
   where
     last : List Asked
     last = asksGiving Solution answer (s ∷ []) ∷ []
@@ -128,7 +131,7 @@ state-back front answer s p h o f = go (ℕ-discrete (firstNo front) 0)
 
     go : Dec (firstNo front ≡ 0) → stateReply (code (reply (front ++ last) [])) ≡ reply (front ++ last) []
     go (yes z) = rw (← reply-behind front last [] z) (asked-last answer (f z))
-    go (no n) = rw (← reply-stops front last [] p n) (earlier (firstNo front) h o n)
+    go (no n) = rw (← reply-stops front last [] p n) (earlier (firstNo front) (first-small front) o n)
 
 count-back : (count : ℕ) → count < 4294967296 → countReply (code (accepted (count ∷ []))) ≡ accepted (count ∷ [])
 count-back count h =
@@ -187,11 +190,12 @@ module _ (route U G used : ℕ) where
       fields-back route U G used (1 + state .0 % 256) (f .of-route) (f .of-unknowns) (f .of-givens) (f .of-length)
       ∙ ap (λ (k : ℕ). accepted (route ∷ U ∷ G ∷ used ∷ stateIn k)) e
 
-  entry-back : (questions : List Asked) (v : Verdict (List ℕ)) → givesNothing questions ≡ true → firstNo questions < 256
+  entry-back : (questions : List Asked) (v : Verdict (List ℕ)) → givesNothing questions ≡ true
       → (firstNo questions ≡ 0 → Fit route U G used v)
       → entryReply (entryCode (reply questions (route ∷ U ∷ G ∷ used ∷ stateOf v))) ≡ reply questions (route ∷ U ∷ G ∷ used ∷ stateOf v)
   unfolding numbered
-  entry-back questions v p h f = rw (reply-numbered questions (route ∷ U ∷ G ∷ used ∷ stateOf v) p) (go (firstNo questions) h f)
+  entry-back questions v p f =
+      rw (reply-numbered questions (route ∷ U ∷ G ∷ used ∷ stateOf v) p) (go (firstNo questions) (first-small questions) f)
     where
       go : (q : ℕ) → q < 256 → (q ≡ 0 → Fit route U G used v)
           → entryReply (entryCode (numbered q (route ∷ U ∷ G ∷ used ∷ stateOf v))) ≡ numbered q (route ∷ U ∷ G ∷ used ∷ stateOf v)
@@ -202,47 +206,44 @@ module _ (route U G used : ℕ) where
 -- the sum, the product, handed polynomials put into a condition, reading a text, handed Löwenheim
 pub pair-decoded : (U G : ℕ) (a b : List ℕ) (room : ℕ)
     → plainReply (code (reply (pairQuestions U G a b room) [])) ≡ reply (pairQuestions U G a b room) []
-unfolding pairQuestions bufferQuestions roomQuestions bitQuestions numbersBelow
-pair-decoded U G a b room = plain-back (pairQuestions U G a b room) refl (first-below 256 (pairQuestions U G a b room) (omega arith) refl)
+unfolding pairQuestions bufferQuestions roomQuestions bitQuestions
+pair-decoded U G a b room = plain-back (pairQuestions U G a b room) refl
 
 pub substitute-decoded : (U G : ℕ) (condition handed : List ℕ) (room : ℕ)
     → plainReply (code (reply (substituteQuestions U G condition handed room) []))
     ≡ reply (substituteQuestions U G condition handed room) []
-unfolding substituteQuestions bufferQuestions roomQuestions bitQuestions numbersBelow
+unfolding substituteQuestions bufferQuestions roomQuestions bitQuestions
 substitute-decoded U G condition handed room =
     plain-back (substituteQuestions U G condition handed room) refl
-    (first-below 256 (substituteQuestions U G condition handed room) (omega arith) refl)
 
 pub text-decoded : (U G : ℕ) (text : List ℕ) (room : ℕ)
     → plainReply (code (reply (textQuestions U G text room) [])) ≡ reply (textQuestions U G text room) []
-unfolding textQuestions bufferQuestions roomQuestions bitQuestions numbersBelow
+unfolding textQuestions bufferQuestions roomQuestions bitQuestions
 text-decoded U G text room =
-    plain-back (textQuestions U G text room) refl (first-below 256 (textQuestions U G text room) (omega arith) refl)
+    plain-back (textQuestions U G text room) refl
 
 pub handed-decoded : (U G : ℕ) (condition handed : List ℕ) (room : ℕ)
     → plainReply (code (reply (handedQuestions U G condition handed room) [])) ≡ reply (handedQuestions U G condition handed room) []
-unfolding handedQuestions bufferQuestions roomQuestions bitQuestions numbersBelow
+unfolding handedQuestions bufferQuestions roomQuestions bitQuestions
 handed-decoded U G condition handed room =
     plain-back (handedQuestions U G condition handed room) refl
-    (first-below 256 (handedQuestions U G condition handed room) (omega arith) refl)
 
 -- the value of a table, 0 or 1
 pub value-decoded : (U G : ℕ) (t : List ℕ) (state : State) (choice : Choice)
     → valueReply (code (reply (valueQuestions U G t state choice) (valueAt U G t state choice ∷ [])))
     ≡ reply (valueQuestions U G t state choice) (valueAt U G t state choice ∷ [])
-unfolding valueQuestions valueAt bufferQuestions roomQuestions bitQuestions numbersBelow
+unfolding valueQuestions valueAt bufferQuestions roomQuestions bitQuestions
 value-decoded U G t state choice =
-    value-back (valueQuestions U G t state choice) _ refl (first-below 256 (valueQuestions U G t state choice) (omega arith) refl)
+    value-back (valueQuestions U G t state choice) _ refl
     (λ z. omega (arith, digit-lt (value (U + G) (present t) (point U state choice))))
 
 -- the length written, which is an entry's
 pub written-decoded : (route U G : ℕ) (order condition : List ℕ) (room : ℕ)
     → valueReply (code (reply (writeQuestions route U G order condition room) (length (lentEntry route U G order condition) ∷ [])))
     ≡ reply (writeQuestions route U G order condition room) (length (lentEntry route U G order condition) ∷ [])
-unfolding writeQuestions bufferQuestions roomQuestions bitQuestions numbersBelow
+unfolding writeQuestions bufferQuestions roomQuestions bitQuestions
 written-decoded route U G order condition room =
     value-back (writeQuestions route U G order condition room) _ refl
-    (first-below 256 (writeQuestions route U G order condition room) (omega arith) refl)
     (λ z. omega (arith, entry-bound route (lentCondition U G order condition) (yes-to Letters (lettersFit U G) [] _ z .0)))
 
 -- Boole, the particular solution, own Löwenheim: the state is one of G givens, at most 8
@@ -276,9 +277,9 @@ module _ (U G : ℕ) (order condition : List ℕ) (room : ℕ) where
 
   pub solving-decoded : stateReply (code (reply (solvingQuestions U G order condition room) []))
       ≡ reply (solvingQuestions U G order condition room) []
-  unfolding before-solution solvingQuestions bufferQuestions roomQuestions bitQuestions numbersBelow lacks
+  unfolding before-solution solvingQuestions bufferQuestions roomQuestions bitQuestions lacks
   solving-decoded =
-      state-back before-solution _ _ refl (first-below 256 before-solution (omega arith) refl)
+      state-back before-solution _ _ refl
       (first-other 9 before-solution (λ z. omega arith) refl) state-small
 
 -- reading and the audit: what passes 10, 11, 1, 2, 12 and 17 is an entry of what it holds
@@ -309,24 +310,22 @@ module _ (bs : List ℕ) (are : AreBytes bs) where
   pub read-decoded : (room answerRoom : ℕ)
       → entryReply (entryCode (reply (readQuestions (records bs) room answerRoom) (readValues (records bs))))
       ≡ reply (readQuestions (records bs) room answerRoom) (readValues (records bs))
-  unfolding readQuestions readValues entryQuestions bufferQuestions roomQuestions bitQuestions numbersBelow
+  unfolding readQuestions readValues entryQuestions bufferQuestions roomQuestions bitQuestions
   read-decoded room answerRoom =
       entry-back _ _ _ _ (readQuestions (records bs) room answerRoom) (heldVerdict (records bs)) refl
-      (first-below 256 (readQuestions (records bs) room answerRoom) (omega arith) refl)
       (λ z. entry-fits (asked-before (entryQuestions (records bs)) _ z))
 
   pub audit-decoded : entryReply (entryCode (reply (auditQuestions (records bs)) (readValues (records bs))))
       ≡ reply (auditQuestions (records bs)) (readValues (records bs))
-  unfolding auditQuestions readValues entryQuestions numbersBelow
+  unfolding auditQuestions readValues entryQuestions
   audit-decoded =
       entry-back _ _ _ _ (auditQuestions (records bs)) (heldVerdict (records bs)) refl
-      (first-below 256 (auditQuestions (records bs)) (omega arith) refl)
       (λ z. entry-fits (asked-before (entryQuestions (records bs)) _ z))
 
 -- a walk
 walk-below : (before : ℕ) (bs : List ℕ) → walkRefusal before bs < 256
-unfolding walkQuestions auditQuestions entryQuestions numbersBelow
-walk-below before bs = first-below 256 (walkQuestions before (records bs)) (omega arith) refl
+unfolding walkQuestions auditQuestions entryQuestions
+walk-below before bs = first-small (walkQuestions before (records bs))
 
 ends-back : {last passed : ℕ} {bs : List ℕ} {answer : Reply} → passed ≤ 250 → Ends last passed bs answer → countReply (code answer) ≡ answer
 ends-back {passed = passed} h at-end = count-back passed (omega arith)
@@ -338,3 +337,22 @@ walk-decoded volume place are =
     let w : Walks (drop place volume) (walkReply volume place) = walk-exact volume place (walkReply volume place) are .0 refl in
     let m : 0 + w .count ≤ 250 = entries-most (omega arith) (w .entries) in
     ends-back (omega (arith, m)) (w .ends)
+
+-- ---- sessions: a start, and a step from any session
+step-back : (questions : List Asked) (after before : Session)
+    → plainReply (code (outcome (stepped (firstNo questions) after before .outcome))) ≡ outcome (stepped (firstNo questions) after before .outcome)
+unfolding numbered stepped
+step-back questions after before = go (firstNo questions) (first-small questions)
+  where
+    go : (q : ℕ) → q < 256 → plainReply (code (outcome (stepped q after before .outcome))) ≡ outcome (stepped q after before .outcome)
+    go zero l = refl
+    go (suc n) l = let e : suc n % 256 ≡ suc n = omega arith in rw e
+
+pub start-decoded : (U G : ℕ) → plainReply (code (outcome (startStep U G .outcome))) ≡ outcome (startStep U G .outcome)
+start-decoded U G = step-back (startQuestions U G) (newSession U G) (newSession 0 0)
+
+pub step-decoded : (s : Session) (action : Action) → plainReply (code (outcome (stepFrom s action .outcome))) ≡ outcome (stepFrom s action .outcome)
+step-decoded s (adds h) = step-back (addQuestions (s .unknowns) (s .givens) (askedTables s) h) (added s h) s
+step-decoded s (marks name) = step-back (markQuestions (s .unknowns) (s .givens) (askedTables s) name) (marked s name) s
+step-decoded s (returns name) =
+    step-back (returnQuestions (s .unknowns) (s .givens) (askedTables s) name (under s name .set)) (returned s name) s

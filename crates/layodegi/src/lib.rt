@@ -1,6 +1,6 @@
 // The library as C and Rust see it: one exported function for each public call, on numbers and byte slices.
-// A slice passes as a pointer and then a length, an order of six bytes as a pointer alone. Each function has the contract of its call, with
-// the answer as a code (`specs/Codes.antt`).
+// A slice passes as a pointer and then a length, an order of six bytes and a session of 5,126 as a pointer alone. Each function has the
+// contract of its call, with the answer as a code (`specs/Codes.antt`).
 use calls::Heading;
 use calls::Outcome;
 use calls::Read;
@@ -20,6 +20,7 @@ ghost use Rattle.calls.specs.Text.{textCall};
 ghost use Rattle.calls.specs.Solving.{solving, booleCall, particularCall, lowenheimCall, handedCall};
 ghost use Rattle.calls.specs.Entries.{written, writeCall, stateSaid, reading, readCall, auditCall};
 ghost use Rattle.calls.specs.Walk.{walked, walkCall};
+ghost use Rattle.session_block.specs.Block.{startBlock, addBlock, markBlock, returnBlock};
 ghost use Rattle.layodegi.specs.Codes.{code, stateCode, headingCode, entryCode};
 
 // A value as 32 bits; every value that a call gives is smaller.
@@ -278,4 +279,36 @@ pub extern "C" fn layodegi_walk(volume: &[u8], place: usize) -> u64
     ensures { λ c. ⌜ answered c [] ≡ coded code (walkCall (now (volume .entry)) place) ⌝ }
 {
     walk_code(volume::walk_volume(volume, place))
+}
+
+// A new session, in a block that the caller keeps.
+#[no_mangle]
+pub extern "C" fn layodegi_session_start(u: usize, g: usize, session: &mut [u8; 5126]) -> u64
+    ensures { λ c. ⌜ answered c (now (session .exit) ∷ []) ≡ coded code (startBlock u g) ⌝ }
+{
+    outcome_code(session_block::start(u, g, session))
+}
+
+// A condition is added.
+#[no_mangle]
+pub extern "C" fn layodegi_session_add(session: &mut [u8; 5126], table: &[u8]) -> u64
+    ensures { λ c. ⌜ answered c (now (session .exit) ∷ []) ≡ coded code (addBlock (now (session .entry)) (now (table .entry))) ⌝ }
+{
+    outcome_code(session_block::add(session, table))
+}
+
+// The present state is stored under a name.
+#[no_mangle]
+pub extern "C" fn layodegi_session_mark(session: &mut [u8; 5126], name: usize) -> u64
+    ensures { λ c. ⌜ answered c (now (session .exit) ∷ []) ≡ coded code (markBlock (now (session .entry)) name) ⌝ }
+{
+    outcome_code(session_block::mark(session, name))
+}
+
+// The state that is stored under a name becomes the present one.
+#[no_mangle]
+pub extern "C" fn layodegi_session_return(session: &mut [u8; 5126], name: usize) -> u64
+    ensures { λ c. ⌜ answered c (now (session .exit) ∷ []) ≡ coded code (returnBlock (now (session .entry)) name) ⌝ }
+{
+    outcome_code(session_block::return_to(session, name))
 }

@@ -5,10 +5,10 @@ use mathlib.Core.Bool.{Bool, true, false, _&&_, cond}
 use mathlib.Core.List.{List, [], _∷_, _++_, map}
 use Prim.Native.Nat.{ℕ, zero, suc, _+_, _-_, _^_, _≤_, _<_}
 use native.Mathlib.Omega.{arith}
-use lib.Dec.{eqb, leb}
-use lib.ListN.{drop, replicate, List·getD-append, replicate-append-replicate}
+use lib.Dec.{eqb}
+use lib.ListN.{length, drop, replicate, length-append, length-replicate, List·getD-append, replicate-append-replicate}
 use lib.Seq.{take-at, drop-at}
-use borrow.Author.Tests.{leb-true, eqb-true}
+use borrow.Author.Tests.{eqb-true}
 use Rattle.ring.specs.Polynomial.{Polynomial, constant}
 use Rattle.ring.specs.Table.{present, tabulate, table}
 use Rattle.ring.specs.Join.{join, joined, Member, here, behind}
@@ -21,14 +21,14 @@ use Rattle.calls.specs.Questions.{isName}
 use Rattle.session.specs.declared.Mark.{Mark}
 use Rattle.session.specs.Session.{emptyTable, unmarked, markedTables}
 use Rattle.session.specs.History.{History, adds, marks, returns, Stored, nothing, stored, presentList, listUnder, listTable, markOf}
+use Rattle.session.proofs.Asked.{name-low, name-high}
 
 -- ---- the four names
 -- what holds of A, B, C and D holds of every name
 pub each-name : (P : ℕ → Type 0) → P 65 → P 66 → P 67 → P 68 → (name : ℕ) → isName name ≡ true → P name
-unfolding isName
 each-name P a b c d name e =
-    let low : 65 ≤ name = leb-true 65 name (and-left (leb 65 name) (leb name 68) e) in
-    let high : name ≤ 68 = leb-true name 68 (and-right (leb 65 name) (leb name 68) e) in
+    let low : 65 ≤ name = name-low name e in
+    let high : name ≤ 68 = name-high name e in
     go (name - 65) (omega arith) (omega arith)
   where
     go : (i : ℕ) → name ≡ 65 + i → i < 4 → P name
@@ -54,6 +54,18 @@ other-name n name (marks x ∷ before) e = go (isName x && eqb x name) refl (oth
 other-name n name (returns x ∷ before) e = other-name n name before e
 
 -- ---- the table of a list
+-- it fills its room
+pub list-long : (n : ℕ) (list : List (List ℕ)) → 2 ^ n ≤ 1024 → length (listTable n list) ≡ 1024
+unfolding listTable
+list-long n list h =
+    length-append (table n (joined n (map present list))) (replicate (1024 - 2 ^ n) 0)
+    ∙ omega (arith, length-table n (joined n (map present list)), length-replicate {A = ℕ} (1024 - 2 ^ n) 0)
+
+pub mark-long : (n : ℕ) (what : Stored) → 2 ^ n ≤ 1024 → length (markOf n what .table) ≡ 1024
+unfolding markOf unmarked emptyTable
+mark-long n nothing h = refl
+mark-long n (stored list) h = list-long n list h
+
 -- a table with no monomial
 zero-bytes : (k : ℕ) → tabulate k (λ m. false) ≡ replicate k 0
 unfolding tabulate

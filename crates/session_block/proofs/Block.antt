@@ -1,4 +1,4 @@
--- A session in a block of bytes: what is put one part behind another, and that a block that holds a session gives it back (`session-back`).
+-- A session in a block of bytes: what is taken out of it, and what is put into it one part behind another.
 -- Assumes nothing.
 use mathlib.Core.Path.{_≡_, refl, sym, ap, ap₂, _∙_}
 use mathlib.Core.Bool.{Bool, true, false, cond}

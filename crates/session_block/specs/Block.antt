@@ -1,13 +1,14 @@
 -- A session as a caller outside the language keeps it (document 02, C-12): a block of 5,126 bytes. Byte 0 is U and byte 1 is G; the 1,024
 -- bytes behind them are the present table; then comes for each name, `A` first, a byte that is 1 if it is marked, and 1,024 bytes for its table.
--- A block that holds a session gives it back: `session-back` (`proofs/Block.antt`).
+-- A block that holds a session gives it back (`session-back`), and the block after any list of steps holds the session after it
+-- (`block-exactly`, both in `proofs/Histories.antt`).
 -- Assumes nothing.
 use mathlib.Core.List.{List, [], _∷_, _++_}
 use Prim.Native.Nat.{ℕ}
 use lib.ListN.{getD, take, drop}
 use Rattle.ring.specs.Letters.{digit}
 use Rattle.ring.specs.Table.{present}
-use Rattle.tables.specs.Answered.{Reply, Answered, answered}
+use Rattle.tables.specs.Answered.{Reply, Answered, answered, firstBuffer}
 use Rattle.calls.specs.declared.Outcome.{Outcome}
 use Rattle.calls.specs.declared.Outcome.the-variants.{Done, Refused}
 use Rattle.calls.specs.Operations.{outcome}
@@ -15,6 +16,7 @@ use Rattle.session.specs.declared.Mark.{Mark}
 use Rattle.session.specs.declared.Session.{Session}
 use Rattle.session.specs.declared.Step.{Step}
 use Rattle.session.specs.Session.{startStep, addStep, markStep, returnStep}
+use Rattle.session.specs.History.{History, stepFrom}
 
 -- the name whose 1,025 bytes the list begins with: it is marked if the first is 1, and not if that is any other byte
 unfoldable pub markIn : List ℕ → Mark
@@ -60,3 +62,8 @@ markBlock block name = stepOn block (markStep (sessionIn block) name)
 
 abbrev pub returnBlock : List ℕ → ℕ → Answered Reply
 returnBlock block name = stepOn block (returnStep (sessionIn block) name)
+
+-- ---- a block after every list of steps, the latest first, from a start
+unfoldable pub blockFrom : ℕ → ℕ → History → List ℕ
+blockFrom U G [] = firstBuffer (startBlock U G)
+blockFrom U G (action ∷ before) = firstBuffer (stepOn (blockFrom U G before) (stepFrom (sessionIn (blockFrom U G before)) action))

@@ -14,27 +14,30 @@ use Rattle.tables.specs.declared.Question.the-variants.{Records, Kinds, 
 use Rattle.tables.specs.Questions.{Asked, asks, asksGiving, number, firstNo}
 use Rattle.tables.specs.Inner.Asking.{also}
 
--- every number is above 0, which stands for 'no no'
+-- every number is above 0, which stands for 'no no', and is a byte
+number-within : (question : Question) → (0 < number question) × (number question < 256)
+number-within Letters = (omega arith, omega arith)
+number-within Route = (omega arith, omega arith)
+number-within TextLength = (omega arith, omega arith)
+number-within Room = (omega arith, omega arith)
+number-within Signs = (omega arith, omega arith)
+number-within Declared = (omega arith, omega arith)
+number-within Grammar = (omega arith, omega arith)
+number-within Bits = (omega arith, omega arith)
+number-within Solution = (omega arith, omega arith)
+number-within Records = (omega arith, omega arith)
+number-within Kinds = (omega arith, omega arith)
+number-within Numbers = (omega arith, omega arith)
+number-within Afresh = (omega arith, omega arith)
+number-within Output = (omega arith, omega arith)
+number-within Rising = (omega arith, omega arith)
+number-within Range = (omega arith, omega arith)
+number-within Order = (omega arith, omega arith)
+number-within Name = (omega arith, omega arith)
+number-within Marked = (omega arith, omega arith)
+
 pub number-some : (question : Question) → number question ≡ 0 → ⊥
-number-some Letters e = omega arith
-number-some Route e = omega arith
-number-some TextLength e = omega arith
-number-some Room e = omega arith
-number-some Signs e = omega arith
-number-some Declared e = omega arith
-number-some Grammar e = omega arith
-number-some Bits e = omega arith
-number-some Solution e = omega arith
-number-some Records e = omega arith
-number-some Kinds e = omega arith
-number-some Numbers e = omega arith
-number-some Afresh e = omega arith
-number-some Output e = omega arith
-number-some Rising e = omega arith
-number-some Range e = omega arith
-number-some Order e = omega arith
-number-some Name e = omega arith
-number-some Marked e = omega arith
+number-some question e = omega (arith, number-within question .0)
 
 -- ---- the question in front
 -- it is answered no
@@ -129,16 +132,9 @@ asked-before questions further e = go (firstNo questions) (sym (first-also quest
 pub asked-behind : (questions further : List Asked) → firstNo (questions ++ further) ≡ 0 → firstNo further ≡ 0
 asked-behind questions further e = sym (then-further questions further (asked-before questions further e)) ∙ e
 
--- ---- numbers
--- the number of each question of the list is below k; then so is that of the first no
-unfoldable pub numbersBelow : ℕ → List Asked → Bool
-numbersBelow k [] = true
-numbersBelow k (asksGiving question answer given ∷ rest) = ltb (number question) k && numbersBelow k rest
-
-pub first-below : (k : ℕ) (questions : List Asked) → 0 < k → numbersBelow k questions ≡ true → firstNo questions < k
-unfolding numbersBelow firstNo
-first-below k [] p e = p
-first-below k (asksGiving question true given ∷ rest) p e =
-    first-below k rest p (and-right (ltb (number question) k) (numbersBelow k rest) e)
-first-below k (asksGiving question false given ∷ rest) p e =
-    ltb-true (number question) k (and-left (ltb (number question) k) (numbersBelow k rest) e)
+-- ---- the first no is a byte
+pub first-small : (questions : List Asked) → firstNo questions < 256
+unfolding firstNo
+first-small [] = omega arith
+first-small (asksGiving question true given ∷ rest) = first-small rest
+first-small (asksGiving question false given ∷ rest) = number-within question .1

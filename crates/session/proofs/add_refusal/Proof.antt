@@ -12,20 +12,20 @@ use Rattle.session.proofs.add_refusal.Tie as tie
 
 returns : tie.Need-returns
 unfolding addQuestions
-returns c = own-no _ _ ((c .before .session-refusal) .ensures) ((c .if1) .taken)
+returns c = own-no _ _ (c .before .session-refusal .ensures) (c .if1 .taken)
 
 add-pow2 : tie.Need-add-pow2
-add-pow2 c = omega (arith, passes _ (sym ((c .before .before .session-refusal) .ensures) ∙ (c .before .if1) .left) .small)
+add-pow2 c = omega (arith, passes _ (sym (c .before .before .session-refusal .ensures) ∙ c .before .if1 .left) .small)
 
 pow2-requires : tie.Need-pow2-requires
-pow2-requires c κs = passes _ (sym ((c .before .before .session-refusal) .ensures) ∙ (c .before .if1) .left) .small
+pow2-requires c κs = passes _ (sym (c .before .before .session-refusal .ensures) ∙ c .before .if1 .left) .small
 
 returns-2 : tie.Need-returns-2
 unfolding addQuestions bufferQuestions roomQuestions bitQuestions
 returns-2 c =
-    rw (← (c .before .before .before .before .pow2) .ensures)
-    (own-yes _ _ ((c .before .before .before .before .before .before .before .session-refusal) .ensures) ((c .before .before .before .before .before .before .if1) .left)
-    (ask-then _ _ _ _ _ _ _ ((c .before .before .ask) .ensures) ((c .before .before .before .has-room) .ensures) (ask-last _ _ _ _ _ ((c .ask2) .ensures) ((c .before .holds-bits) .ensures))))
+    rw (← c .before .before .before .before .pow2 .ensures)
+    (own-yes _ _ (c .before .before .before .before .before .before .before .session-refusal .ensures) (c .before .before .before .before .before .before .if1 .left)
+    (ask-then _ _ _ _ _ _ _ (c .before .before .ask .ensures) (c .before .before .before .has-room .ensures) (ask-last _ _ _ _ _ (c .ask2 .ensures) (c .before .holds-bits .ensures))))
 
 pub add-refusal-spec : {M : Type 1} → statement M
 add-refusal-spec =

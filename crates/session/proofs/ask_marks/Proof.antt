@@ -19,14 +19,14 @@ abbrev μ-loop : tie.MeasureT-loop
 
 loop-again : tie.Need-loop-again Inv-loop μ-loop
 loop-again c =
-    let four : length ((c .before .before .before .before .args) .t3) ≡ 4 = search needs in
-    let inside : (c .before .before .before .loop) .i < length ((c .before .before .before .before .args) .t3) = omega (arith, (c .before .before .loop-test) .taken) in
-    (omega (arith, (c .before .before .loop-test) .taken), marks-more _ _ _ _ _ _ _ inside ((c .before .before .before .loop) .inv .1) ((c .ask-mark) .ensures))
+    let four : length (c .before .before .before .before .args .t3) ≡ 4 = search needs in
+    let inside : c .before .before .before .loop .i < length (c .before .before .before .before .args .t3) = omega (arith, c .before .before .loop-test .taken) in
+    (omega (arith, c .before .before .loop-test .taken), marks-more _ _ _ _ _ _ _ inside (c .before .before .before .loop .inv .1) (c .ask-mark .ensures))
 
 returns : tie.Need-returns Inv-loop μ-loop
 returns c =
-    let four : length ((c .before .before .args) .t3) ≡ 4 = search needs in
-    marks-all _ _ _ _ ((c .before .loop) .i) (omega (arith, (c .loop-test) .left)) ((c .before .loop) .inv .1)
+    let four : length (c .before .before .args .t3) ≡ 4 = search needs in
+    marks-all _ _ _ _ (c .before .loop .i) (omega (arith, c .loop-test .left)) (c .before .loop .inv .1)
 
 pub ask-marks-spec : {M : Type 1} → statement M
 ask-marks-spec =

@@ -13,41 +13,41 @@ use Rattle.session.proofs.joined_table.Tie as tie
 
 array-share-prefix-t : tie.Need-array-share-prefix-t
 array-share-prefix-t c =
-    let l : length ((c .before .before .args) .t2) ≡ 1024 = search needs in
-    omega (arith, pow-small _ _ ((c .pow2) .ensures) ((c .before .before .pre) .0))
+    let l : length (c .before .before .args .t2) ≡ 1024 = search needs in
+    omega (arith, pow-small _ _ (c .pow2 .ensures) (c .before .before .pre .0))
 
 slice-aggregate-join : tie.Need-slice-aggregate-join
 slice-aggregate-join c =
-    let l : length ((c .before .before .before .args) .t2) ≡ 1024 = search needs in
-    let k : (c .before .pow2) .result ≤ 1024 = pow-small _ _ ((c .before .pow2) .ensures) ((c .before .before .before .pre) .0) in
+    let l : length (c .before .before .before .args .t2) ≡ 1024 = search needs in
+    let k : c .before .pow2 .result ≤ 1024 = pow-small _ _ (c .before .pow2 .ensures) (c .before .before .before .pre .0) in
     sym (length-take-le _ _ (omega arith))
 
 slice-aggregate-join-2 : tie.Need-slice-aggregate-join-2
-slice-aggregate-join-2 c = sym (length-take-le _ _ (omega (arith, (c .before .before .pow2) .ensures, (c .before .before .before .before .pre) .1)))
+slice-aggregate-join-2 c = sym (length-take-le _ _ (omega (arith, c .before .before .pow2 .ensures, c .before .before .before .before .pre .1)))
 
 array-borrow-prefix-out : tie.Need-array-borrow-prefix-out
 array-borrow-prefix-out c =
-    let l : length ((c .before .before .before .before .args) .t2) ≡ 1024 = search needs in
-    omega (arith, pow-small _ _ ((c .before .before .pow2) .ensures) ((c .before .before .before .before .pre) .0))
+    let l : length (c .before .before .before .before .args .t2) ≡ 1024 = search needs in
+    omega (arith, pow-small _ _ (c .before .before .pow2 .ensures) (c .before .before .before .before .pre .0))
 
 slice-aggregate-join-3 : tie.Need-slice-aggregate-join-3
 slice-aggregate-join-3 c =
-    let l : length ((c .before .before .before .before .before .args) .t2) ≡ 1024 = search needs in
-    let k : (c .before .before .before .pow2) .result ≤ 1024 = pow-small _ _ ((c .before .before .before .pow2) .ensures) ((c .before .before .before .before .before .pre) .0) in
+    let l : length (c .before .before .before .before .before .args .t2) ≡ 1024 = search needs in
+    let k : c .before .before .before .pow2 .result ≤ 1024 = pow-small _ _ (c .before .before .before .pow2 .ensures) (c .before .before .before .before .before .pre .0) in
     sym (length-take-le _ _ (omega arith))
 
 join-requires : tie.Need-join-requires
 join-requires c κs =
-    let l : length ((c .before .before .before .before .before .args) .t2) ≡ 1024 = search needs in
-    let k : (c .before .before .before .pow2) .result ≤ 1024 = pow-small _ _ ((c .before .before .before .pow2) .ensures) ((c .before .before .before .before .before .pre) .0) in (
-      (c .before .before .before .before .before .pre) .0,
-      front-table _ _ _ ((c .before .before .before .pow2) .ensures) (omega arith) ((c .before .before .before .before .before .pre) .2),
-      front-table _ _ _ ((c .before .before .before .pow2) .ensures) (omega (arith, (c .before .before .before .pow2) .ensures, (c .before .before .before .before .before .pre) .1)) ((c .before .before .before .before .before .pre) .3),
-      length-take-le _ _ (omega arith) ∙ (c .before .before .before .pow2) .ensures,
+    let l : length (c .before .before .before .before .before .args .t2) ≡ 1024 = search needs in
+    let k : c .before .before .before .pow2 .result ≤ 1024 = pow-small _ _ (c .before .before .before .pow2 .ensures) (c .before .before .before .before .before .pre .0) in (
+      c .before .before .before .before .before .pre .0,
+      front-table _ _ _ (c .before .before .before .pow2 .ensures) (omega arith) (c .before .before .before .before .before .pre .2),
+      front-table _ _ _ (c .before .before .before .pow2 .ensures) (omega (arith, c .before .before .before .pow2 .ensures, c .before .before .before .before .before .pre .1)) (c .before .before .before .before .before .pre .3),
+      length-take-le _ _ (omega arith) ∙ c .before .before .before .pow2 .ensures,
     )
 
 returns : tie.Need-returns
-returns c = joined-all _ _ _ _ _ ((c .before .before .before .before .before .pow2) .ensures) ((c .before .join) .ensures)
+returns c = joined-all _ _ _ _ _ (c .before .before .before .before .before .pow2 .ensures) (c .before .join .ensures)
 
 pub joined-table-spec : {M : Type 1} → statement M
 joined-table-spec =

@@ -15,7 +15,7 @@ use Rattle.session.proofs.session_refusal.Tie as tie
 
 returns : tie.Need-returns
 unfolding sessionQuestions
-returns c = letters-no _ _ _ _ ((c .number) .ensures) (failed ((c .before .before .letters-fit) .ensures) ((c .before .if1) .taken))
+returns c = letters-no _ _ _ _ (c .number .ensures) (failed (c .before .before .letters-fit .ensures) (c .before .if1 .taken))
 
 -- question 1 is passed
 letters : (c : tie.Else1) → lettersFit (c .before .before .args .s .unknowns) (c .before .before .args .s .givens) ≡ true
@@ -26,7 +26,7 @@ unfolding sessionQuestions bitQuestions markedQuestions
 returns-2 c =
     let powered = c .before .before .before .before .before .before in
     rw (← powered .pow2 .ensures)
-    (letters-yes _ _ _ _ (letters (powered .before .before)) (ask-then _ _ _ _ _ _ _ ((c .before .before .ask) .ensures) ((c .before .before .before .holds-bits) .ensures) ((c .ask-marks) .ensures)))
+    (letters-yes _ _ _ _ (letters (powered .before .before)) (ask-then _ _ _ _ _ _ _ (c .before .before .ask .ensures) (c .before .before .before .holds-bits .ensures) (c .ask-marks .ensures)))
 
 pub session-refusal-spec : {M : Type 1} → statement M
 session-refusal-spec =

@@ -6,10 +6,10 @@ use Rattle.session_block.proofs.keep.Statement.{statement}
 use Rattle.session_block.proofs.keep.Tie as tie
 
 returns : tie.Need-returns
-returns c = rw ((c .before .enum-told) .given .1, (c .block-of) .ensures)
+returns c = rw (c .before .enum-told .given .1, c .block-of .ensures)
 
 returns-2 : tie.Need-returns-2
-returns-2 c = rw ((c .before .outcome) .given .1)
+returns-2 c = rw (c .before .outcome .given .1)
 
 pub keep-spec : {M : Type 1} → statement M
 keep-spec = tie.close (tie.spec (λ c. search needs) (λ c κs. search needs) (λ c. search needs) returns returns-2)

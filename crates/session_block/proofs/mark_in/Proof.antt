@@ -9,7 +9,7 @@ use Rattle.session_block.proofs.mark_in.Tie as tie
 
 returns : tie.Need-returns
 unfolding markIn present
-returns c = rw ((c .table-in) .ensures, (c .before .before .before .before .pre))
+returns c = rw (c .table-in .ensures, (c .before .before .before .before .pre))
 
 pub mark-in-spec : {M : Type 1} → statement M
 mark-in-spec =

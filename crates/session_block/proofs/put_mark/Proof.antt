@@ -15,13 +15,13 @@ part-copy-start : tie.Need-part-copy-start
 part-copy-start c = rw (length-set, (c .before .before .before .pre)) (omega arith)
 
 copy-requires : tie.Need-copy-requires
-copy-requires c κs = name-room ((c .before .before .before .flag) .result) ((c .before .before .before .before .before .args) .bytes .now) ((c .before .before .before .before .before .pre)) ((c .before .before .before .before .before .args) .mark .table) (search needs)
+copy-requires c κs = name-room (c .before .before .before .flag .result) (c .before .before .before .before .before .args .bytes .now) (c .before .before .before .before .before .pre) (c .before .before .before .before .before .args .mark .table) (search needs)
 
 same-length : tie.Need-same-length
-same-length c = name-long ((c .before .before .before .before .before .before .flag) .result) ((c .before .before .before .before .before .before .before .before .args) .bytes .now) ((c .before .before .before .before .before .before .before .before .pre)) _ ((c .before .before .before .before .before .before .before .before .args) .mark .table) (search needs) ((c .before .before .copy) .ensures)
+same-length c = name-long (c .before .before .before .before .before .before .flag .result) (c .before .before .before .before .before .before .before .before .args .bytes .now) (c .before .before .before .before .before .before .before .before .pre) _ (c .before .before .before .before .before .before .before .before .args .mark .table) (search needs) (c .before .before .copy .ensures)
 
 returns : tie.Need-returns
-returns c = name-put ((c .before .before .before .before .before .before .flag) .result) ((c .before .before .before .before .before .before .before .before .args) .bytes .now) ((c .before .before .before .before .before .before .before .before .pre)) _ _ ((c .before .before .before .before .before .before .before .before .args) .mark .set) ((c .before .before .before .before .before .before .flag) .ensures) ((c .before .before .copy) .ensures)
+returns c = name-put (c .before .before .before .before .before .before .flag .result) (c .before .before .before .before .before .before .before .before .args .bytes .now) (c .before .before .before .before .before .before .before .before .pre) _ _ (c .before .before .before .before .before .before .before .before .args .mark .set) (c .before .before .before .before .before .before .flag .ensures) (c .before .before .copy .ensures)
 
 pub put-mark-spec : {M : Type 1} → statement M
 put-mark-spec =

@@ -45,7 +45,7 @@ same-length c =
     let lettered = c .before .before .before .before .before .before .before .before .before .before .before in
     let entry = lettered .before .before .before in
     session-long (lettered .before .narrow .result) (lettered .narrow2 .result) (entry .args .block .now) (entry .pre .2) (c .before .before .before .before .before .before .before .copy .last .0) (entry .args .s .table) (search needs) (c .before .before .before .before .before .before .before .copy .ensures) (c .before .before .put-marks .last .1 .0)
-    ((c .before .block2) .given .0 ∙ names-room (lettered .before .narrow .result) (lettered .narrow2 .result) (entry .args .block .now) (entry .pre .2) (c .before .before .before .before .before .before .before .copy .last .0) (entry .args .s .table) (search needs) (c .before .before .before .before .before .before .before .copy .ensures))
+    (c .before .block2 .given .0 ∙ names-room (lettered .before .narrow .result) (lettered .narrow2 .result) (entry .args .block .now) (entry .pre .2) (c .before .before .before .before .before .before .before .copy .last .0) (entry .args .s .table) (search needs) (c .before .before .before .before .before .before .before .copy .ensures))
 
 returns : tie.Need-returns
 returns c =

@@ -8,10 +8,10 @@ use Rattle.session_block.proofs.session_in.Tie as tie
 
 returns : tie.Need-returns
 returns c = (
-  session-taken _ _ _ _ _ _ _ _ ((c .before .wide) .ensures .0) ((c .wide2) .ensures .0) ((c .before .before .before .before .before .before .before .before .before .before .before .before .before .before .table-in) .ensures) ((c .before .before .before .before .before .before .before .before .before .before .before .mark-in) .ensures) ((c .before .before .before .before .before .before .before .before .mark-in2) .ensures)
-      ((c .before .before .before .before .before .mark-in3) .ensures) ((c .before .before .mark-in4) .ensures),
-  (c .before .wide) .ensures .1,
-  (c .wide2) .ensures .1,
+  session-taken _ _ _ _ _ _ _ _ (c .before .wide .ensures .0) (c .wide2 .ensures .0) (c .before .before .before .before .before .before .before .before .before .before .before .before .before .before .table-in .ensures) (c .before .before .before .before .before .before .before .before .before .before .before .mark-in .ensures) (c .before .before .before .before .before .before .before .before .mark-in2 .ensures)
+      (c .before .before .before .before .before .mark-in3 .ensures) (c .before .before .mark-in4 .ensures),
+  c .before .wide .ensures .1,
+  c .wide2 .ensures .1,
 )
 
 pub session-in-spec : {M : Type 1} → statement M

@@ -8,11 +8,11 @@ use Rattle.session_block.proofs.start.Tie as tie
 
 block-of-requires : tie.Need-block-of-requires
 block-of-requires c κs =
-    let small = small-start _ _ ((c .start) .ensures) in
+    let small = small-start _ _ (c .start .ensures) in
     (small .unknowns, small .givens)
 
 returns : tie.Need-returns
-returns c = rw ((c .block-of) .ensures, (c .before .start) .ensures)
+returns c = rw (c .block-of .ensures, c .before .start .ensures)
 
 pub start-spec : {M : Type 1} → statement M
 start-spec = tie.close (tie.spec (λ c κs. search needs) block-of-requires returns)

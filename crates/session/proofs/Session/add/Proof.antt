@@ -9,19 +9,19 @@ use Rattle.session.proofs.Session.add.Statement.{statement}
 use Rattle.session.proofs.Session.add.Tie as tie
 
 returns : tie.Need-returns
-returns c = step-refused _ _ ((c .before .before .add-refusal) .ensures) ((c .before .if1) .taken) ((c .refused) .ensures)
+returns c = step-refused _ _ (c .before .before .add-refusal .ensures) (c .before .if1 .taken) (c .refused .ensures)
 
 add-joined-table : tie.Need-add-joined-table
-add-joined-table c = omega (arith, addable _ _ (sym ((c .before .before .before .add-refusal) .ensures) ∙ (c .before .before .if1) .left) .own .small)
+add-joined-table c = omega (arith, addable _ _ (sym (c .before .before .before .add-refusal .ensures) ∙ c .before .before .if1 .left) .own .small)
 
 joined-table-requires : tie.Need-joined-table-requires
 joined-table-requires c κs =
-    let a = addable _ _ (sym ((c .before .before .before .add-refusal) .ensures) ∙ (c .before .before .if1) .left) in
+    let a = addable _ _ (sym (c .before .before .before .add-refusal .ensures) ∙ c .before .before .if1 .left) in
     (a .own .small, a .lent .room, a .own .bits, a .lent .bits)
 
 returns-2 : tie.Need-returns-2
 unfolding added
-returns-2 c = step-done _ _ ((c .before .before .before .before .before .add-refusal) .ensures) ((c .before .before .before .before .if1) .left) ((c .done) .ensures ∙ rw ((c .before .joined-table) .ensures))
+returns-2 c = step-done _ _ (c .before .before .before .before .before .add-refusal .ensures) (c .before .before .before .before .if1 .left) (c .done .ensures ∙ rw (c .before .joined-table .ensures))
 
 pub add-spec : {M : Type 1} → statement M
 add-spec =

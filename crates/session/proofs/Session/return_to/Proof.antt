@@ -9,20 +9,20 @@ use Rattle.session.proofs.Session.return_to.Statement.{statement}
 use Rattle.session.proofs.Session.return_to.Tie as tie
 
 returns : tie.Need-returns
-returns c = step-refused _ _ ((c .before .before .return-refusal) .ensures) ((c .before .if1) .taken) ((c .refused) .ensures)
+returns c = step-refused _ _ (c .before .before .return-refusal .ensures) (c .before .if1 .taken) (c .refused .ensures)
 
 sub-i : tie.Need-sub-i
-sub-i c = omega (arith, name-low _ (return-named _ _ _ _ _ (sym ((c .before .return-refusal) .ensures) ∙ (c .if1) .left)))
+sub-i c = omega (arith, name-low _ (return-named _ _ _ _ _ (sym (c .before .return-refusal .ensures) ∙ c .if1 .left)))
 
 mul-m : tie.Need-mul-m
-mul-m c = omega (arith, name-high _ (return-named _ _ _ _ _ (sym ((c .before .return-refusal) .ensures) ∙ (c .if1) .left)))
+mul-m c = omega (arith, name-high _ (return-named _ _ _ _ _ (sym (c .before .return-refusal .ensures) ∙ c .if1 .left)))
 
 element-copy-out-m : tie.Need-element-copy-out-m
-element-copy-out-m c = omega (arith, name-high _ (return-named _ _ _ _ _ (sym ((c .before .return-refusal) .ensures) ∙ (c .if1) .left)))
+element-copy-out-m c = omega (arith, name-high _ (return-named _ _ _ _ _ (sym (c .before .return-refusal .ensures) ∙ c .if1 .left)))
 
 returns-2 : tie.Need-returns-2
 unfolding returned under
-returns-2 c = step-done _ _ ((c .before .before .before .before .return-refusal) .ensures) ((c .before .before .before .if1) .left) ((c .done) .ensures)
+returns-2 c = step-done _ _ (c .before .before .before .before .return-refusal .ensures) (c .before .before .before .if1 .left) (c .done .ensures)
 
 pub return-to-spec : {M : Type 1} → statement M
 return-to-spec =

@@ -14,15 +14,15 @@ use Rattle.session.proofs.Session.start.Tie as tie
 returns : tie.Need-returns
 unfolding startQuestions
 returns c =
-    rw (← (c .before .before .new-session) .ensures)
-    (step-refused _ _ (letters-no _ _ _ _ ((c .before .number) .ensures) (failed ((c .before .before .before .before .letters-fit) .ensures) ((c .before .before .before .if1) .taken)))
-    (λ z. number-some Letters (sym ((c .before .number) .ensures) ∙ z)) ((c .refused) .ensures))
+    rw (← c .before .before .new-session .ensures)
+    (step-refused _ _ (letters-no _ _ _ _ (c .before .number .ensures) (failed (c .before .before .before .before .letters-fit .ensures) (c .before .before .before .if1 .taken)))
+    (λ z. number-some Letters (sym (c .before .number .ensures) ∙ z)) (c .refused .ensures))
 
 returns-2 : tie.Need-returns-2
 unfolding startQuestions
 returns-2 c =
-    rw (← (c .before .new-session2) .ensures)
-    (step-done _ _ (letters-yes _ _ _ 0 (passed ((c .before .before .before .letters-fit) .ensures) ((c .before .before .if1) .left)) (also-nothing 0)) refl ((c .done) .ensures))
+    rw (← c .before .new-session2 .ensures)
+    (step-done _ _ (letters-yes _ _ _ 0 (passed (c .before .before .before .letters-fit .ensures) (c .before .before .if1 .left)) (also-nothing 0)) refl (c .done .ensures))
 
 pub start-spec : {M : Type 1} → statement M
 start-spec =
