@@ -13,18 +13,22 @@
  * An answer table is U tables one after another, unknown 0 first: U * 2^n bytes.
  * An order is six bytes: the unknown numbers, first eliminated first, then 255 in unused places. An unknown is
  * expressed by those that go after it. General solutions in any two orders are instances of each other.
+ * A session is a block of LAYODEGI_SESSION bytes that the caller keeps: the letters, the table of the conditions that
+ * a designer has added so far, and up to four states that were marked to be returned to, under the names A to D.
  *
  * What each function shares:
  * - A buffer passes as a pointer, then its length in bytes. It may be longer than it has to be; the bytes behind
- *   are neither read nor changed. An order passes as a pointer alone, to its six bytes.
+ *   are neither read nor changed. An order passes as a pointer alone, to its six bytes, and so does a session.
  * - It allocates nothing and keeps nothing, so that threads may call at once. Measured, it uses at most 105 KiB of
  *   stack (reading a text of 200 opening brackets; every other call 21 KiB).
- * - It asks its questions in the order named with it. The first no is its answer, and then no byte is changed.
- *   So every number and every byte may be passed: the function tests them itself.
+ * - It asks its questions in the order named with it. The first no is its answer, and then no byte is changed
+ *   (layodegi_session_start alone writes its block even then). So every number and every byte may be passed: the
+ *   function tests them itself.
  * - It returns a code of 64 bits: in the low byte the number of the first no, 0 if there is none; above it what
  *   the comment names, else 0. The inline functions below take a code apart.
  * - The caller owes this much: each pointer is not null, even where the length is 0, and points to that many bytes
- *   (an order to six); a buffer that is written overlaps no other buffer of the call; and nothing else changes them meanwhile.
+ *   (an order to six, a session to LAYODEGI_SESSION); a buffer that is written overlaps no other buffer of the call;
+ *   and nothing else changes them meanwhile.
  */
 #ifndef LAYODEGI_H
 #define LAYODEGI_H
@@ -48,6 +52,15 @@ extern "C" {
 #define LAYODEGI_ORDER_LENGTH 6
 #define LAYODEGI_UNUSED 255 /* in the places of an order that no unknown needs */
 
+/* The bytes of a session, and where in it stand: U; G; the present table; for each name, 'A' to 'D', whether it is
+   marked (1 if it is, any other byte if not) and its table. Of a table the first 2^n bytes count. */
+#define LAYODEGI_SESSION 5126
+#define LAYODEGI_SESSION_UNKNOWNS 0
+#define LAYODEGI_SESSION_GIVENS 1
+#define LAYODEGI_SESSION_TABLE 2
+#define LAYODEGI_SESSION_MARK(name) (1026 + 1025 * ((size_t)(name) - 'A'))
+#define LAYODEGI_SESSION_STORED(name) (1027 + 1025 * ((size_t)(name) - 'A'))
+
 /* The questions, and the number if the answer is no. */
 enum layodegi_question {
     LAYODEGI_YES = 0,         /* no question is answered no */
@@ -70,7 +83,9 @@ enum layodegi_question {
     LAYODEGI_OUTPUT = 14,     /* Is the output at least as long as what is to be written? */
     LAYODEGI_RISING = 15,     /* Is the route above the one before? */
     LAYODEGI_RANGE = 16,      /* Is the state below 2^G and the choice below 2^U? */
-    LAYODEGI_ORDER = 17       /* Does the order hold each unknown once and then only 255? */
+    LAYODEGI_ORDER = 17,      /* Does the order hold each unknown once and then only 255? */
+    LAYODEGI_NAME = 18,       /* Is the name a byte `A` to `D`? */
+    LAYODEGI_MARKED = 19      /* When returning, is the name marked? */
 };
 
 /*
@@ -175,6 +190,54 @@ uint64_t layodegi_audit(const uint8_t *bytes, size_t bytes_length);
  * (layodegi_code_number).
  */
 uint64_t layodegi_walk(const uint8_t *volume, size_t volume_length, size_t place);
+
+/*
+ * Named design states. A designer's tool starts a session, reads each condition with layodegi_read_text and adds it,
+ * marks a state as 'A', tries more conditions and returns. The present table, at session + LAYODEGI_SESSION_TABLE, has
+ * the value 0 where all conditions of the present list have it, so that solving it solves all of them at once:
+ *
+ *     uint8_t session[LAYODEGI_SESSION], condition[4], order[6], answers[4];
+ *     layodegi_session_start(1, 1, session);
+ *     layodegi_read_text(1, 1, (const uint8_t *)"u+a", 3, condition, 4);
+ *     layodegi_session_add(session, condition, 4);
+ *     layodegi_session_mark(session, 'A');
+ *     layodegi_read_text(1, 1, (const uint8_t *)"u", 1, condition, 4);
+ *     layodegi_session_add(session, condition, 4);
+ *     layodegi_default_order(1, order);
+ *     layodegi_boole(1, 1, order, session + LAYODEGI_SESSION_TABLE, 4, answers, 4);  // a no to 9, state 1
+ *     layodegi_session_return(session, 'A');
+ *     layodegi_boole(1, 1, order, session + LAYODEGI_SESSION_TABLE, 4, answers, 4);  // u = a
+ *
+ * layodegi_write_entry takes the present table in the same way. The block is all there is to a session: it may be
+ * copied, and kept in a file. Each step asks again whether what it is handed is a session: 1 of its U and G, 8 of the
+ * present table and of those of marked names. After a step that is done, the bytes that mark names are 0 or 1; a
+ * refused step changes no byte. Each code holds nothing but the number of the first no.
+ */
+
+/*
+ * Starts a session with the empty table and no name marked. Question 1.
+ * session, written whatever the answer: LAYODEGI_SESSION bytes; those of U = 0 and G = 0 after a no.
+ */
+uint64_t layodegi_session_start(size_t u, size_t g, uint8_t session[LAYODEGI_SESSION]);
+
+/*
+ * Adds a condition h: the present table f becomes f + h + f*h. Questions 1 and 8 of the session, 4 and 8 of h.
+ * session, read and written: LAYODEGI_SESSION bytes; h: 2^n bytes.
+ */
+uint64_t layodegi_session_add(uint8_t session[LAYODEGI_SESSION], const uint8_t *h, size_t h_length);
+
+/*
+ * Stores the present list of added conditions, as its table, under a name, over any earlier one. Questions 1 and 8 of
+ * the session, 18. The name is a number, so that one above 255 is a no as well.
+ * session, read and written: LAYODEGI_SESSION bytes.
+ */
+uint64_t layodegi_session_mark(uint8_t session[LAYODEGI_SESSION], size_t name);
+
+/*
+ * Makes the list that is stored under a name the present one; all marks stay. Questions 1 and 8 of the session, 18, 19.
+ * session, read and written: LAYODEGI_SESSION bytes.
+ */
+uint64_t layodegi_session_return(uint8_t session[LAYODEGI_SESSION], size_t name);
 
 /* The bytes of a table, 2^n, and of an answer table, U * 2^n; 0 where question 1 is answered no. */
 static inline size_t layodegi_table_length(size_t u, size_t g)
@@ -282,6 +345,10 @@ static inline const char *layodegi_question_words(unsigned question)
         return "Is the state below 2^G and the choice below 2^U?";
     case LAYODEGI_ORDER:
         return "Does the order hold each unknown once and then only 255?";
+    case LAYODEGI_NAME:
+        return "Is the name a byte `A` to `D`?";
+    case LAYODEGI_MARKED:
+        return "When returning, is the name marked?";
     default:
         return "no question of the paper";
     }

@@ -29,6 +29,7 @@ static int holds(const uint8_t *bytes, const void *expected, size_t length)
     return memcmp(bytes, expected, length) == 0 && bytes[length] == OLD;
 }
 
+static const uint8_t EMPTY[4] = {0, 0, 0, 0};
 /* Over the letters u and v. */
 static const uint8_t U_PLUS_V[4] = {0, 1, 1, 0};
 static const uint8_t U_TIMES_V[4] = {0, 0, 0, 1};
@@ -152,12 +153,89 @@ static void check_orders(void)
     CHECK(holds(order, U_FIRST, 6));
 }
 
+/* The bytes of a session: 0 but for those named, then one byte that was not written. */
+static int is_session(const uint8_t *session, uint8_t u, uint8_t g, const uint8_t table[4], const uint8_t *stored_as_b)
+{
+    uint8_t expected[LAYODEGI_SESSION] = {u, g};
+    memcpy(expected + LAYODEGI_SESSION_TABLE, table, 4);
+    if (stored_as_b != NULL) {
+        expected[LAYODEGI_SESSION_MARK('B')] = 1;
+        memcpy(expected + LAYODEGI_SESSION_STORED('B'), stored_as_b, 4);
+    }
+    return holds(session, expected, sizeof expected);
+}
+
+static void check_sessions(void)
+{
+    static const uint8_t NOT_U[4] = {1, 1, 0, 0};
+    static const uint8_t EITHER[4] = {1, 1, 0, 1}; /* u*v or not u */
+    uint8_t session[LAYODEGI_SESSION + 1], answers[9];
+    memset(session, OLD, sizeof session);
+    memset(answers, OLD, sizeof answers);
+    CHECK(layodegi_session_start(2, 0, session) == 0);
+    CHECK(is_session(session, 2, 0, EMPTY, NULL));
+    CHECK(layodegi_session_return(session, 'B') == LAYODEGI_MARKED);
+    CHECK(layodegi_session_add(session, U_TIMES_V, 3) == LAYODEGI_ROOM);
+    CHECK(layodegi_session_add(session, (const uint8_t *)"\0\1\2\0", 4) == LAYODEGI_BITS);
+    CHECK(is_session(session, 2, 0, EMPTY, NULL));
+
+    CHECK(layodegi_session_add(session, U_TIMES_V, 4) == 0);
+    CHECK(layodegi_session_mark(session, 'B') == 0);
+    CHECK(is_session(session, 2, 0, U_TIMES_V, U_TIMES_V));
+    CHECK(layodegi_session_add(session, NOT_U, 4) == 0);
+    CHECK(is_session(session, 2, 0, EITHER, U_TIMES_V));
+    CHECK(layodegi_session_mark(session, 'A' - 1) == LAYODEGI_NAME);
+    CHECK(layodegi_session_mark(session, 'E') == LAYODEGI_NAME);
+    CHECK(layodegi_session_mark(session, 'B' + 256) == LAYODEGI_NAME);
+    CHECK(layodegi_session_return(session, SIZE_MAX) == LAYODEGI_NAME);
+    CHECK(layodegi_session_return(session, 'C') == LAYODEGI_MARKED);
+    CHECK(is_session(session, 2, 0, EITHER, U_TIMES_V));
+
+    /* the present table, as it stands in the block, is a condition */
+    CHECK(layodegi_boole(2, 0, U_FIRST, session + LAYODEGI_SESSION_TABLE, 4, answers, 8) == 0);
+    CHECK(holds(answers, "\1\0\0\0\0\0\0\0", 8)); /* u = 1, v = 0 */
+    CHECK(layodegi_session_return(session, 'B') == 0);
+    CHECK(is_session(session, 2, 0, U_TIMES_V, U_TIMES_V));
+    CHECK(layodegi_boole(2, 0, U_FIRST, session + LAYODEGI_SESSION_TABLE, 4, answers, 8) == 0);
+    CHECK(holds(answers, "\0\1\0\1\0\0\1\0", 8)); /* u = u + u*v, v = v */
+}
+
+/* What a step is handed may be anything. */
+static void check_sessions_handed(void)
+{
+    uint8_t session[LAYODEGI_SESSION + 1];
+    memset(session, OLD, sizeof session);
+    CHECK(layodegi_session_start(6, 5, session) == LAYODEGI_LETTERS);
+    CHECK(is_session(session, 0, 0, EMPTY, NULL));
+    CHECK(layodegi_session_start(1, 1, session) == 0);
+    CHECK(layodegi_session_mark(session, 'B') == 0);
+    session[LAYODEGI_SESSION_STORED('B') + 3] = 2;
+    CHECK(layodegi_session_add(session, A, 3) == LAYODEGI_BITS);
+    session[LAYODEGI_SESSION_MARK('B')] = 2; /* no mark */
+    CHECK(layodegi_session_add(session, A, 3) == LAYODEGI_ROOM);
+    CHECK(session[LAYODEGI_SESSION_MARK('B')] == 2);
+    CHECK(layodegi_session_return(session, 'B') == LAYODEGI_MARKED);
+    CHECK(layodegi_session_add(session, A, 4) == 0);
+    CHECK(session[LAYODEGI_SESSION_MARK('B')] == 0 && session[LAYODEGI_SESSION_STORED('B') + 3] == 2);
+    session[LAYODEGI_SESSION_TABLE + 4] = 9; /* behind the table */
+    CHECK(layodegi_session_mark(session, 'D') == 0);
+    CHECK(session[LAYODEGI_SESSION_MARK('D')] == 1 && session[LAYODEGI_SESSION_STORED('D') + 4] == 9);
+    CHECK(session[LAYODEGI_SESSION_STORED('D') + LAYODEGI_LONGEST_TABLE] == OLD);
+    session[LAYODEGI_SESSION_TABLE] = 255;
+    CHECK(layodegi_session_return(session, 'D') == LAYODEGI_BITS);
+    session[LAYODEGI_SESSION_GIVENS] = 255;
+    CHECK(layodegi_session_return(session, 'E') == LAYODEGI_LETTERS);
+    CHECK(session[LAYODEGI_SESSION_TABLE] == 255 && session[LAYODEGI_SESSION_GIVENS] == 255);
+}
+
 int main(void)
 {
     check_tables();
     check_solving();
     check_entries();
     check_orders();
+    check_sessions();
+    check_sessions_handed();
     if (failed != 0)
         return EXIT_FAILURE;
     puts("each function of the header: as expected");

@@ -1,7 +1,8 @@
-//! What test cases are made from: random numbers, tables, bounds, orders and bench rows.
+//! What test cases are made from: random numbers, tables, bounds, orders, sessions and bench rows.
 
 pub mod entries;
 pub mod orders;
+pub mod sessions;
 pub mod texts;
 
 use crate::plain::transform;

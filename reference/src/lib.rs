@@ -1,5 +1,6 @@
 //! A plain implementation of document 01, the thirty-year route volume, and of
-//! request C-11 of document 02, the order of elimination.
+//! requests C-11, the order of elimination, and C-12, named design states, of
+//! document 02.
 //!
 //! Written from the papers alone, to test the engine against: polynomials are
 //! sets of monomials and every step is worked out in the papers' own words.
@@ -14,6 +15,7 @@ pub mod plain;
 mod polynomial;
 mod programs;
 mod questions;
+mod session;
 mod solution;
 mod text;
 
@@ -23,6 +25,7 @@ pub use calls::{
 pub use entry::{audit, read_entry, write_entry, Contents, Count, Reading, Walk};
 pub use polynomial::Polynomial;
 pub use programs::{sheet, walk_output};
-pub use questions::{Choice, Letters, Order, Refusal, State, LONGEST_ENTRY};
+pub use questions::{Choice, Letters, Order, Refusal, State, LONGEST_ENTRY, LONGEST_TABLE, NAMES};
+pub use session::{NamedState, Session, Step};
 pub use solution::{Solution, Solved};
 pub use text::{read_tree, Tree};

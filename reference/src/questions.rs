@@ -11,10 +11,14 @@ pub const MOST_LETTERS: u64 = 10;
 pub const LAST_ROUTE: u64 = 250;
 /// The text has 1 to 200 bytes.
 pub const LONGEST_TEXT: usize = 200;
+/// The bytes of a table of ten letters; no table is longer.
+pub const LONGEST_TABLE: usize = 1 << MOST_LETTERS;
 /// The bound on an entry.
 pub const LONGEST_ENTRY: usize = 27_661;
 /// Stands in the places of an order that no unknown needs.
 pub const UNUSED: u8 = 255;
+/// The names of design states.
+pub const NAMES: [u8; 4] = *b"ABCD";
 
 /// The number of the first question answered no.
 #[derive(Clone, Copy, Debug, PartialEq, Eq)]
@@ -141,4 +145,11 @@ pub fn ask_order(letters: Letters, order: Order) -> Result<Vec<usize>, Refusal> 
     let once = |unknown: usize| used.iter().filter(|&&byte| byte as usize == unknown).count() == 1;
     ask(17, (0..letters.unknowns).all(once) && unused.iter().all(|&byte| byte == UNUSED))?;
     Ok(used.iter().map(|&byte| byte as usize).collect())
+}
+
+/// 18. Is the name a byte `A` to `D`?
+///
+/// Answers its place among the names.
+pub fn ask_name(name: u64) -> Result<usize, Refusal> {
+    NAMES.iter().position(|&byte| u64::from(byte) == name).ok_or(Refusal(18))
 }

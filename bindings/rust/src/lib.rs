@@ -13,6 +13,9 @@
 //! The unknowns are eliminated in an [`Order`] that the designer picks: [`Order::default_for`] gives
 //! 0, 1, 2 and so on. General solutions in any two orders are instances of each other.
 //!
+//! A [`Session`] keeps the conditions that a designer adds one by one, as one table, and states of it
+//! to return to.
+//!
 //! Each call asks its questions in the order named with it. The first no is the [`Refusal`], and
 //! a call that refuses has changed no byte. Buffers may be longer than they have to be: bytes
 //! behind the length that the call needs are neither read nor changed.
@@ -47,11 +50,13 @@ mod answer;
 mod letters;
 mod question;
 pub mod raw;
+mod session;
 
 pub use answer::{Answer, Entry, Reading, Stopped};
 pub use letters::{Choice, Letters, Order, State};
 pub use letters::{LAST_ROUTE, LONGEST_ANSWERS, LONGEST_ENTRY, LONGEST_TABLE, LONGEST_TEXT};
 pub use question::{Question, Refusal};
+pub use session::{Name, Session, Step, SESSION_LENGTH};
 
 use answer::Code;
 

@@ -11,7 +11,7 @@ use std::fmt;
 /// assert_eq!(Question::Grammar.number(), 7);
 /// assert_eq!(Question::Grammar.to_string(), "Does the grammar read the whole text?");
 /// assert_eq!(Question::with_number(7), Some(Question::Grammar));
-/// assert_eq!(Question::with_number(18), None);
+/// assert_eq!(Question::with_number(20), None);
 /// ```
 #[derive(Clone, Copy, Debug, PartialEq, Eq, Hash)]
 #[repr(u8)]
@@ -53,11 +53,15 @@ pub enum Question {
     Range = 16,
     /// Does the order hold each unknown once and then only 255?
     Order = 17,
+    /// Is the name a byte `A` to `D`?
+    Name = 18,
+    /// When returning, is the name marked?
+    Marked = 19,
 }
 
 impl Question {
     /// Every question, by number.
-    pub const ALL: [Question; 17] = [
+    pub const ALL: [Question; 19] = [
         Question::Letters,
         Question::Route,
         Question::TextLength,
@@ -75,6 +79,8 @@ impl Question {
         Question::Rising,
         Question::Range,
         Question::Order,
+        Question::Name,
+        Question::Marked,
     ];
 
     /// The question with a number, if there is one.
@@ -118,6 +124,8 @@ impl Question {
             Question::Rising => "Is the route above the one before?",
             Question::Range => "Is the state below 2^G and the choice below 2^U?",
             Question::Order => "Does the order hold each unknown once and then only 255?",
+            Question::Name => "Is the name a byte `A` to `D`?",
+            Question::Marked => "When returning, is the name marked?",
         }
     }
 }
@@ -128,7 +136,7 @@ impl fmt::Display for Question {
     }
 }
 
-/// The first no of a call. A call that refuses has changed no byte.
+/// The first no of a call. A call that refuses has changed no byte that it was lent.
 ///
 /// ```
 /// use layodegi::{read_text, Letters, Question, Refusal};

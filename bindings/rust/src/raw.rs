@@ -3,7 +3,8 @@
 //!
 //! A caller lends each pointer for its length: to be read where it is `*const`,
 //! to be read and written where it is `*mut`, then overlapping no other. None is
-//! null, even where the length is 0. An order has no length: it is six bytes.
+//! null, even where the length is 0. An order has no length: it is six bytes. Nor
+//! has a session: it is 5,126 bytes.
 
 extern "C" {
     pub fn layodegi_read_text(
@@ -122,4 +123,12 @@ extern "C" {
     pub fn layodegi_audit(bytes: *const u8, bytes_length: usize) -> u64;
 
     pub fn layodegi_walk(volume: *const u8, volume_length: usize, place: usize) -> u64;
+
+    pub fn layodegi_session_start(u: usize, g: usize, session: *mut u8) -> u64;
+
+    pub fn layodegi_session_add(session: *mut u8, h: *const u8, h_length: usize) -> u64;
+
+    pub fn layodegi_session_mark(session: *mut u8, name: usize) -> u64;
+
+    pub fn layodegi_session_return(session: *mut u8, name: usize) -> u64;
 }

@@ -8,6 +8,8 @@ mod entry;
 mod lines;
 #[path = "vectors/operations.rs"]
 mod operations;
+#[path = "vectors/sessions.rs"]
+mod sessions;
 #[path = "vectors/solving.rs"]
 mod solving;
 #[path = "vectors/text.rs"]
@@ -59,6 +61,7 @@ fn add_cases(call: char, lines: &mut Lines) -> bool {
         'r' => entry::add_readings(lines),
         'a' => volume::add_audits(lines),
         'k' => volume::add_walks(lines),
+        'n' => sessions::add_sessions(lines),
         _ => return false,
     }
     true

@@ -2,8 +2,12 @@
 //! wrapper. What the reference answers gives the code and the wrapper's answer.
 
 use crate::lent::{Case, Lent};
+use crate::sessions::take_step;
 use crate::tally::Tally;
-use layodegi::{raw, Answer, Choice, Entry, Letters, Order, Refusal, State, Stopped};
+use layodegi::{
+    raw, Answer, Choice, Entry, Letters, Name, Order, Refusal, Session, State, Step, Stopped,
+};
+use reference::cases::sessions::Event;
 use reference::cases::Random;
 use reference::{Contents, Count, Reading, Solved, Walk};
 use std::fmt::Debug;
@@ -295,6 +299,32 @@ impl Calls {
         );
     }
 
+    /// A step of a session that is handed in as bytes.
+    pub fn session(&mut self, event: &Event, bytes: &[u8]) {
+        let (call, numbers, h): (_, Vec<u64>, &[u8]) = match event {
+            Event::Start(u, g) => ("session_start", vec![*u, *g], &[]),
+            Event::Add(h) => ("session_add", vec![], h),
+            Event::Mark(name) => ("session_mark", vec![*name], &[]),
+            Event::Return(name) => ("session_return", vec![*name], &[]),
+            Event::Change(_) => unreachable!("no step"),
+        };
+        self.case(
+            (call, &numbers),
+            [h],
+            [bytes],
+            |_, [bytes]| done(take_step(event, bytes)),
+            |[h], [bytes]| {
+                let bytes = bytes.as_mut_ptr();
+                unsafe { session_code(event, h, bytes) }
+            },
+            |[h], [bytes]| {
+                let Step { session, answer } = session_step(event, h, bytes);
+                bytes.copy_from_slice(&session.0);
+                answer
+            },
+        );
+    }
+
     /// One case of a call, with the numbers that it passes.
     fn case<T: PartialEq + Debug, const R: usize, const W: usize>(
         &mut self,
@@ -316,6 +346,29 @@ impl Calls {
                 panic!("{call} {numbers:?} on {read:?}, buffers of {lengths:?}: {difference}")
             }
         }
+    }
+}
+
+/// A step by the archive; `h` is the table to add, as it is lent.
+unsafe fn session_code(event: &Event, h: &[u8], session: *mut u8) -> u64 {
+    match event {
+        Event::Start(u, g) => raw::layodegi_session_start(*u as usize, *g as usize, session),
+        Event::Add(_) => raw::layodegi_session_add(session, h.as_ptr(), h.len()),
+        Event::Mark(name) => raw::layodegi_session_mark(session, *name as usize),
+        Event::Return(name) => raw::layodegi_session_return(session, *name as usize),
+        Event::Change(_) => unreachable!("no step"),
+    }
+}
+
+/// A step by the wrapper.
+fn session_step(event: &Event, h: &[u8], bytes: &[u8]) -> Step {
+    let session = Session(bytes.try_into().expect("a session"));
+    match event {
+        Event::Start(u, g) => Session::start(letters(*u, *g)),
+        Event::Add(_) => session.add(h),
+        Event::Mark(name) => session.mark(Name(*name as usize)),
+        Event::Return(name) => session.return_to(Name(*name as usize)),
+        Event::Change(_) => unreachable!("no step"),
     }
 }
 

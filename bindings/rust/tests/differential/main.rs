@@ -6,6 +6,7 @@ mod calls;
 mod entries;
 mod lent;
 mod making;
+mod sessions;
 mod solving;
 mod tables;
 mod tally;
@@ -31,6 +32,9 @@ fn main() -> ExitCode {
         entries::run_reading,
         entries::run_audits,
         volumes::run,
+        sessions::run_starts,
+        sessions::run_histories,
+        sessions::run_handed,
     ];
     let mut tally = Tally::default();
     let mut alike = true;

@@ -7,7 +7,7 @@ const LEAST_CASES: usize = 4_000;
 const LEAST_NOES: usize = 50;
 
 /// The calls, with the questions that each asks, in the papers' order.
-pub const QUESTIONS: [(&str, &[u8]); 13] = [
+pub const QUESTIONS: [(&str, &[u8]); 17] = [
     ("read_text", &[1, 3, 4, 5, 6, 7]),
     ("value", &[1, 4, 8, 16]),
     ("sum", &[1, 4, 8]),
@@ -21,6 +21,11 @@ pub const QUESTIONS: [(&str, &[u8]); 13] = [
     ("read_entry", &[10, 11, 1, 2, 12, 17, 4]),
     ("audit", &[10, 11, 1, 2, 12, 17, 13]),
     ("walk", &[10, 11, 1, 2, 12, 17, 13, 15]),
+    ("session_start", &[1]),
+    // 8 of the session, and again of the table
+    ("session_add", &[1, 8, 4]),
+    ("session_mark", &[1, 8, 18]),
+    ("session_return", &[1, 8, 18, 19]),
 ];
 
 /// For each call and each number of a first no, 0 where there is none, the count of cases.

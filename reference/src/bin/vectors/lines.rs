@@ -3,8 +3,22 @@
 //! Input: CALL U G X Y SIZE SIZE2 A B, single spaces between. A and B are
 //! digits, one a byte, hexadecimal bytes, or raw text; `-` is an empty one.
 //! For a call that takes an order, Y is its six bytes in hexadecimal.
+//!
+//! The lines of a session stop after the last field that they use, and the
+//! session goes on from line to line: a start is `s U G`, adding A is
+//! `a 0 0 0 0 0 0 A`, marking and returning are `m 0 0 NAME` and `r 0 0 NAME`.
+//! A change by the caller is `d WHICH PLACE BYTE`, without a line of output.
+//! WHICH is 0 or 1 to put PLACE for U or G, 2 to put BYTE at PLACE of the present
+//! table, 3 to 6 of the table of A to D, 7 to 10 to mark A to D if BYTE is 1, else
+//! to unmark it. Expected of a step is `done` or the refusal, then U, G, SUM,
+//! MARKS and the first 2^n bytes of the present table, `-` where question 1 is
+//! answered no. SUM is over all fields (`checksum`), and MARKS has a digit for
+//! each name.
 
-use reference::{Choice, Contents, Count, Order, Reading, Refusal, Solved, State, Walk};
+use reference::cases::sessions::{Change, Event};
+use reference::{
+    Choice, Contents, Count, Order, Reading, Refusal, Session, Solved, State, Step, Walk,
+};
 use std::fmt;
 
 /// No line of either file is longer.
@@ -66,13 +80,20 @@ impl Lines {
         let Numbers { u, g, x, y, size, size2 } = numbers;
         let mut line = format!("{call} {u} {g} {x} {y} {size} {size2} {a} ").into_bytes();
         line.extend_from_slice(b);
-        self.longest = self.longest.max(line.len()).max(expected.len());
-        assert!(line.len() <= LONGEST_LINE && expected.len() <= LONGEST_LINE);
-        assert!(!line.contains(&b'\n') && !expected.contains('\n'));
-        line.push(b'\n');
-        self.input.extend(line);
-        self.output.extend(expected.as_bytes());
-        self.output.push(b'\n');
+        self.put(line, Some(expected));
+    }
+
+    fn put(&mut self, line: Vec<u8>, expected: Option<String>) {
+        let expected = expected.map(String::into_bytes);
+        for (file, line) in [(&mut self.input, Some(line)), (&mut self.output, expected)] {
+            let Some(line) = line else {
+                continue;
+            };
+            self.longest = self.longest.max(line.len());
+            assert!(line.len() <= LONGEST_LINE && !line.contains(&b'\n'));
+            file.extend(line);
+            file.push(b'\n');
+        }
     }
 
     pub fn value(&mut self, u: u64, g: u64, state: u64, choice: u64, table: &[u8]) {
@@ -173,6 +194,56 @@ impl Lines {
         let numbers = Numbers { x: place as u64, ..Numbers::default() };
         self.add('k', numbers, "-", hexadecimal(volume).as_bytes(), expected);
     }
+
+    /// A session: a start and what happens after it.
+    pub fn session(&mut self, events: &[Event]) {
+        let mut session = Session::start(0, 0).session;
+        for event in events {
+            let after = event.apply(session);
+            let expected = match event {
+                Event::Change(_) => None,
+                _ => Some(step(&after)),
+            };
+            self.put(line(event).into_bytes(), expected);
+            session = after.session;
+        }
+    }
+}
+
+fn line(event: &Event) -> String {
+    match event {
+        Event::Start(u, g) => format!("s {u} {g}"),
+        Event::Add(h) => format!("a 0 0 0 0 0 0 {}", digits(h)),
+        Event::Mark(name) => format!("m 0 0 {name}"),
+        Event::Return(name) => format!("r 0 0 {name}"),
+        Event::Change(change) => match change {
+            Change::Unknowns(unknowns) => format!("d 0 {unknowns} 0"),
+            Change::Givens(givens) => format!("d 1 {givens} 0"),
+            Change::Table { place, byte } => format!("d 2 {place} {byte}"),
+            Change::State { name, place, byte } => format!("d {} {place} {byte}", 3 + name),
+            Change::Marked { name, is_marked } => format!("d {} 0 {}", 7 + name, *is_marked as u8),
+        },
+    }
+}
+
+fn step(Step { session, answer }: &Step) -> String {
+    let Session { unknowns, givens, table, states } = session;
+    let marks = states.each_ref().map(|state| state.is_marked as u8);
+    let length = match *unknowns <= 6 && *givens <= 8 && unknowns + givens <= 10 {
+        true => 1 << (unknowns + givens),
+        false => 0,
+    };
+    let (word, marks, table) = (done(*answer), digits(&marks), digits(&table[..length]));
+    format!("{word} {unknowns} {givens} {} {marks} {table}", checksum(session))
+}
+
+/// Of every byte of the present table, then for each name its mark as 0 or 1 and every byte of its
+/// table.
+fn checksum(session: &Session) -> u64 {
+    let states = session.states.iter();
+    let marked = states.flat_map(|state| [&[state.is_marked as u8], &state.table[..]].concat());
+    let bytes = session.table.into_iter().chain(marked);
+    bytes.fold(0, |sum, byte| (sum * 31 + u64::from(byte)) % 4_294_967_291)
 }
 
 fn done(result: Result<(), Refusal>) -> String {
@@ -195,12 +266,12 @@ fn reading(result: Result<Reading, Refusal>) -> String {
     }
 }
 
-/// One digit a byte, `-` for no bytes.
+/// One digit a byte, `?` for a byte over 9, `-` for no bytes.
 fn digits(bytes: &[u8]) -> String {
     if bytes.is_empty() {
         return "-".to_string();
     }
-    bytes.iter().map(|byte| (b'0' + byte) as char).collect()
+    bytes.iter().map(|&byte| if byte < 10 { (b'0' + byte) as char } else { '?' }).collect()
 }
 
 /// Two lower-case hexadecimal digits a byte, `-` for no bytes.
