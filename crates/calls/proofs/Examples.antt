@@ -1,14 +1,15 @@
 -- Walks over the volume of document 01's sample sheet, whole, from other places and damaged, and over entries with an order, right and
--- wrong, by computation.
+-- wrong; and which question comes first; by computation.
 -- Assumes nothing.
 use mathlib.Core.Path.{_≡_, refl}
+use mathlib.Core.Bool.{false}
 use mathlib.Core.List.{List, [], _∷_, _++_}
 use Prim.Native.Nat.{ℕ}
 use Rattle.ring.specs.Letters.{bit, point}
 use Rattle.ring.specs.Polynomial.{count, odd, within, value, constant, letter, sum, product, restrict, monomial, substitute, everyBelow}
 use Rattle.ring.specs.Table.{present, tabulate, table, answerTable}
 use Rattle.ring.specs.Lists.{listed, has, times}
-use Rattle.tables.specs.Questions.{firstNo, lettersFit}
+use Rattle.tables.specs.Questions.{firstNo, lettersFit, hasRoom, areBits, holdsBits, roomQuestions, bitQuestions, bufferQuestions}
 use Rattle.tables.specs.Answered.{Reply, accepted, refused}
 use Rattle.order.specs.Order.{letters, before}
 use Rattle.solution.specs.Condition.{defaultOrder}
@@ -21,6 +22,7 @@ use Rattle.entry.specs.Held.{next, untilEnd, firstRecords, records, hasMonomial
 use Rattle.entry.specs.Held.{orderIn, heldVerdict}
 use Rattle.entry.specs.Questions.{routeFits, hasEnd, mayFollow, kindsFollow, kindsFit, allInBounds, standsBefore, inOrder, allInOrder}
 use Rattle.entry.specs.Questions.{numbersFit, answersHold}
+use Rattle.calls.specs.Questions.{sessionQuestions, addQuestions, isName, markQuestions, returnQuestions}
 use Rattle.calls.specs.Questions.{solvingQuestions, writeQuestions, entryQuestions, auditQuestions, routeRises, walkQuestions}
 use Rattle.calls.specs.Walk.{walkAtMost, walkBehind, walkReply}
 
@@ -112,3 +114,14 @@ pub order-asked : (firstNo (solvingQuestions 7 0 noOrder [] 0) ≡ 1)
     × (firstNo (writeQuestions 7 2 0 noOrder [] 0) ≡ 17)
 unfolding firstNo solvingQuestions writeQuestions lettersFit routeFits orderFits times everyBelow
 order-asked = (refl, refl, refl, refl)
+
+-- sessions over one unknown: 1 before the session's own 8, that before 4 of an added table and before 18, and 18 before 19
+pub session-asked : (firstNo (addQuestions 7 0 ((2 ∷ 0 ∷ []) ∷ []) []) ≡ 1)
+    × (firstNo (addQuestions 1 0 ((0 ∷ 0 ∷ []) ∷ (0 ∷ 2 ∷ []) ∷ []) []) ≡ 8)
+    × (firstNo (addQuestions 1 0 ((0 ∷ 0 ∷ 2 ∷ []) ∷ []) (2 ∷ [])) ≡ 4)
+    × (firstNo (markQuestions 1 0 ((2 ∷ 0 ∷ []) ∷ []) 69) ≡ 8)
+    × (firstNo (returnQuestions 1 0 ((0 ∷ 0 ∷ []) ∷ []) 69 false) ≡ 18)
+    × (firstNo (returnQuestions 1 0 ((0 ∷ 0 ∷ []) ∷ []) 68 false) ≡ 19)
+unfolding firstNo addQuestions markQuestions returnQuestions sessionQuestions isName lettersFit bufferQuestions roomQuestions bitQuestions
+    hasRoom holdsBits areBits
+session-asked = (refl, refl, refl, refl, refl, refl)

@@ -291,10 +291,10 @@ pub extern "C" fn layodegi_session_start(u: usize, g: usize, session: &mut [u8; 
 
 // A condition is added.
 #[no_mangle]
-pub extern "C" fn layodegi_session_add(session: &mut [u8; 5126], table: &[u8]) -> u64
-    ensures { λ c. ⌜ answered c (now (session .exit) ∷ []) ≡ coded code (addBlock (now (session .entry)) (now (table .entry))) ⌝ }
+pub extern "C" fn layodegi_session_add(session: &mut [u8; 5126], h: &[u8]) -> u64
+    ensures { λ c. ⌜ answered c (now (session .exit) ∷ []) ≡ coded code (addBlock (now (session .entry)) (now (h .entry))) ⌝ }
 {
-    outcome_code(session_block::add(session, table))
+    outcome_code(session_block::add(session, h))
 }
 
 // The present state is stored under a name.

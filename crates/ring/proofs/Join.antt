@@ -1,16 +1,23 @@
 -- The laws of joined polynomials (document 02, C-12). The value of a join is 'f or h' at every point (`value-join`), so that the order of
 -- adding plays no part and adding twice adds nothing (`same-members`).
 -- Assumes nothing.
-use mathlib.Core.Path.{_≡_, sym, ap, ap₂, _∙_}
+use mathlib.Core.Path.{_≡_, refl, sym, ap, ap₂, _∙_}
 use mathlib.Core.Bool.{Bool, true, false, _||_, or-true, true≢false}
 use mathlib.Core.Logic.{_⊎_, inl, inr}
 use mathlib.Core.List.{List, [], _∷_}
 use Prim.Native.Nat.{ℕ, _^_, _<_}
-use Rattle.ring.specs.Polynomial.{Polynomial, _⊕_, value, sum, product}
+use Rattle.ring.specs.Polynomial.{Polynomial, _⊕_, count, odd, value, letter, sum, product}
+use Rattle.ring.specs.Table.{tabulate, table}
 use Rattle.ring.specs.Join.{join, joined, Member, here, behind}
 use Rattle.ring.proofs.Bool.{or-ring, or-cases, bool-iff}
 use Rattle.ring.proofs.Value.{value-sum, value-product, value-cong, same-values}
 use Rattle.ring.proofs.Substitute.{value-constant}
+
+-- f + f + f*f is f, and two letters are joined to the three monomials that they make
+pub join-rows : (table 1 (join 1 (letter 0) (letter 0)) ≡ 0 ∷ 1 ∷ [])
+    × (table 2 (join 2 (letter 0) (letter 1)) ≡ 0 ∷ 1 ∷ 1 ∷ 1 ∷ [])
+unfolding table tabulate join sum product odd count letter
+join-rows = (refl, refl)
 
 pub value-join : (n : ℕ) (f h : Polynomial) (p : ℕ) → value n (join n f h) p ≡ (value n f p || value n h p)
 unfolding join
