@@ -1,7 +1,7 @@
--- The steps of the inner functions put together: a sum, a product and a join by values, and the parts of a substitution.
+-- The steps of the inner functions put together: a sum, a join, a product by values, and the parts of a substitution.
 -- Assumes nothing.
 use mathlib.Core.Path.{_≡_, sym, ap, ap₂, _∙_}
-use mathlib.Core.Bool.{Bool, _&&_, _||_, cond}
+use mathlib.Core.Bool.{Bool, _&&_, cond}
 use mathlib.Core.List.{List}
 use Prim.Native.Nat.{ℕ, _+_, _-_, _*_, _/_, _%_, _^_, _≤_, _<_}
 use native.Mathlib.Omega.{arith}
@@ -10,12 +10,13 @@ use lib.ListN.{length, take, drop}
 use borrow.Author.Tests.{lt-ltb, le-ltb}
 use Rattle.ring.specs.Letters.{bit}
 use Rattle.ring.specs.Lists.{listed}
-use Rattle.ring.specs.Polynomial.{Polynomial, value, sum, product}
+use Rattle.ring.specs.Polynomial.{Polynomial, _⊕_, value, sum, product}
 use Rattle.ring.specs.Join.{join}
 use Rattle.ring.specs.Table.{AreBits, IsTable, present, tabulate, table, held}
+use Rattle.ring.proofs.Bool.{xor-comm, xor-assoc}
 use Rattle.ring.proofs.Lists.{listed-cong}
 use Rattle.ring.proofs.Value.{value-cong, value-product}
-use Rattle.ring.proofs.Join.{value-join}
+use Rattle.ring.proofs.Table.{tabulate-cong, present-tabulate, is-table, present-table}
 use Rattle.tables.proofs.Bits.{bits-take, bits-drop}
 use Rattle.tables.proofs.Filled.{filled}
 use Rattle.tables.proofs.Parts.{held-part}
@@ -30,28 +31,44 @@ pub sum-done : (n : ℕ) (a b o₁ o₂ : List ℕ) → IsTable n a → o₁ ≡
 unfolding table
 sum-done n a b o₁ o₂ t e₁ e₂ = e₂ ∙ rw (e₁, t .size)
 
--- to values, point by point by an operator, and back
-by-points : (op : Bool → Bool → Bool) (f : Polynomial) (n k : ℕ) (a b x y z out : List ℕ)
-    → ((p : ℕ) → value n f p ≡ op (value n (present a) p) (value n (present b) p)) → k ≡ 2 ^ (n - 6)
-    → x ≡ wordsOf (2 ^ (n - 6)) (value n (present a)) → y ≡ wordsOf (2 ^ (n - 6)) (value n (present b))
-    → z ≡ wordsOf k (λ p. op (bitAt x p) (bitAt y p)) → out ≡ table n (value n (bitAt z)) → out ≡ table n f
-by-points op f n k a b x y z out ef ek ex ey ez eo =
-    eo ∙ table-back n f z (λ p l.
-    let m : p < 64 * 2 ^ (n - 6) = omega (arith, room n) in
-    at-known (2 ^ (n - 6)) _ z (ez ∙ ap (λ (q : ℕ). wordsOf q (λ p. op (bitAt x p) (bitAt y p))) ek) p m
-    ∙ ap₂ op (at-known (2 ^ (n - 6)) _ x ex p m) (at-known (2 ^ (n - 6)) _ y ey p m)
-    ∙ sym (ef p))
+-- a table that is made, and one with another added to it
+pub made-table : (n : ℕ) (f : Polynomial) (o : List ℕ) → o ≡ table n f → IsTable n o
+unfolding table
+made-table n f o e = rw e (is-table n f)
 
+pub added-table : (n : ℕ) (o t out : List ℕ) → IsTable n o → out ≡ tabulate (length o) (sum (present o) (present t)) → IsTable n out
+added-table n o t out h e = rw (e, h .size) (is-table n (sum (present o) (present t)))
+
+-- the product with both added to it is the join
+pub join-done : (n : ℕ) (a b o₁ o₂ o₃ : List ℕ) → o₁ ≡ table n (product n (present a) (present b))
+    → o₂ ≡ tabulate (length o₁) (sum (present o₁) (present a)) → o₃ ≡ tabulate (length o₂) (sum (present o₂) (present b))
+    → o₃ ≡ table n (join n (present a) (present b))
+unfolding join sum table
+join-done n a b o₁ o₂ o₃ e₁ e₂ e₃ =
+    e₃ ∙ ap (λ (k : ℕ). tabulate k (sum (present o₂) (present b))) (added-table n o₁ a o₂ first e₂ .size)
+    ∙ tabulate-cong (2 ^ n) _ _ (λ m l.
+    ap (λ (x : Bool). x ⊕ present b m) (second m l) ∙ xor-assoc (product n (present a) (present b) m) (present a m) (present b m)
+    ∙ xor-comm (product n (present a) (present b) m) (present a m ⊕ present b m))
+  where
+    first : IsTable n o₁
+    first = made-table n (product n (present a) (present b)) o₁ e₁
+
+    second : (m : ℕ) → m < 2 ^ n → present o₂ m ≡ (product n (present a) (present b) m ⊕ present a m)
+    second m l =
+        ap (λ (t : List ℕ). present t m) (e₂ ∙ ap (λ (k : ℕ). tabulate k (sum (present o₁) (present a))) (first .size))
+        ∙ present-tabulate (2 ^ n) (sum (present o₁) (present a)) m l
+        ∙ ap (λ (x : Bool). x ⊕ present a m) (ap (λ (t : List ℕ). present t m) e₁ ∙ present-table n (product n (present a) (present b)) m l)
+
+-- to values, point by point, and back
 pub product-done : (n k : ℕ) (a b x y z out : List ℕ) → k ≡ 2 ^ (n - 6) → x ≡ wordsOf (2 ^ (n - 6)) (value n (present a))
     → y ≡ wordsOf (2 ^ (n - 6)) (value n (present b))
     → z ≡ wordsOf k (λ p. bitAt x p && bitAt y p) → out ≡ table n (value n (bitAt z)) → out ≡ table n (product n (present a) (present b))
-product-done n k a b x y z out =
-    by-points _&&_ (product n (present a) (present b)) n k a b x y z out (value-product n (present a) (present b))
-
-pub join-done : (n k : ℕ) (a b x y z out : List ℕ) → k ≡ 2 ^ (n - 6) → x ≡ wordsOf (2 ^ (n - 6)) (value n (present a))
-    → y ≡ wordsOf (2 ^ (n - 6)) (value n (present b))
-    → z ≡ wordsOf k (λ p. bitAt x p || bitAt y p) → out ≡ table n (value n (bitAt z)) → out ≡ table n (join n (present a) (present b))
-join-done n k a b x y z out = by-points _||_ (join n (present a) (present b)) n k a b x y z out (value-join n (present a) (present b))
+product-done n k a b x y z out ek ex ey ez eo =
+    eo ∙ table-back n (product n (present a) (present b)) z (λ p l.
+    let m : p < 64 * 2 ^ (n - 6) = omega (arith, room n) in
+    at-known (2 ^ (n - 6)) _ z (ez ∙ ap (λ (q : ℕ). wordsOf q (λ p. bitAt x p && bitAt y p)) ek) p m
+    ∙ ap₂ _&&_ (at-known (2 ^ (n - 6)) _ x ex p m) (at-known (2 ^ (n - 6)) _ y ey p m)
+    ∙ sym (value-product n (present a) (present b) p))
 
 -- the handed table j
 module _ (n j size : ℕ) (t : List ℕ) (e : size ≡ 2 ^ n) where

@@ -51,26 +51,14 @@ pub fn multiply(n: usize, a: &[u8], b: &[u8], out: &mut [u8])
     multiply_with(n, a, b, out, &mut first[..k], &mut second[..k]);
 }
 
-fn join_with(n: usize, a: &[u8], b: &[u8], out: &mut [u8], first: &mut [u64], second: &mut [u64])
-    requires { ⌜ (n ≤ 10) × IsTable n (now a) × IsTable n (now b) × (length (now out) ≡ 2 ^ n) × (length (now first) ≡ 2 ^ (n - 6))
-        × (length (now second) ≡ 2 ^ (n - 6)) ⌝ }
-    ensures { λ _. ⌜ now (out .exit) ≡ table n (join n (present (now (a .entry))) (present (now (b .entry)))) ⌝ }
-{
-    words::take_values(n, a, first);
-    words::take_values(n, b, second);
-    words::join_into(first, second);
-    words::put_table(n, first, out);
-}
-
-// Two tables joined, into a third. The scratch words live here.
+// Two tables joined, into a third: f + h + f*h.
 pub fn join(n: usize, a: &[u8], b: &[u8], out: &mut [u8])
     requires { ⌜ (n ≤ 10) × IsTable n (now a) × IsTable n (now b) × (length (now out) ≡ 2 ^ n) ⌝ }
     ensures { λ _. ⌜ now (out .exit) ≡ table n (join n (present (now (a .entry))) (present (now (b .entry)))) ⌝ }
 {
-    let k = words::word_count(n);
-    let mut first = [0u64; 16];
-    let mut second = [0u64; 16];
-    join_with(n, a, b, out, &mut first[..k], &mut second[..k]);
+    multiply(n, a, b, out);
+    tables::add_into(out, a);
+    tables::add_into(out, b);
 }
 
 // One bit of a word at all points.

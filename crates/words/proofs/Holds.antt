@@ -2,18 +2,18 @@
 -- and loops that answer words from the front.
 -- Assumes nothing.
 use mathlib.Core.Path.{_≡_, refl, sym, ap, ap₂, _∙_}
-use mathlib.Core.Bool.{Bool, true, false, _&&_, _||_, Bool·beq, cond}
+use mathlib.Core.Bool.{Bool, true, false, _&&_, Bool·beq, cond}
 use mathlib.Core.List.{List}
 use Prim.Native.Nat.{ℕ, _+_, _*_, _/_, _%_, _^_, _<_}
 use native.Mathlib.Omega.{arith}
 use lib.Dec.{eqb}
-use lib.Bits.{bitAnd, bitOr, bitXor, and-lt, or-lt, xor-lt}
+use lib.Bits.{bitAnd, bitXor, and-lt, xor-lt}
 use lib.ListN.{length, getD, set}
 use Rattle.ring.specs.Letters.{bit}
 use Rattle.ring.specs.Polynomial.{_⊕_, everyBelow}
-use Rattle.ring.proofs.Bool.{same-bool, or-ring}
+use Rattle.ring.proofs.Bool.{same-bool}
 use Rattle.ring.proofs.Every.{every-all}
-use Rattle.ring.proofs.Bitwise.{and-bit, or-bit, xor-bit}
+use Rattle.ring.proofs.Bitwise.{and-bit, xor-bit}
 use Rattle.tables.proofs.Filled.{filled, filled-more}
 use Rattle.words.specs.Inner.Words.{wordOf, wordsOf, bitAt}
 use Rattle.words.proofs.Words.{word-is, word-lt, word-bit, bit-at}
@@ -38,13 +38,6 @@ and-holds {v} {w} a b =
 pub xor-holds : {v w : ℕ} {g h : ℕ → Bool} → Holds v g → Holds w h → Holds (bitXor v w) (λ i. g i ⊕ h i)
 xor-holds {v} {w} a b =
     record { small = xor-lt 64 v w (a .small) (b .small); bits = λ i l. xor-bit v w i ∙ ap₂ _⊕_ (a .bits i l) (b .bits i l) }
-
-pub or-holds : {v w : ℕ} {g h : ℕ → Bool} → Holds v g → Holds w h → Holds (bitOr v w) (λ i. g i || h i)
-or-holds {v} {w} {g} {h} a b =
-    record {
-      small = or-lt 64 v w (a .small) (b .small);
-      bits = λ i l. or-bit v w i ∙ or-ring (bit v i) (bit w i) ∙ ap₂ _||_ (a .bits i l) (b .bits i l);
-    }
 
 -- one value at all points
 pub constant-holds : (b : Bool) (v : ℕ) → v ≡ cond b 0xffff_ffff_ffff_ffff 0 → Holds v (λ i. b)

@@ -3,7 +3,7 @@
 // Nothing here is a public call of the library: the functions are for the crates above, which ask the questions first
 // and then lend slices of exactly the length that is needed.
 ghost use mathlib.Core.Path.{_≡_};
-ghost use mathlib.Core.Bool.{true, false, _&&_, _||_, cond};
+ghost use mathlib.Core.Bool.{true, false, _&&_, cond};
 ghost use Prim.Native.Nat.{_+_, _-_, _*_, _/_, _%_, _^_, _≤_, _<_};
 ghost use lib.ListN.{length, getD};
 ghost use Rattle.ring.specs.Lists.{listed};
@@ -390,16 +390,6 @@ pub fn multiply_into(d: &mut [u64], s: &[u64])
 {
     for i in 0..d.len() {
         d[i] = d[i] & s[i];
-    }
-}
-
-// The join: 1 where one of the two is.
-pub fn join_into(d: &mut [u64], s: &[u64])
-    requires { ⌜ length (now d) ≡ length (now s) ⌝ }
-    ensures { λ _. ⌜ now (d .exit) ≡ wordsOf (length (now (d .entry))) (λ p. bitAt (now (d .entry)) p || bitAt (now (s .entry)) p) ⌝ }
-{
-    for i in 0..d.len() {
-        d[i] = d[i] | s[i];
     }
 }
 
