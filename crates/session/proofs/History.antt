@@ -6,16 +6,18 @@ use mathlib.Core.Path.{_≡_, refl, sym, ap, _∙_}
 use mathlib.Core.Logic.{_↔_}
 use mathlib.Core.Bool.{true, false, not, and-false}
 use mathlib.Core.List.{List, [], _∷_, _++_, map}
-use Prim.Native.Nat.{ℕ, zero, suc, _+_, _^_}
+use Prim.Native.Nat.{ℕ, zero, suc, _+_, _-_, _^_}
 use lib.Dec.{eqb}
+use lib.ListN.{replicate}
 use borrow.Author.Tests.{eq-eqb, not-true}
 use Rattle.ring.specs.Letters.{pointWhere}
-use Rattle.ring.specs.Polynomial.{value}
+use Rattle.ring.specs.Polynomial.{Polynomial, value}
 use Rattle.ring.specs.Table.{present}
 use Rattle.ring.specs.Join.{joined, Member}
 use Rattle.ring.proofs.Bool.{and-left, and-right}
 use Rattle.ring.proofs.Value.{value-cong}
-use Rattle.ring.proofs.Join.{one-joined, joined-one}
+use Rattle.ring.proofs.Table.{table-cong}
+use Rattle.ring.proofs.Join.{one-joined, joined-one, same-members}
 use Rattle.tables.specs.Questions.{firstNo, lettersFit}
 use Rattle.tables.proofs.FirstNo.{each-yes}
 use Rattle.tables.proofs.Questions.{letters-small, pow-small}
@@ -179,3 +181,19 @@ module _ (U G : ℕ) (fits : lettersFit U G ≡ true) (history : History) where
           value-putIn U G L holds _ σ v
           ∙ session-value (pointWhere (U + G) (replacedValue U L σ v))
           ∙ sym (value-putIn U G L holds (joined (U + G) (map present list)) σ v)
+
+-- the order of adding plays no part and adding twice adds nothing: present lists with the same members have the same table
+pub same-present : (U G : ℕ) → lettersFit U G ≡ true → (one other : History)
+    → ((h : List ℕ) → Member h (presentList (U + G) one) → Member h (presentList (U + G) other))
+    → ((h : List ℕ) → Member h (presentList (U + G) other) → Member h (presentList (U + G) one))
+    → sessionAfter U G one .table ≡ sessionAfter U G other .table
+unfolding sessionOf listTable
+same-present U G fits one other forth back =
+    ap (λ (s : Session). s .table) (history-exactly U G fits one)
+    ∙ ap (λ (t : List ℕ). t ++ replicate (1024 - 2 ^ (U + G)) 0)
+    (table-cong (U + G) _ _ (same-members (U + G) _ _ (mapped one other forth) (mapped other one back)))
+    ∙ sym (ap (λ (s : Session). s .table) (history-exactly U G fits other))
+  where
+    mapped : (from to : History) → ((h : List ℕ) → Member h (presentList (U + G) from) → Member h (presentList (U + G) to))
+        → (f : Polynomial) → Member f (map present (presentList (U + G) from)) → Member f (map present (presentList (U + G) to))
+    mapped from to m = each-mapped present (presentList (U + G) from) (λ f. Member f (map present (presentList (U + G) to))) (λ h i. member-map present (m h i))
