@@ -127,7 +127,7 @@ sessionQuestions U G tables = asks Letters (lettersFit U G) ∷ bitQuestions (ma
 unfoldable pub addQuestions : ℕ → ℕ → List (List ℕ) → List ℕ → List Asked
 addQuestions U G tables h = sessionQuestions U G tables ++ bufferQuestions (reads (2 ^ (U + G)) h ∷ [])
 
--- 18: 'is the name a byte `A` to `D`'
+-- 18: 'is the name a byte `A` to `D`', which are 65 and 68
 unfoldable pub isName : ℕ → Bool
 isName name = leb 65 name && leb name 68
 

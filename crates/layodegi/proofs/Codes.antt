@@ -38,7 +38,7 @@ use Rattle.entry.proofs.Records.{records-made}
 use Rattle.entry.proofs.Passes.{Passes}
 use Rattle.entry.proofs.Verdicts.{VerdictFits}
 use Rattle.entry.proofs.Theorems.{entry-bound}
-use Rattle.calls.specs.Questions.{asksSolution, valueQuestions, pairQuestions, substituteQuestions, textQuestions}
+use Rattle.calls.specs.Questions.{valueQuestions, pairQuestions, substituteQuestions, textQuestions}
 use Rattle.calls.specs.Questions.{solvingQuestions, handedQuestions, writeQuestions, entryQuestions, readQuestions, auditQuestions}
 use Rattle.calls.specs.Questions.{walkQuestions, startQuestions, addQuestions, markQuestions, returnQuestions}
 use Rattle.calls.specs.Operations.{outcome, valueAt}

@@ -35,7 +35,8 @@ join-cong n f g h k a b =
 -- the join of a list is 1 where one of its members is ..
 pub one-joined : {hs : List Polynomial} {h : Polynomial} (n p : ℕ) → Member h hs → value n h p ≡ true → value n (joined n hs) p ≡ true
 unfolding joined
-one-joined {hs = h ∷ hs} n p here e = value-join n (joined n hs) h p ∙ ap (λ (x : Bool). value n (joined n hs) p || x) e ∙ or-true (value n (joined n hs) p)
+one-joined {hs = h ∷ hs} n p here e =
+    value-join n (joined n hs) h p ∙ ap (λ (x : Bool). value n (joined n hs) p || x) e ∙ or-true (value n (joined n hs) p)
 one-joined {hs = k ∷ hs} n p (behind m) e = value-join n (joined n hs) k p ∙ ap (λ (x : Bool). x || value n k p) (one-joined n p m e)
 
 -- .. and only there
@@ -50,10 +51,12 @@ joined-one n (h ∷ hs) p e = go (joined-one n hs p) (or-cases (value n (joined 
     go ih (inr l) = (h, (here, l))
 
 -- lists with the same members, in any order and any number of times, are joined to the same
-pub same-members : (n : ℕ) (hs ks : List Polynomial) → ((h : Polynomial) → Member h hs → Member h ks) → ((h : Polynomial) → Member h ks → Member h hs)
+pub same-members : (n : ℕ) (hs ks : List Polynomial) → ((h : Polynomial) → Member h hs → Member h ks)
+    → ((h : Polynomial) → Member h ks → Member h hs)
     → (m : ℕ) → m < 2 ^ n → joined n hs m ≡ joined n ks m
 same-members n hs ks a b =
     same-values n (joined n hs) (joined n ks) (λ p l. bool-iff (value n (joined n hs) p) (value n (joined n ks) p) (forth hs ks a p) (forth ks hs b p))
   where
-    forth : (xs ys : List Polynomial) → ((h : Polynomial) → Member h xs → Member h ys) → (p : ℕ) → value n (joined n xs) p ≡ true → value n (joined n ys) p ≡ true
+    forth : (xs ys : List Polynomial) → ((h : Polynomial) → Member h xs → Member h ys)
+        → (p : ℕ) → value n (joined n xs) p ≡ true → value n (joined n ys) p ≡ true
     forth xs ys c p e = let (h, (m, l)) = joined-one n xs p e in one-joined n p (c h m) l

@@ -1,11 +1,10 @@
 -- The questions of a step as the code asks them: 8 of the marked names one after another, and what it means that a session passes its own.
 -- Assumes nothing.
 use mathlib.Core.Path.{_≡_, refl, sym, ap, _∙_}
-use mathlib.Core.Bool.{Bool, true, false, not, _&&_, cond}
+use mathlib.Core.Bool.{Bool, true, false, cond}
 use mathlib.Core.List.{List, [], _∷_, _++_, map}
 use Prim.Native.Nat.{ℕ, zero, suc, _+_, _^_, _≤_, _<_}
 use native.Mathlib.Numerals.{add-one}
-use native.Mathlib.Omega.{arith}
 use lib.Dec.{leb}
 use lib.ListN.{length, take, getD}
 use lib.Seq.{take-suc, take-all}
@@ -132,7 +131,8 @@ return-also U G tables name set =
 pub return-named : (U G : ℕ) (tables : List (List ℕ)) (name : ℕ) (set : Bool) → firstNo (returnQuestions U G tables name set) ≡ 0 → isName name ≡ true
 unfolding returnQuestions
 return-named U G tables name set e =
-    yes-to Name (isName name) [] (asks Marked set ∷ []) (asked-behind (sessionQuestions U G tables) (asks Name (isName name) ∷ asks Marked set ∷ []) e) .0
+    yes-to Name (isName name) [] (asks Marked set ∷ [])
+    (asked-behind (sessionQuestions U G tables) (asks Name (isName name) ∷ asks Marked set ∷ []) e) .0
 
 -- ---- the ways out of a step: `number` is what the code found
 module _ {r : Step} {number no : ℕ} (after before : Session) (e : number ≡ no) where

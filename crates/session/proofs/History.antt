@@ -196,4 +196,5 @@ same-present U G fits one other forth back =
   where
     mapped : (from to : History) → ((h : List ℕ) → Member h (presentList (U + G) from) → Member h (presentList (U + G) to))
         → (f : Polynomial) → Member f (map present (presentList (U + G) from)) → Member f (map present (presentList (U + G) to))
-    mapped from to m = each-mapped present (presentList (U + G) from) (λ f. Member f (map present (presentList (U + G) to))) (λ h i. member-map present (m h i))
+    mapped from to m =
+        each-mapped present (presentList (U + G) from) (λ f. Member f (map present (presentList (U + G) to))) (λ h i. member-map present (m h i))

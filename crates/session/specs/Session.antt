@@ -7,7 +7,7 @@ use Prim.Native.Nat.{ℕ, zero, suc, _+_, _-_, _^_}
 use lib.ListN.{getD, set, drop, replicate}
 use Rattle.ring.specs.Table.{present, table}
 use Rattle.ring.specs.Join.{join}
-use Rattle.tables.specs.Questions.{Asked, firstNo}
+use Rattle.tables.specs.Questions.{firstNo}
 use Rattle.calls.specs.declared.Outcome.the-variants.{Done, Refused}
 use Rattle.calls.specs.Questions.{startQuestions, addQuestions, markQuestions, returnQuestions}
 use Rattle.session.specs.declared.Mark.{Mark}

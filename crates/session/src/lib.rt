@@ -15,6 +15,10 @@ ghost use Rattle.calls.specs.Questions.{sessionQuestions, addQuestions, isName,
 ghost use Rattle.session.specs.Session.{newSession, under, askedTables, startStep, addStep, markStep, returnStep};
 ghost use Rattle.session.specs.Inner.Asking.{markedQuestions};
 
+const FIRST_NAME: usize = 65; // `A`
+
+const LAST_NAME: usize = 68; // `D`
+
 // What stands under a name: whether it is marked, and the table that was present then.
 pub struct Mark {
     pub set: bool,
@@ -120,7 +124,7 @@ fn add_refusal(s: Session, h: &[u8]) -> u8
 fn is_name(name: usize) -> bool
     ensures { λ r. ⌜ r ≡ isName name ⌝ }
 {
-    65 <= name && name <= 68
+    FIRST_NAME <= name && name <= LAST_NAME
 }
 
 fn mark_refusal(s: Session, name: usize) -> u8
@@ -136,7 +140,7 @@ fn return_refusal(s: Session, name: usize) -> u8
     if q != 0 {
         return q;
     }
-    let i = name - 65;
+    let i = name - FIRST_NAME;
     let m = s.marks[i];
     tables::ask(0, Question::Marked, m.set)
 }
@@ -186,7 +190,7 @@ impl Session {
         if q != 0 {
             return refused(self, q);
         }
-        let i = name - 65;
+        let i = name - FIRST_NAME;
         let t = self.table;
         let mut after = self;
         after.marks[i] = Mark {
@@ -204,7 +208,7 @@ impl Session {
         if q != 0 {
             return refused(self, q);
         }
-        let i = name - 65;
+        let i = name - FIRST_NAME;
         let m = self.marks[i];
         let t = m.table;
         let mut after = self;

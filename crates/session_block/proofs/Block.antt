@@ -3,8 +3,7 @@
 use mathlib.Core.Path.{_≡_, refl, sym, ap, ap₂, _∙_}
 use mathlib.Core.Bool.{Bool, true, false, cond}
 use mathlib.Core.List.{List, [], _∷_, _++_, append-assoc, append-nil}
-use Prim.Native.Nat.{ℕ, zero, suc, _+_, _-_, _*_, _≤_, _<_}
-use native.Mathlib.Nat.{add-mul, one-mul}
+use Prim.Native.Nat.{ℕ, _+_, _-_, _*_, _≤_, _<_}
 use native.Mathlib.Numerals.{add-one}
 use native.Mathlib.Omega.{arith}
 use lib.ListN.{length, getD, set, take, drop, length-append, length-set, length-drop}
@@ -12,7 +11,6 @@ use lib.Seq.{length-take-le, take-at, drop-at, take-suc, take-all, take-take, dr
 use borrow.Rule.Slice.PartMut.{putMid, post-is}
 use Rattle.ring.specs.Letters.{digit}
 use Rattle.ring.specs.Table.{present}
-use Rattle.ring.proofs.Bool.{bit-digit}
 use Rattle.tables.specs.Questions.{firstNo, lettersFit}
 use Rattle.tables.proofs.Questions.{letters-small}
 use Rattle.calls.specs.Questions.{startQuestions}
@@ -85,7 +83,8 @@ pub names-put : (ms : List Mark) (i : ℕ) (d : Mark) (before bytes part : List 
     → NamesPut ms (i + 1) before (putMid (i * 1025) (i * 1025 + 1025 - i * 1025) bytes part)
 names-put ms i d before bytes part h p e l =
     record {
-      front = ap length next ∙ part-long (i * 1025) (i * 1025 + 1025) (markBytes (take i ms)) part (omega arith) (p .front) (omega (arith, l)) ∙ further;
+      front = ap length next
+          ∙ part-long (i * 1025) (i * 1025 + 1025) (markBytes (take i ms)) part (omega arith) (p .front) (omega (arith, l)) ∙ further;
       bytes-are = put-part (i * 1025) (i * 1025 + 1025) (markBytes (take i ms)) before bytes part (omega arith) (p .front) (p .bytes-are)
           ∙ ap₂ (λ (x : List ℕ) (k : ℕ). x ++ drop k before) (sym next) further;
     }
@@ -139,7 +138,7 @@ two-set u g [] h = absurd (omega (arith, h))
 two-set u g (x ∷ []) h = absurd (omega (arith, h))
 two-set u g (x ∷ y ∷ before) h = refl
 
--- the block with the letters u and g, and with the table `part` behind them
+-- a block of which the letters u and g and the bytes `part` of a table have been put
 module _ (u g : ℕ) (before : List ℕ) (l : length before ≡ 5126) where
   abbrev withLetters : List ℕ
   withLetters = set (set before 0 u) 1 g
@@ -150,37 +149,44 @@ module _ (u g : ℕ) (before : List ℕ) (l : length before ≡ 5126) where
   pub table-room : (table : List ℕ) → length table ≡ 1024 → length (take 1024 (drop 2 withLetters)) ≡ length table
   table-room table t = length-take-le 1024 (drop 2 withLetters) (omega (arith, length-drop 2 withLetters, letters-long)) ∙ sym t
 
-  module _ (part table : List ℕ) (t : length table ≡ 1024) (f : part ≡ table) where
-    abbrev withTable : List ℕ
-    withTable = putMid 2 1024 withLetters part
+pub record Begun (u g : ℕ) (before part table : List ℕ) : Type 0 where
+  pub long : length before ≡ 5126
+  pub room : length table ≡ 1024
+  pub copied : part ≡ table
 
-    table-put : withTable ≡ (u ∷ g ∷ part) ++ drop 1026 before
-    table-put = put-part 2 1026 (u ∷ g ∷ []) before withLetters part (omega arith) refl (two-set u g before (omega (arith, l)))
+module _ {u g : ℕ} {before part table : List ℕ} (b : Begun u g before part table) where
+  abbrev withTable : List ℕ
+  withTable = putMid 2 1024 (set (set before 0 u) 1 g) part
 
-    part-size : length part ≡ 1024
-    part-size = ap length f ∙ t
+  table-put : withTable ≡ (u ∷ g ∷ part) ++ drop 1026 before
+  table-put =
+      put-part 2 1026 (u ∷ g ∷ []) before (set (set before 0 u) 1 g) part (omega arith) refl (two-set u g before (omega (arith, b .long)))
 
-    pub table-long : length withTable ≡ 5126
-    table-long =
-        let behind : length (drop 1026 before) ≡ 4100 = length-drop 1026 before ∙ ap (λ (k : ℕ). k - 1026) l in
-        ap length table-put ∙ length-append (u ∷ g ∷ part) (drop 1026 before) ∙ omega (arith, behind, part-size)
+  part-size : length part ≡ 1024
+  part-size = ap length (b .copied) ∙ b .room
 
-    pub names-room : length (take (length withTable - 1026) (drop 1026 withTable)) ≡ 4100
-    names-room = behind-long 1026 withTable ∙ ap (λ (k : ℕ). k - 1026) table-long
+  pub table-long : length withTable ≡ 5126
+  table-long =
+      let behind : length (drop 1026 before) ≡ 4100 = length-drop 1026 before ∙ ap (λ (k : ℕ). k - 1026) (b .long) in
+      ap length table-put ∙ length-append (u ∷ g ∷ part) (drop 1026 before) ∙ omega (arith, behind, part-size)
 
-    names-behind : (names : List ℕ) → putMid 1026 (length withTable - 1026) withTable names ≡ u ∷ g ∷ (part ++ names)
-    names-behind names =
-        ap (λ (k : ℕ). putMid 1026 (k - 1026) withTable names) table-long
-        ∙ put-part 1026 5126 (u ∷ g ∷ part) before withTable names (omega arith) (omega (arith, part-size)) table-put
-        ∙ ap (λ (x : List ℕ). (u ∷ g ∷ (part ++ names)) ++ x) (nothing-behind 5126 before l) ∙ append-nil (u ∷ g ∷ (part ++ names))
+  pub names-room : length (take (length withTable - 1026) (drop 1026 withTable)) ≡ 4100
+  names-room = behind-long 1026 withTable ∙ ap (λ (k : ℕ). k - 1026) table-long
 
-    pub session-long : (names : List ℕ) → length names ≡ 4100 → length (putMid 1026 (length withTable - 1026) withTable names) ≡ length before
-    session-long names n = ap length (names-behind names) ∙ omega (arith, length-append part names, part-size, n, l)
+  names-behind : (names : List ℕ) → putMid 1026 (length withTable - 1026) withTable names ≡ u ∷ g ∷ (part ++ names)
+  names-behind names =
+      ap (λ (k : ℕ). putMid 1026 (k - 1026) withTable names) table-long
+      ∙ put-part 1026 5126 (u ∷ g ∷ part) before withTable names (omega arith) (omega (arith, part-size)) table-put
+      ∙ ap (λ (x : List ℕ). (u ∷ g ∷ (part ++ names)) ++ x) (nothing-behind 5126 before (b .long)) ∙ append-nil (u ∷ g ∷ (part ++ names))
 
-    pub session-put : (s : Session) (names : List ℕ) → u ≡ s .unknowns → g ≡ s .givens → table ≡ s .table → names ≡ markBytes (s .marks)
-        → putMid 1026 (length withTable - 1026) withTable names ≡ sessionBytes s
-    unfolding sessionBytes
-    session-put s names eu eg et en = names-behind names ∙ rw (eu, eg, f, et, en)
+  pub session-long : (names : List ℕ) → length names ≡ 4100
+      → length (putMid 1026 (length withTable - 1026) withTable names) ≡ length before
+  session-long names n = ap length (names-behind names) ∙ omega (arith, length-append part names, part-size, n, b .long)
+
+  pub session-put : (s : Session) (names : List ℕ) → u ≡ s .unknowns → g ≡ s .givens → table ≡ s .table → names ≡ markBytes (s .marks)
+      → putMid 1026 (length withTable - 1026) withTable names ≡ sessionBytes s
+  unfolding sessionBytes
+  session-put s names eu eg et en = names-behind names ∙ rw (eu, eg, b .copied, et, en)
 
 -- ---- the letters of a session that comes out of a block are bytes, and stay so
 pub record Small (s : Session) : Type 0 where

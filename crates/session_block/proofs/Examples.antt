@@ -3,14 +3,13 @@
 -- Assumes nothing.
 use mathlib.Core.Path.{_≡_, refl}
 use mathlib.Core.Bool.{true, false}
-use mathlib.Core.List.{List, [], _∷_, _++_}
+use mathlib.Core.List.{List, [], _∷_}
 use Prim.Native.Nat.{ℕ}
 use lib.ListN.{length, take, drop, replicate}
 use Rattle.ring.specs.Table.{present}
-use Rattle.session.specs.declared.Mark.{Mark}
 use Rattle.session.specs.declared.Session.{Session}
 use Rattle.session.specs.Session.{emptyTable, unmarked}
-use Rattle.session_block.specs.Block.{markIn, sessionIn, markBytes, sessionBytes}
+use Rattle.session_block.specs.Block.{markIn, markBytes, sessionBytes}
 
 -- a table of 1,024 bytes that begins with these two
 abbrev pub room : ℕ → ℕ → List ℕ

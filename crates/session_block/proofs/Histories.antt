@@ -1,14 +1,13 @@
 -- A block that holds a session gives it back (`session-back`), and so the block after any list of steps, from any start, holds the session
 -- after that list (`block-exactly`): a caller who keeps the block keeps the session.
 -- Assumes nothing.
-use mathlib.Core.Path.{_≡_, refl, sym, ap, ap₂, _∙_}
-use mathlib.Core.Bool.{Bool, true, false}
+use mathlib.Core.Path.{_≡_, refl, sym, ap, _∙_}
+use mathlib.Core.Bool.{true, false}
 use mathlib.Core.Logic.{_⊎_, inl, inr}
 use mathlib.Core.List.{List, [], _∷_}
-use Prim.Native.Nat.{ℕ, zero, suc, _+_, _^_, _≤_}
+use Prim.Native.Nat.{ℕ, _+_, _^_, _≤_}
 use lib.ListN.{length, take, drop}
 use lib.Seq.{take-at, drop-at, drop-drop}
-use Rattle.ring.specs.Letters.{digit}
 use Rattle.ring.specs.Table.{present}
 use Rattle.ring.proofs.Bool.{bit-digit, bool-cases}
 use Rattle.tables.specs.Questions.{lettersFit}
@@ -78,7 +77,8 @@ step-kept : (s : Session) (action : Action) → sessionIn (sessionBytes s) ≡ s
     → firstBuffer (stepOn (sessionBytes s) (stepFrom (sessionIn (sessionBytes s)) action)) ≡ sessionBytes (stepFrom s action .session)
 step-kept s action e = ap (λ (t : Session). firstBuffer (stepOn (sessionBytes s) (stepFrom t action))) e ∙ go (stepFrom s action .outcome) refl
   where
-    go : (o : Outcome) → stepFrom s action .outcome ≡ o → blockAfter o (stepFrom s action .session) (sessionBytes s) ≡ sessionBytes (stepFrom s action .session)
+    go : (o : Outcome) → stepFrom s action .outcome ≡ o
+        → blockAfter o (stepFrom s action .session) (sessionBytes s) ≡ sessionBytes (stepFrom s action .session)
     go Done f = refl
     go (Refused number) f = ap sessionBytes (sym (refused-unchanged s action number f))
 

@@ -1,14 +1,14 @@
 // Sessions in blocks of 5,126 bytes, for callers outside the language, who keep them. Public calls, none with a `requires`: `start`, `add`,
 // `mark`, `return_to`. Each takes the session out of the block, makes the step by value and puts the session after it back; a refused step
-// leaves the block alone.
+// leaves the block alone. Where each part stands is said in `specs/Block.antt`.
 use calls::Outcome;
 use session::Mark;
 use session::Session;
 use session::Step;
 ghost use mathlib.Core.Path.{_≡_};
-ghost use mathlib.Core.List.{[], _∷_, _++_};
-ghost use Prim.Native.Nat.{_+_, _≤_, _<_};
-ghost use lib.ListN.{length, take, drop};
+ghost use mathlib.Core.List.{[], _∷_};
+ghost use Prim.Native.Nat.{_+_, _<_};
+ghost use lib.ListN.{length};
 ghost use Rattle.ring.specs.Letters.{digit};
 ghost use Rattle.tables.specs.Answered.{answered};
 ghost use Rattle.calls.specs.Operations.{outcome};

@@ -1,7 +1,6 @@
 -- `check_sessions::show_table` meets its contract: letters that fit have a table of at most 1,024 bytes.
 -- Assumes nothing.
 use mathlib.Core.Path.{_≡_, sym}
-use mathlib.Core.Bool.{true}
 use Prim.Native.Nat.{_+_, _≤_}
 use native.Mathlib.Omega.{arith}
 use borrow.Author.Needs.{needs}

@@ -1,6 +1,6 @@
 -- `polynomials::join` meets its contract: the product, and both added to it.
 -- Assumes nothing.
-use mathlib.Core.Path.{_≡_, sym, _∙_}
+use mathlib.Core.Path.{sym, _∙_}
 use borrow.Author.Needs.{needs}
 use Rattle.polynomials.proofs.Work.{made-table, added-table, join-done}
 use Rattle.polynomials.proofs.join.Statement.{statement}
@@ -8,16 +8,25 @@ use Rattle.polynomials.proofs.join.Tie as tie
 
 add-into-requires : tie.Need-add-into-requires
 add-into-requires c κs =
-    let made = made-table _ _ _ (c .before .before .before .multiply .ensures) in
-    (made .size ∙ sym (c .before .before .before .before .before .before .before .before .pre .1 .size), made .bits, c .before .before .before .before .before .before .before .before .pre .1 .bits)
+    let after-multiply = c .before .before .before in
+    let entry = after-multiply .before .before .before .before .before in
+    let made = made-table _ _ _ (after-multiply .multiply .ensures) in
+    (made .size ∙ sym (entry .pre .1 .size), made .bits, entry .pre .1 .bits)
 
 add-into-requires-2 : tie.Need-add-into-requires-2
 add-into-requires-2 c κs =
-    let more = added-table _ _ _ _ (made-table _ _ _ (c .before .before .before .before .before .before .before .multiply .ensures)) (c .before .before .before .add-into .ensures) in
-    (more .size ∙ sym (c .before .before .before .before .before .before .before .before .before .before .before .before .pre .2 .size), more .bits, c .before .before .before .before .before .before .before .before .before .before .before .before .pre .2 .bits)
+    let after-add-into = c .before .before .before in
+    let after-multiply = after-add-into .before .before .before .before in
+    let entry = after-multiply .before .before .before .before .before in
+    let more = added-table _ _ _ _ (made-table _ _ _ (after-multiply .multiply .ensures)) (after-add-into .add-into .ensures) in
+    (more .size ∙ sym (entry .pre .2 .size), more .bits, entry .pre .2 .bits)
 
 returns : tie.Need-returns
-returns c = join-done _ _ _ _ _ _ (c .before .before .before .before .before .before .before .before .before .before .multiply .ensures) (c .before .before .before .before .before .before .add-into .ensures) (c .before .before .add-into2 .ensures)
+returns c =
+    let after-add-into2 = c .before .before in
+    let after-add-into = after-add-into2 .before .before .before .before in
+    let after-multiply = after-add-into .before .before .before .before in
+    join-done _ _ _ _ _ _ (after-multiply .multiply .ensures) (after-add-into .add-into .ensures) (after-add-into2 .add-into2 .ensures)
 
 pub join-spec : {M : Type 1} → statement M
 join-spec = tie.close (tie.spec (λ c κs. search needs) add-into-requires add-into-requires-2 (λ c. search needs) returns)

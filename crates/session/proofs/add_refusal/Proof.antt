@@ -1,6 +1,6 @@
 -- `session::add_refusal` meets its contract: the session's own questions, then 4 and 8.
 -- Assumes nothing.
-use mathlib.Core.Path.{_≡_, sym, _∙_}
+use mathlib.Core.Path.{sym, _∙_}
 use native.Mathlib.Omega.{arith}
 use borrow.Author.Needs.{needs}
 use Rattle.tables.specs.Questions.{roomQuestions, bitQuestions, bufferQuestions}
@@ -23,9 +23,15 @@ pow2-requires c κs = passes _ (sym (c .before .before .session-refusal .ensures
 returns-2 : tie.Need-returns-2
 unfolding addQuestions bufferQuestions roomQuestions bitQuestions
 returns-2 c =
-    rw (← c .before .before .before .before .pow2 .ensures)
-    (own-yes _ _ (c .before .before .before .before .before .before .before .session-refusal .ensures) (c .before .before .before .before .before .before .if1 .left)
-    (ask-then _ _ _ _ _ _ _ (c .before .before .ask .ensures) (c .before .before .before .has-room .ensures) (ask-last _ _ _ _ _ (c .ask2 .ensures) (c .before .holds-bits .ensures))))
+    let after-ask = c .before .before in
+    let after-has-room = after-ask .before in
+    let after-pow2 = after-has-room .before in
+    let after-if1 = after-pow2 .before .before in
+    let after-session-refusal = after-if1 .before in
+    rw (← after-pow2 .pow2 .ensures)
+    (own-yes _ _ (after-session-refusal .session-refusal .ensures) (after-if1 .if1 .left)
+    (ask-then _ _ _ _ _ _ _ (after-ask .ask .ensures) (after-has-room .has-room .ensures)
+    (ask-last _ _ _ _ _ (c .ask2 .ensures) (c .before .holds-bits .ensures))))
 
 pub add-refusal-spec : {M : Type 1} → statement M
 add-refusal-spec =

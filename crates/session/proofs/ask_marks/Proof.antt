@@ -19,9 +19,12 @@ abbrev μ-loop : tie.MeasureT-loop
 
 loop-again : tie.Need-loop-again Inv-loop μ-loop
 loop-again c =
-    let four : length (c .before .before .before .before .args .t3) ≡ 4 = search needs in
-    let inside : c .before .before .before .loop .i < length (c .before .before .before .before .args .t3) = omega (arith, c .before .before .loop-test .taken) in
-    (omega (arith, c .before .before .loop-test .taken), marks-more _ _ _ _ _ _ _ inside (c .before .before .before .loop .inv .1) (c .ask-mark .ensures))
+    let after-loop-test = c .before .before in
+    let after-loop = after-loop-test .before in
+    let entry = after-loop .before in
+    let four : length (entry .args .t3) ≡ 4 = search needs in
+    let inside : after-loop .loop .i < length (entry .args .t3) = omega (arith, after-loop-test .loop-test .taken) in
+    (omega (arith, after-loop-test .loop-test .taken), marks-more _ _ _ _ _ _ _ inside (after-loop .loop .inv .1) (c .ask-mark .ensures))
 
 returns : tie.Need-returns Inv-loop μ-loop
 returns c =

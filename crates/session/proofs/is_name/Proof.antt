@@ -1,8 +1,6 @@
 -- `session::is_name` meets its contract.
 -- Assumes nothing.
-use mathlib.Core.Path.{_≡_}
 use native.Mathlib.Omega.{arith}
-use borrow.Author.Needs.{needs}
 use borrow.Author.Tests.{le-leb, lt-leb}
 use Rattle.calls.specs.Questions.{isName}
 use Rattle.session.proofs.is_name.Statement.{statement}

@@ -32,18 +32,22 @@ array-borrow-prefix-out c =
 
 slice-aggregate-join-3 : tie.Need-slice-aggregate-join-3
 slice-aggregate-join-3 c =
-    let l : length (c .before .before .before .before .before .args .t2) ≡ 1024 = search needs in
-    let k : c .before .before .before .pow2 .result ≤ 1024 = pow-small _ _ (c .before .before .before .pow2 .ensures) (c .before .before .before .before .before .pre .0) in
+    let after-pow2 = c .before .before .before in
+    let entry = after-pow2 .before .before in
+    let l : length (entry .args .t2) ≡ 1024 = search needs in
+    let k : after-pow2 .pow2 .result ≤ 1024 = pow-small _ _ (after-pow2 .pow2 .ensures) (entry .pre .0) in
     sym (length-take-le _ _ (omega arith))
 
 join-requires : tie.Need-join-requires
 join-requires c κs =
-    let l : length (c .before .before .before .before .before .args .t2) ≡ 1024 = search needs in
-    let k : c .before .before .before .pow2 .result ≤ 1024 = pow-small _ _ (c .before .before .before .pow2 .ensures) (c .before .before .before .before .before .pre .0) in (
-      c .before .before .before .before .before .pre .0,
-      front-table _ _ _ (c .before .before .before .pow2 .ensures) (omega arith) (c .before .before .before .before .before .pre .2),
-      front-table _ _ _ (c .before .before .before .pow2 .ensures) (omega (arith, c .before .before .before .pow2 .ensures, c .before .before .before .before .before .pre .1)) (c .before .before .before .before .before .pre .3),
-      length-take-le _ _ (omega arith) ∙ c .before .before .before .pow2 .ensures,
+    let after-pow2 = c .before .before .before in
+    let entry = after-pow2 .before .before in
+    let l : length (entry .args .t2) ≡ 1024 = search needs in
+    let k : after-pow2 .pow2 .result ≤ 1024 = pow-small _ _ (after-pow2 .pow2 .ensures) (entry .pre .0) in (
+      entry .pre .0,
+      front-table _ _ _ (after-pow2 .pow2 .ensures) (omega arith) (entry .pre .2),
+      front-table _ _ _ (after-pow2 .pow2 .ensures) (omega (arith, after-pow2 .pow2 .ensures, entry .pre .1)) (entry .pre .3),
+      length-take-le _ _ (omega arith) ∙ after-pow2 .pow2 .ensures,
     )
 
 returns : tie.Need-returns

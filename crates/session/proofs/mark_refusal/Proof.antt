@@ -1,6 +1,5 @@
 -- `session::mark_refusal` meets its contract: the session's own questions, then 18.
 -- Assumes nothing.
-use mathlib.Core.Path.{_≡_, sym, _∙_}
 use borrow.Author.Needs.{needs}
 use Rattle.tables.proofs.FirstNo.{ask-last, first-also}
 use Rattle.calls.specs.Questions.{markQuestions}

@@ -1,7 +1,6 @@
 -- `session::new_session` meets its contract.
 -- Assumes nothing.
 use mathlib.Core.Path.{refl}
-use borrow.Author.Needs.{needs}
 use Rattle.session.specs.Session.{emptyTable, unmarked, newSession}
 use Rattle.session.proofs.new_session.Statement.{statement}
 use Rattle.session.proofs.new_session.Tie as tie

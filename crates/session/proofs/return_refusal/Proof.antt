@@ -1,9 +1,8 @@
 -- `session::return_refusal` meets its contract: what marking asks, then 19.
 -- Assumes nothing.
-use mathlib.Core.Path.{_≡_, refl, sym, _∙_}
+use mathlib.Core.Path.{sym, _∙_}
 use native.Mathlib.Omega.{arith}
 use borrow.Author.Needs.{needs}
-use Rattle.tables.specs.Inner.Asking.{also}
 use Rattle.tables.proofs.FirstNo.{also-kept}
 use Rattle.session.specs.Session.{under}
 use Rattle.session.proofs.Asked.{name-low, name-high, mark-named, return-also}

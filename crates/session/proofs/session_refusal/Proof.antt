@@ -24,9 +24,13 @@ letters c = passed (c .before .letters-fit .ensures) (c .if1 .left)
 returns-2 : tie.Need-returns-2
 unfolding sessionQuestions bitQuestions markedQuestions
 returns-2 c =
-    let powered = c .before .before .before .before .before .before in
+    let after-ask = c .before .before in
+    let after-holds-bits = after-ask .before in
+    let after-before = after-holds-bits .before .before in
+    let powered = after-before .before in
     rw (← powered .pow2 .ensures)
-    (letters-yes _ _ _ _ (letters (powered .before .before)) (ask-then _ _ _ _ _ _ _ (c .before .before .ask .ensures) (c .before .before .before .holds-bits .ensures) (c .ask-marks .ensures)))
+    (letters-yes _ _ _ _ (letters (powered .before .before))
+    (ask-then _ _ _ _ _ _ _ (after-ask .ask .ensures) (after-holds-bits .holds-bits .ensures) (c .ask-marks .ensures)))
 
 pub session-refusal-spec : {M : Type 1} → statement M
 session-refusal-spec =

@@ -1,6 +1,6 @@
 -- `session_block::add` meets its contract.
 -- Assumes nothing.
-use mathlib.Core.Path.{_≡_, ap, _∙_}
+use mathlib.Core.Path.{ap, _∙_}
 use borrow.Author.Needs.{needs}
 use Rattle.session.specs.Session.{addStep}
 use Rattle.session.specs.History.{adds}
@@ -11,13 +11,19 @@ use Rattle.session_block.proofs.add.Tie as tie
 
 keep-requires : tie.Need-keep-requires
 keep-requires c κs =
-    let small = small-after (c .before .before .session-in .result) (adds (c .before .before .before .before .before .args .h .now)) (c .before .add .ensures) (c .before .before .session-in .ensures .1) (c .before .before .session-in .ensures .2) in
+    let after-session-in = c .before .before in
+    let entry = after-session-in .before .before .before in
+    let taken = after-session-in .session-in in
+    let small = small-after (taken .result) (adds (entry .args .h .now)) (c .before .add .ensures) (taken .ensures .1) (taken .ensures .2) in
     (small .unknowns, small .givens)
 
 returns : tie.Need-returns
 returns c =
+    let after-add = c .before .before in
+    let after-session-in = after-add .before in
+    let entry = after-session-in .before .before .before in
     c .keep .ensures
-    ∙ ap (stepOn (c .before .before .before .before .before .before .args .block .now)) (c .before .before .add .ensures ∙ ap (λ s. addStep s (c .before .before .before .before .before .before .args .h .now)) (c .before .before .before .session-in .ensures .0))
+    ∙ ap (stepOn (entry .args .block .now)) (after-add .add .ensures ∙ ap (λ s. addStep s (entry .args .h .now)) (after-session-in .session-in .ensures .0))
 
 pub add-spec : {M : Type 1} → statement M
 add-spec = tie.close (tie.spec (λ c κs. search needs) (λ c κs. search needs) keep-requires returns)

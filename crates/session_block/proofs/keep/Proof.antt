@@ -1,6 +1,5 @@
 -- `session_block::keep` meets its contract.
 -- Assumes nothing.
-use mathlib.Core.Path.{_≡_}
 use borrow.Author.Needs.{needs}
 use Rattle.session_block.proofs.keep.Statement.{statement}
 use Rattle.session_block.proofs.keep.Tie as tie

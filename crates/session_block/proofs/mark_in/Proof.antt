@@ -1,6 +1,5 @@
 -- `session_block::mark_in` meets its contract.
 -- Assumes nothing.
-use mathlib.Core.Path.{_≡_}
 use borrow.Author.Needs.{needs}
 use Rattle.ring.specs.Table.{present}
 use Rattle.session_block.specs.Block.{markIn}

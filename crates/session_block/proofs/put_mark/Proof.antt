@@ -1,6 +1,5 @@
 -- `session_block::put_mark` meets its contract.
 -- Assumes nothing.
-use mathlib.Core.Path.{_≡_}
 use native.Mathlib.Omega.{arith}
 use borrow.Author.Needs.{needs}
 use lib.ListN.{length-set}
@@ -15,13 +14,25 @@ part-copy-start : tie.Need-part-copy-start
 part-copy-start c = rw (length-set, (c .before .before .before .pre)) (omega arith)
 
 copy-requires : tie.Need-copy-requires
-copy-requires c κs = name-room (c .before .before .before .flag .result) (c .before .before .before .before .before .args .bytes .now) (c .before .before .before .before .before .pre) (c .before .before .before .before .before .args .mark .table) (search needs)
+copy-requires c κs =
+    let after-flag = c .before .before .before in
+    let entry = after-flag .before .before in
+    name-room (after-flag .flag .result) (entry .args .bytes .now) (entry .pre) (entry .args .mark .table) (search needs)
 
 same-length : tie.Need-same-length
-same-length c = name-long (c .before .before .before .before .before .before .flag .result) (c .before .before .before .before .before .before .before .before .args .bytes .now) (c .before .before .before .before .before .before .before .before .pre) _ (c .before .before .before .before .before .before .before .before .args .mark .table) (search needs) (c .before .before .copy .ensures)
+same-length c =
+    let after-copy = c .before .before in
+    let after-flag = after-copy .before .before .before .before in
+    let entry = after-flag .before .before in
+    name-long (after-flag .flag .result) (entry .args .bytes .now) (entry .pre) _ (entry .args .mark .table) (search needs) (after-copy .copy .ensures)
 
 returns : tie.Need-returns
-returns c = name-put (c .before .before .before .before .before .before .flag .result) (c .before .before .before .before .before .before .before .before .args .bytes .now) (c .before .before .before .before .before .before .before .before .pre) _ _ (c .before .before .before .before .before .before .before .before .args .mark .set) (c .before .before .before .before .before .before .flag .ensures) (c .before .before .copy .ensures)
+returns c =
+    let after-copy = c .before .before in
+    let after-flag = after-copy .before .before .before .before in
+    let entry = after-flag .before .before in
+    name-put (after-flag .flag .result) (entry .args .bytes .now) (entry .pre) _ _ (entry .args .mark .set) (after-flag .flag .ensures)
+    (after-copy .copy .ensures)
 
 pub put-mark-spec : {M : Type 1} → statement M
 put-mark-spec =

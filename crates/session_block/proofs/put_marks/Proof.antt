@@ -17,15 +17,24 @@ abbrev μ-loop : tie.MeasureT-loop
 
 loop-again : tie.Need-loop-again Inv-loop μ-loop
 loop-again c =
-    let four : length (c .before .before .before .before .before .before .before .before .args .t1) ≡ 4 = search needs in
-    let inside : c .before .before .before .before .before .before .loop .i < length (c .before .before .before .before .before .before .before .before .args .t1) = omega (arith, c .before .before .before .before .before .loop-test .taken) in
-    let long : length (c .before .before .put-mark .last .1 .0) ≡ 1025 = search needs in
-    (omega (arith, c .before .before .before .before .before .loop-test .taken), names-put _ _ _ _ _ _ inside (c .before .before .before .before .before .before .loop .inv .1) (c .before .before .put-mark .ensures) long, search needs)
+    let after-put-mark = c .before .before in
+    let after-loop-test = after-put-mark .before .before .before in
+    let after-loop = after-loop-test .before in
+    let entry = after-loop .before .before in
+    let four : length (entry .args .t1) ≡ 4 = search needs in
+    let inside : after-loop .loop .i < length (entry .args .t1) = omega (arith, after-loop-test .loop-test .taken) in
+    let long : length (after-put-mark .put-mark .last .1 .0) ≡ 1025 = search needs in (
+      omega (arith, after-loop-test .loop-test .taken),
+      names-put _ _ _ _ _ _ inside (after-loop .loop .inv .1) (after-put-mark .put-mark .ensures) long,
+      search needs,
+    )
 
 returns : tie.Need-returns Inv-loop μ-loop
 returns c =
-    let four : length (c .before .before .before .args .t1) ≡ 4 = search needs in
-    names-all _ (c .before .loop .i) _ _ (omega (arith, c .loop-test .left, c .before .loop .inv .0)) (omega (arith, (c .before .before .before .pre), c .loop-test .left, c .before .loop .inv .0)) (c .before .loop .inv .1)
+    let entry = c .before .before .before in
+    let four : length (entry .args .t1) ≡ 4 = search needs in
+    let inv = c .before .loop .inv in
+    names-all _ (c .before .loop .i) _ _ (omega (arith, c .loop-test .left, inv .0)) (omega (arith, entry .pre, c .loop-test .left, inv .0)) (inv .1)
 
 pub put-marks-spec : {M : Type 1} → statement M
 put-marks-spec =

@@ -1,6 +1,6 @@
 -- `session_block::return_to` meets its contract.
 -- Assumes nothing.
-use mathlib.Core.Path.{_≡_, ap, _∙_}
+use mathlib.Core.Path.{ap, _∙_}
 use borrow.Author.Needs.{needs}
 use Rattle.session.specs.Session.{returnStep}
 use Rattle.session.specs.History as history
@@ -11,13 +11,19 @@ use Rattle.session_block.proofs.return_to.Tie as tie
 
 keep-requires : tie.Need-keep-requires
 keep-requires c κs =
-    let small = small-after (c .before .before .session-in .result) (history.returns (c .before .before .before .before .args .name)) (c .before .return-to .ensures) (c .before .before .session-in .ensures .1) (c .before .before .session-in .ensures .2) in
+    let after-session-in = c .before .before in
+    let entry = after-session-in .before .before in
+    let taken = after-session-in .session-in in
+    let small = small-after (taken .result) (history.returns (entry .args .name)) (c .before .return-to .ensures) (taken .ensures .1) (taken .ensures .2) in
     (small .unknowns, small .givens)
 
 returns : tie.Need-returns
 returns c =
+    let after-return-to = c .before .before in
+    let after-session-in = after-return-to .before in
+    let entry = after-session-in .before .before in
     c .keep .ensures
-    ∙ ap (stepOn (c .before .before .before .before .before .args .block .now)) (c .before .before .return-to .ensures ∙ ap (λ s. returnStep s (c .before .before .before .before .before .args .name)) (c .before .before .before .session-in .ensures .0))
+    ∙ ap (stepOn (entry .args .block .now)) (after-return-to .return-to .ensures ∙ ap (λ s. returnStep s (entry .args .name)) (after-session-in .session-in .ensures .0))
 
 pub return-to-spec : {M : Type 1} → statement M
 return-to-spec = tie.close (tie.spec (λ c κs. search needs) (λ c κs. search needs) keep-requires returns)

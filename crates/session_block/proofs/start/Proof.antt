@@ -1,6 +1,5 @@
 -- `session_block::start` meets its contract.
 -- Assumes nothing.
-use mathlib.Core.Path.{_≡_}
 use borrow.Author.Needs.{needs}
 use Rattle.session_block.proofs.Block.{small-start}
 use Rattle.session_block.proofs.start.Statement.{statement}

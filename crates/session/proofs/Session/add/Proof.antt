@@ -1,6 +1,6 @@
 -- `session::Session::add` meets its contract.
 -- Assumes nothing.
-use mathlib.Core.Path.{_≡_, sym, _∙_}
+use mathlib.Core.Path.{sym, _∙_}
 use native.Mathlib.Omega.{arith}
 use borrow.Author.Needs.{needs}
 use Rattle.session.specs.Session.{added}
@@ -21,7 +21,10 @@ joined-table-requires c κs =
 
 returns-2 : tie.Need-returns-2
 unfolding added
-returns-2 c = step-done _ _ (c .before .before .before .before .before .add-refusal .ensures) (c .before .before .before .before .if1 .left) (c .done .ensures ∙ rw (c .before .joined-table .ensures))
+returns-2 c =
+    let after-if1 = c .before .before .before .before in
+    let after-add-refusal = after-if1 .before in
+    step-done _ _ (after-add-refusal .add-refusal .ensures) (after-if1 .if1 .left) (c .done .ensures ∙ rw (c .before .joined-table .ensures))
 
 pub add-spec : {M : Type 1} → statement M
 add-spec =
