@@ -1,14 +1,20 @@
-//! The thirteen calls, the engine's beside plain Rust's in both forms, and two of them once more in
-//! the reverse order. All get the same lent inputs, and write over a buffer of their own again and
+//! The calls, the engine's beside plain Rust's in both forms, two of them once more in the reverse
+//! order, and the steps of a session together. All get the same lent inputs, and write over a buffer of their own again and
 //! again: none is cleared first.
 
 use crate::inputs::{counts, default_order, reverse_order, Inputs};
 use crate::timing::{compare, Compared, Effort};
 use layodegi::Answer;
-use reference::plain::{self, Bytes};
+use reference::plain::{self, Block, Bytes};
+use reference::Step;
 use reference::LONGEST_ENTRY;
-use reference::{Choice, Contents, Count, Letters, Order, Reading, Refusal, Solved, State};
+use reference::{
+    Choice, Contents, Count, Letters, Order, Reading, Refusal, Session, Solved, State,
+};
 use std::hint::black_box;
+
+/// The name that a session marks.
+const NAME: u64 = b'A' as u64;
 
 pub struct Call {
     pub name: &'static str,
@@ -17,7 +23,7 @@ pub struct Call {
     pub measure: fn(&Inputs, Effort) -> Compared,
 }
 
-pub const CALLS: [Call; 15] = [
+pub const CALLS: [Call; 16] = [
     Call { name: "read_text", note: "", measure: read_text },
     Call { name: "value", note: "", measure: value },
     Call { name: "sum", note: "", measure: sum },
@@ -33,6 +39,7 @@ pub const CALLS: [Call; 15] = [
     Call { name: "read_entry", note: "", measure: read_entry },
     Call { name: "audit", note: "", measure: audit },
     Call { name: "walk", note: "", measure: walk },
+    Call { name: "session", note: ", five steps", measure: session },
 ];
 
 /// Asserts on every input that results and lent bytes are the same, then takes the times.
@@ -320,4 +327,44 @@ fn walk(inputs: &Inputs, effort: Effort) -> Compared {
         |volume, _| plain::walk::<u64>(volume, 0),
         |engine, plain| engine.is_ok_and(|count| plain == Count::Whole(count)),
     )
+}
+
+/// A new session, a condition added, marked and returned to, and another one added.
+fn session(inputs: &Inputs, effort: Effort) -> Compared {
+    let (letters, (u, g)) = (engine_letters(inputs.letters), counts(inputs.letters));
+    let engine = |(a, b): &(Vec<u8>, Vec<u8>), out: &mut [u8]| {
+        let session = layodegi::Session::start(letters).into_result()?;
+        let session = session.add(a).into_result()?;
+        let session = session.mark(layodegi::Name::A).into_result()?;
+        let session = session.return_to(layodegi::Name::A).into_result()?;
+        let session = session.add(b).into_result()?;
+        out.copy_from_slice(session.table());
+        Ok::<(), layodegi::Refusal>(())
+    };
+    measure(
+        effort,
+        &inputs.pairs,
+        inputs.letters.table_length(),
+        engine,
+        |(a, b), out| plain_session::<Bytes>(u, g, a, b, out),
+        |(a, b), out| plain_session::<u64>(u, g, a, b, out),
+        both_done,
+    )
+}
+
+fn plain_session<B: Block>(
+    u: u64,
+    g: u64,
+    a: &[u8],
+    b: &[u8],
+    out: &mut [u8],
+) -> Result<(), Refusal> {
+    let Step { mut session, answer } = Session::start(u, g);
+    answer?;
+    plain::add_condition::<B>(&mut session, a)?;
+    plain::mark(&mut session, NAME)?;
+    plain::return_to(&mut session, NAME)?;
+    plain::add_condition::<B>(&mut session, b)?;
+    out.copy_from_slice(&session.table[..out.len()]);
+    Ok(())
 }

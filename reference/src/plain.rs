@@ -9,6 +9,7 @@ mod bytes;
 mod calls;
 mod entry;
 mod hexadecimal;
+mod session;
 mod sheet;
 mod solving;
 mod table;
@@ -22,6 +23,7 @@ pub use calls::{
     boole, lowenheim, lowenheim_handed, particular, product, read_text, substitute, sum, value,
 };
 pub use entry::{audit, read_entry, walk, write_entry};
+pub use session::{add_condition, mark, return_to};
 pub use sheet::print_sheet;
 
 /// Calls a function for the number of blocks that a table of `n` letters has.

@@ -3,7 +3,7 @@
 
 use reference::cases::sessions::{Change, Event, WRONG_NAMES};
 use reference::cases::{pairs, Random, TOO_LARGE};
-use reference::plain::transform;
+use reference::plain::{self, transform, Block, Bytes};
 use reference::*;
 use std::collections::HashSet;
 
@@ -271,4 +271,33 @@ fn other_fields_stay() {
         }
     }
     assert!(done > 5_000 && refused > 2_000, "{done} {refused}");
+}
+
+/// The steps of plain Rust, in place, answer and leave the same, in both forms.
+#[test]
+fn plain_steps_agree() {
+    assert_plain_agrees::<Bytes>('P');
+    assert_plain_agrees::<u64>('p');
+}
+
+fn assert_plain_agrees<B: Block>(seed: char) {
+    let random = &mut Random::new(seed);
+    for (u, g) in pairs(0, 10) {
+        let mut session = start(u, g);
+        for event in random.history(u, g, 60) {
+            let mut in_place = session.clone();
+            let answer = match &event {
+                Event::Add(h) => plain::add_condition::<B>(&mut in_place, h),
+                Event::Mark(name) => plain::mark(&mut in_place, *name),
+                Event::Return(name) => plain::return_to(&mut in_place, *name),
+                Event::Start(..) | Event::Change(_) => {
+                    session = event.apply(session).session;
+                    continue;
+                }
+            };
+            let step = event.apply(session);
+            assert_eq!((answer, &in_place), (step.answer, &step.session), "{event:?}");
+            session = step.session;
+        }
+    }
 }
