@@ -106,15 +106,6 @@ fn put_session(s: Session, block: &mut [u8])
     put_marks(marks, &mut block[1026..]);
 }
 
-fn block_of(s: Session) -> [u8; 5126]
-    requires { ⌜ (s .unknowns < 256) × (s .givens < 256) ⌝ }
-    ensures { λ r. ⌜ r ≡ sessionBytes s ⌝ }
-{
-    let mut block = [0u8; 5126];
-    put_session(s, &mut block);
-    block
-}
-
 // What a step answers; if it is done, the session after it goes into the block.
 fn keep(step: Step, block: &mut [u8; 5126]) -> Outcome
     requires { ⌜ (step .session .unknowns < 256) × (step .session .givens < 256) ⌝ }
@@ -123,7 +114,7 @@ fn keep(step: Step, block: &mut [u8; 5126]) -> Outcome
     let outcome = step.outcome;
     match outcome {
         Outcome::Done => {
-            *block = block_of(step.session);
+            put_session(step.session, block);
             Outcome::Done
         }
         Outcome::Refused(number) => Outcome::Refused(number),
@@ -135,7 +126,7 @@ pub fn start(u: usize, g: usize, block: &mut [u8; 5126]) -> Outcome
     ensures { λ r. ⌜ answered (outcome r) (now (block .exit) ∷ []) ≡ startBlock u g ⌝ }
 {
     let step = Session::start(u, g);
-    *block = block_of(step.session);
+    put_session(step.session, block);
     step.outcome
 }
 

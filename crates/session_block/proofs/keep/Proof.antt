@@ -5,7 +5,7 @@ use Rattle.session_block.proofs.keep.Statement.{statement}
 use Rattle.session_block.proofs.keep.Tie as tie
 
 returns : tie.Need-returns
-returns c = rw (c .before .enum-told .given .1, c .block-of .ensures)
+returns c = rw (c .before .before .enum-told .given .1, c .put-session .ensures)
 
 returns-2 : tie.Need-returns-2
 returns-2 c = rw (c .before .outcome .given .1)

@@ -5,13 +5,13 @@ use Rattle.session_block.proofs.Block.{small-start}
 use Rattle.session_block.proofs.start.Statement.{statement}
 use Rattle.session_block.proofs.start.Tie as tie
 
-block-of-requires : tie.Need-block-of-requires
-block-of-requires c κs =
-    let small = small-start _ _ (c .start .ensures) in
-    (small .unknowns, small .givens)
+put-session-requires : tie.Need-put-session-requires
+put-session-requires c κs =
+    let small = small-start _ _ (c .before .start .ensures) in
+    (small .unknowns, small .givens, search needs)
 
 returns : tie.Need-returns
-returns c = rw (c .block-of .ensures, c .before .start .ensures)
+returns c = rw (c .put-session .ensures, c .before .before .start .ensures)
 
 pub start-spec : {M : Type 1} → statement M
-start-spec = tie.close (tie.spec (λ c κs. search needs) block-of-requires returns)
+start-spec = tie.close (tie.spec (λ c κs. search needs) put-session-requires returns)
