@@ -11,3 +11,4 @@ pub mod Restrict
 pub mod Substitute
 pub mod Table
 pub mod Join
+pub mod Derivative

@@ -1,17 +1,17 @@
 -- The laws of points: `bit`, `assign` and `pointWhere`, digit by digit, lowest first. Two points with the same letters are one.
 -- Assumes nothing.
 use mathlib.Core.Path.{_≡_, refl, sym, ap, ap₂, _∙_}
-use mathlib.Core.Logic.{_≢_}
-use mathlib.Core.Bool.{Bool, true, false}
+use mathlib.Core.Logic.{_≢_, _↔_}
+use mathlib.Core.Bool.{Bool, true, false, true≢false}
 use Prim.Native.Nat.{ℕ, zero, suc, _+_, _*_, _/_, _%_, _^_, _-_, _<_, _≤_, max}
 use native.Mathlib.Nat.{div-add-mod', div-eq-of-lt, mod-lt, pow-suc, pow-succ', div-one, div-div-eq-div-mul, max-zero, mul-assoc}
 use native.Mathlib.Nat.{mul-add-div-right, add-comm}
 use native.Mathlib.Omega.{arith}
-use lib.Dec.{eqb}
+use lib.Dec.{eqb, ltb}
 use lib.Arith.{lt-one, digits-lt}
-use lib.Pow.{pow-pos, pow-add, shr-shr, shr-lt, high, split}
+use lib.Pow.{pow-pos, pow-mono, pow-add, shr-shr, shr-lt, high, split}
 use lib.Bits.{bitOr, or-step, or-zero-r}
-use borrow.Author.Tests.{eq-eqb, ne-eqb, eqb-true, eqb-false}
+use borrow.Author.Tests.{eq-eqb, ne-eqb, eqb-true, eqb-false, ltb-true, ltb-false}
 use Rattle.ring.specs.declared.State.{State}
 use Rattle.ring.specs.declared.Choice.{Choice}
 use Rattle.ring.specs.Letters.{digit, bit, point, pointWhere, assign}
@@ -229,3 +229,38 @@ parts U G p h =
 pub point-lt : (U G : ℕ) (state : State) (choice : Choice) → state .0 < 2 ^ G → choice .0 < 2 ^ U → point U state choice < 2 ^ (U + G)
 unfolding point
 point-lt U G state choice hs hc = rw (add-comm U G, pow-add 2 G U) (digits-lt hs hc)
+
+-- ---- masks
+-- a mask is below 2 ^ n exactly if its letters are
+doubled : (m : ℕ) → m < 2 ^ m
+doubled zero = omega arith
+doubled (suc m) = omega (arith, pow-suc 2 m, doubled m)
+
+pub mask-letters : (n m : ℕ) → (m < 2 ^ n) ↔ ((j : ℕ) → bit m j ≡ true → j < n)
+mask-letters n m = (λ h j e. below h j e (ltb j n) refl, bounded)
+  where
+    below : m < 2 ^ n → (j : ℕ) → bit m j ≡ true → (b : Bool) → ltb j n ≡ b → j < n
+    below h j e true l = ltb-true j n l
+    below h j e false l =
+        let a : n ≤ j = ltb-false j n l in
+        let w : 2 ^ n ≤ 2 ^ j = pow-mono a in
+        absurd (true≢false (sym e ∙ bit-none m j (omega arith)))
+
+    bounded : ((j : ℕ) → bit m j ≡ true → j < n) → m < 2 ^ n
+    bounded all =
+        let low-lt : m % 2 ^ n < 2 ^ n = mod-lt m (pow-pos n) in
+        let a : m ≤ n + m = omega arith in
+        let b : n ≤ n + m = omega arith in
+        let wide : 2 ^ m ≤ 2 ^ (n + m) = pow-mono a in
+        let wide′ : 2 ^ n ≤ 2 ^ (n + m) = pow-mono b in
+        let e : m ≡ m % 2 ^ n =
+        same-letters (n + m) m (m % 2 ^ n) (omega (arith, doubled m)) (omega arith) (λ i _. letter i low-lt (ltb i n) (bit m i) refl refl) in
+        omega arith
+      where
+        letter : (i : ℕ) → m % 2 ^ n < 2 ^ n → (l b : Bool) → ltb i n ≡ l → bit m i ≡ b → bit m i ≡ bit (m % 2 ^ n) i
+        letter i h true b el eb = ap (λ (x : ℕ). bit x i) (sym (split m n)) ∙ bit-low (m / 2 ^ n) (m % 2 ^ n) n i (ltb-true i n el)
+        letter i h false true el eb = absurd (omega (arith, all i eb, ltb-false i n el))
+        letter i h false false el eb =
+            let a : n ≤ i = ltb-false i n el in
+            let w : 2 ^ n ≤ 2 ^ i = pow-mono a in
+            eb ∙ sym (bit-none (m % 2 ^ n) i (omega arith))

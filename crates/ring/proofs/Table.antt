@@ -2,6 +2,7 @@
 -- Assumes nothing.
 use mathlib.Core.Path.{_≡_, refl, sym, ap, ap₂, _∙_}
 use mathlib.Core.Bool.{Bool, true, false}
+use mathlib.Core.Logic.{_↔_}
 use mathlib.Core.List.{List, [], _∷_, _++_}
 use Prim.Native.Nat.{ℕ, zero, suc, _+_, _*_, _/_, _%_, _^_, _<_}
 use native.Mathlib.Nat.{suc-mul, zero-mul}
@@ -9,12 +10,12 @@ use native.Mathlib.Omega.{arith}
 use lib.Dec.{eqb}
 use lib.Arith.{digits-lt}
 use lib.Pow.{high, low}
-use lib.ListN.{length, getD, take}
+use lib.ListN.{length, getD, take, replicate}
 use lib.Seq.{ext-getD, getD-take}
 use borrow.Author.Tests.{eqb-true, eqb-false}
 use Rattle.ring.specs.Letters.{digit}
 use Rattle.ring.specs.Polynomial.{Polynomial, value}
-use Rattle.ring.specs.Table.{present, AreBits, IsTable, tabulate, table, values, held, answerTable}
+use Rattle.ring.specs.Table.{present, IsTable, tabulate, table, values, held, answerTable}
 use Rattle.ring.proofs.Lists.{tabulate-listed, listed-add}
 use Rattle.ring.proofs.Value.{value-cong, involution, same-values}
 use Rattle.ring.proofs.Bool.{digit-lt, bit-digit}
@@ -42,6 +43,12 @@ tabulate-cong zero g h e = refl
 tabulate-cong (suc k) g h e =
     ap₂ (λ (b : Bool) (l : List ℕ). digit b ∷ l) (e 0 (omega arith))
     (tabulate-cong k (λ i. g (suc i)) (λ i. h (suc i)) (λ i l. e (suc i) (omega arith)))
+
+-- no monomial: each byte is 0
+pub zero-bytes : (k : ℕ) → tabulate k (λ m. false) ≡ replicate k 0
+unfolding tabulate
+zero-bytes zero = refl
+zero-bytes (suc k) = ap (λ (t : List ℕ). 0 ∷ t) (zero-bytes k)
 
 tabulate-add : (j k : ℕ) (h : ℕ → Bool) → tabulate (j + k) h ≡ tabulate j h ++ tabulate k (λ i. h (j + i))
 tabulate-add j k h =
@@ -108,6 +115,14 @@ held-take n count t j m hj hm = present-take (count * 2 ^ n) t (j * 2 ^ n + m) (
 pub present-table : (n : ℕ) (f : Polynomial) (m : ℕ) → m < 2 ^ n → present (table n f) m ≡ f m
 unfolding table
 present-table n f m l = present-tabulate (2 ^ n) f m l
+
+-- the empty table has no monomial
+pub empty-exactly : (n : ℕ) (f : Polynomial) → (table n f ≡ replicate (2 ^ n) 0) ↔ ((m : ℕ) → m < 2 ^ n → f m ≡ false)
+unfolding table
+empty-exactly n f = (
+  λ e m l. sym (present-table n f m l) ∙ ap (λ (t : List ℕ). present t m) (e ∙ sym (zero-bytes (2 ^ n))) ∙ present-table n (λ m. false) m l,
+  λ z. table-cong n f (λ m. false) z ∙ zero-bytes (2 ^ n),
+)
 
 pub length-table : (n : ℕ) (f : Polynomial) → length (table n f) ≡ 2 ^ n
 unfolding table

@@ -10,10 +10,10 @@ use lib.ListN.{length, drop, replicate, length-append, length-replicate, List·g
 use lib.Seq.{take-at, drop-at}
 use borrow.Author.Tests.{eqb-true}
 use Rattle.ring.specs.Polynomial.{Polynomial, constant}
-use Rattle.ring.specs.Table.{present, tabulate, table}
+use Rattle.ring.specs.Table.{present, table}
 use Rattle.ring.specs.Join.{join, joined, Member, here, behind}
 use Rattle.ring.proofs.Bool.{and-left, and-right, never}
-use Rattle.ring.proofs.Table.{bits-tabulate, table-cong, present-table, length-table}
+use Rattle.ring.proofs.Table.{bits-tabulate, zero-bytes, table-cong, present-table, length-table}
 use Rattle.ring.proofs.Join.{join-cong}
 use Rattle.tables.specs.Questions.{firstNo, reads, holdsBits, bitQuestions}
 use Rattle.tables.proofs.Bits.{bits-are}
@@ -65,12 +65,6 @@ pub mark-long : (n : ℕ) (what : Stored) → 2 ^ n ≤ 1024 → length (markOf 
 unfolding markOf unmarked emptyTable
 mark-long n nothing h = refl
 mark-long n (stored list) h = list-long n list h
-
--- a table with no monomial
-zero-bytes : (k : ℕ) → tabulate k (λ m. false) ≡ replicate k 0
-unfolding tabulate
-zero-bytes zero = refl
-zero-bytes (suc k) = ap (λ (t : List ℕ). 0 ∷ t) (zero-bytes k)
 
 -- 'the empty table' is that of no conditions
 pub empty-list : (n : ℕ) → 2 ^ n ≤ 1024 → emptyTable ≡ listTable n []

@@ -1,0 +1,18 @@
+-- Contacts flipped together (document 02, C-13): the vectorial derivative by a set S of letters. S is a mask, its bits as in a monomial.
+-- Assumes nothing.
+use mathlib.Core.Bool.{true, cond}
+use Prim.Native.Nat.{ℕ}
+use Rattle.ring.specs.Letters.{bit, pointWhere}
+use Rattle.ring.specs.Polynomial.{Polynomial, _⊕_, constant, letter, sum, substitute}
+
+-- 'every letter of a set S inverted': what is put for letter j, 1 + j if it is in S, and else its own letter
+unfoldable pub inverted : ℕ → ℕ → Polynomial
+inverted S j = cond (bit S j) (sum (constant true) (letter j)) (letter j)
+
+-- 'f plus f with every letter of a set S inverted', in n letters, all at once
+unfoldable pub derivative : ℕ → ℕ → Polynomial → Polynomial
+derivative n S f = sum f (substitute n n f (inverted S))
+
+-- the point p of n letters with the letters of S flipped, 'such flip' (source document 000: x + 1 for the letters of S)
+unfoldable pub flipped : ℕ → ℕ → ℕ → ℕ
+flipped n S p = pointWhere n (λ j. bit p j ⊕ bit S j)
