@@ -9,6 +9,7 @@ ghost use lib.ListN.{length, getD};
 ghost use Rattle.ring.specs.Lists.{listed};
 ghost use Rattle.ring.specs.Letters.{digit, bit, assign};
 ghost use Rattle.ring.specs.Polynomial.{_⊕_, count, value};
+ghost use Rattle.ring.specs.Derivative.{flipped};
 ghost use Rattle.ring.specs.Table.{AreBits, IsTable, present, tabulate, table};
 ghost use Rattle.words.specs.Inner.Words.{wordOf, wordsOf, bitAt, First, lowLetters, stepped, steppedBelow, xorRun, turned, crossed};
 ghost use Rattle.words.specs.Inner.Words.{eightOf};
@@ -412,27 +413,26 @@ pub fn add_letter(d: &mut [u64], x: usize)
     }
 }
 
-// f with a letter below six turned over: the two halves of each pair of blocks change places.
-fn turn_low(f: &[u64], x: usize, out: &mut [u64])
-    requires { ⌜ (x < 6) × (length (now f) ≡ length (now out)) ⌝ }
-    ensures { λ _. ⌜ now (out .exit) ≡ wordsOf (length (now (out .entry))) (λ p. bitAt (now (f .entry)) (turned x p)) ⌝ }
+// A letter below six turned over, in place: the two halves of each pair of blocks change places.
+fn turn_low(words: &mut [u64], x: usize)
+    requires { ⌜ x < 6 ⌝ }
+    ensures { λ _. ⌜ now (words .exit) ≡ wordsOf (length (now (words .entry))) (λ p. bitAt (now (words .entry)) (turned x p)) ⌝ }
 {
     let mask = low_letter(x);
     let width = tables::pow2(x);
-    for i in 0..out.len() {
-        let word = f[i];
-        out[i] = ((word & mask) >> width) | ((word << width) & mask);
+    for i in 0..words.len() {
+        let word = words[i];
+        words[i] = ((word & mask) >> width) | ((word << width) & mask);
     }
 }
 
-// f with letter 6 + j of 6 + c turned over: whole words change places.
-fn turn_high(f: &[u64], j: usize, c: usize, out: &mut [u64])
-    requires { ⌜ (j < c) × (c ≤ 4) × (length (now f) ≡ 2 ^ c) × (length (now out) ≡ 2 ^ c) ⌝ }
-    ensures { λ _. ⌜ now (out .exit) ≡ wordsOf (2 ^ c) (λ p. bitAt (now (f .entry)) (turned (6 + j) p)) ⌝ }
+// f with the letters of a mask flipped, of which `high` has those beyond six: whole words change places.
+fn flip_high(f: &[u64], high: usize, c: usize, out: &mut [u64])
+    requires { ⌜ (high < 2 ^ c) × (length (now f) ≡ 2 ^ c) × (length (now out) ≡ 2 ^ c) ⌝ }
+    ensures { λ _. ⌜ now (out .exit) ≡ wordsOf (2 ^ c) (λ p. bitAt (now (f .entry)) (flipped (6 + c) (high * 64) p)) ⌝ }
 {
-    let width = tables::pow2(j);
     for i in 0..out.len() {
-        out[i] = f[i ^ width];
+        out[i] = f[i ^ high];
     }
 }
 
@@ -442,9 +442,23 @@ pub fn turn(f: &[u64], x: usize, c: usize, out: &mut [u64])
     ensures { λ _. ⌜ now (out .exit) ≡ wordsOf (2 ^ c) (λ p. bitAt (now (f .entry)) (turned x p)) ⌝ }
 {
     if x < 6 {
-        turn_low(f, x, out);
+        copy(out, f);
+        turn_low(out, x);
     } else {
-        turn_high(f, x - 6, c, out);
+        flip_high(f, tables::pow2(x - 6), c, out);
+    }
+}
+
+// f with the letters of the mask s flipped, all at once: those beyond six by words, the others within each word.
+pub fn flip(f: &[u64], s: usize, c: usize, out: &mut [u64])
+    requires { ⌜ (s < 2 ^ (6 + c)) × (length (now f) ≡ 2 ^ c) × (length (now out) ≡ 2 ^ c) ⌝ }
+    ensures { λ _. ⌜ now (out .exit) ≡ wordsOf (2 ^ c) (λ p. bitAt (now (f .entry)) (flipped (6 + c) s p)) ⌝ }
+{
+    flip_high(f, s >> 6, c, out);
+    for x in 0..6 {
+        if (s >> x) % 2 == 1 {
+            turn_low(out, x);
+        }
     }
 }
 

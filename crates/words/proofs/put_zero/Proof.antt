@@ -1,16 +1,16 @@
 -- `words::put_zero` meets its contract. Assumes nothing.
 use mathlib.Core.Path.{_≡_, refl}
 use mathlib.Core.Bool.{false}
-use Prim.Native.Nat.{ℕ, _≤_, _-_, _<_, _^_}
+use Prim.Native.Nat.{_≤_, _-_, _<_, _^_}
 use native.Mathlib.Omega.{arith}
 use borrow.Author.Needs.{needs}
 use lib.ListN.{length, getD}
-use lib.Pow.{pow-mono}
 use Rattle.ring.specs.Letters.{assign}
 use Rattle.tables.proofs.Filled.{filled-start, filled-read}
 use Rattle.words.specs.Inner.Words.{bitAt}
 use Rattle.words.proofs.Holds.{wordsTo, words-more}
 use Rattle.words.proofs.Turned.{zero-holds}
+use Rattle.words.proofs.Bits.{width-small}
 use Rattle.words.proofs.Words.{words-end}
 use Rattle.words.proofs.put_zero.Statement.{statement}
 use Rattle.words.proofs.put_zero.Tie as tie
@@ -21,12 +21,6 @@ Inv-loop words₀ x mask width i₀ i-end words i =
 
 abbrev μ-loop : tie.MeasureT-loop
 μ-loop words₀ x mask width i₀ i-end words i = length words₀ - i
-
-width-small : (x s : ℕ) → x < 6 → s ≡ 2 ^ x → s < 64
-width-small x s h e =
-    let l : x ≤ 5 = omega arith in
-    let b : 2 ^ x ≤ 2 ^ 5 = pow-mono l in
-    omega arith
 
 shl-words : tie.Need-shl-words Inv-loop μ-loop
 shl-words c =

@@ -1,22 +1,30 @@
 -- `words::turn` meets its contract. Assumes nothing.
-use mathlib.Core.Path.{_≡_}
-use Prim.Native.Nat.{_+_, _-_}
-use native.Mathlib.Omega.{arith}
 use borrow.Author.Needs.{needs}
-use Rattle.words.proofs.Holds.{words-sized}
-use Rattle.words.proofs.Turned.{turned-as}
+use Rattle.words.proofs.Turned.{turned-copied}
+use Rattle.words.proofs.Flipped.{high-small, turned-high}
 use Rattle.words.proofs.turn.Statement.{statement}
 use Rattle.words.proofs.turn.Tie as tie
 
+flip-high-requires : tie.Need-flip-high-requires
+flip-high-requires c κs =
+    let decided = c .before .before in
+    let entry = decided .before .before .before in
+    (high-small _ _ _ (decided .if1 .left) (entry .pre .0) (c .before .pow2 .ensures), entry .pre .2, entry .pre .3)
+
 returns : tie.Need-returns
 returns c =
-    words-sized _ _ _ _ (c .before .before .turn-low .ensures) (c .before .before .before .before .before .before .before .pre .3)
+    let after-turn-low = c .before .before in
+    let after-copy = after-turn-low .before .before .before .before in
+    let entry = after-copy .before .before .before .before .before in
+    turned-copied _ _ _ _ _ (after-copy .copy .ensures) (entry .pre .2) (after-turn-low .turn-low .ensures)
 
 returns-2 : tie.Need-returns-2
 returns-2 c =
-    let e : 6 + (c .before .before .before .before .before .before .before .args .x - 6)
-    ≡ c .before .before .before .before .before .before .before .args .x = omega arith in
-    turned-as _ _ _ (c .before .before .before .before .before .before .before .args .f .now) _ (c .before .before .turn-high .ensures) e
+    let after-flip-high = c .before .before in
+    let after-pow2 = after-flip-high .before .before in
+    let decided = after-pow2 .before in
+    let entry = decided .before .before .before in
+    turned-high _ _ _ (entry .args .f .now) _ (decided .if1 .left) (entry .pre .0) (after-pow2 .pow2 .ensures) (after-flip-high .flip-high .ensures)
 
 pub turn-spec : {M : Type 1} → statement M
 turn-spec =
@@ -24,6 +32,8 @@ turn-spec =
     (tie.spec
     (λ c κs. search needs)
     (λ c κs. search needs)
+    (λ c κs. search needs)
+    flip-high-requires
     (λ c. search needs)
     returns
     (λ c. search needs)
