@@ -9,7 +9,7 @@ use Rattle.ring.specs.Letters.{bit, point}
 use Rattle.ring.specs.Polynomial.{count, odd, within, value, constant, letter, sum, product, restrict, monomial, substitute, everyBelow}
 use Rattle.ring.specs.Table.{present, tabulate, table, answerTable}
 use Rattle.ring.specs.Lists.{listed, has, times}
-use Rattle.tables.specs.Questions.{firstNo, lettersFit, hasRoom, areBits, holdsBits, roomQuestions, bitQuestions, bufferQuestions}
+use Rattle.tables.specs.Questions.{firstNo, lettersFit, hasRoom, areBits, holdsBits, roomQuestions, bitQuestions, bufferQuestions, inRange}
 use Rattle.tables.specs.Answered.{Reply, accepted, refused}
 use Rattle.order.specs.Order.{letters, before}
 use Rattle.solution.specs.Condition.{defaultOrder}
@@ -22,7 +22,7 @@ use Rattle.entry.specs.Held.{next, untilEnd, firstRecords, records, hasMonomial
 use Rattle.entry.specs.Held.{orderIn, heldVerdict}
 use Rattle.entry.specs.Questions.{routeFits, hasEnd, mayFollow, kindsFollow, kindsFit, allInBounds, standsBefore, inOrder, allInOrder}
 use Rattle.entry.specs.Questions.{numbersFit, answersHold}
-use Rattle.calls.specs.Questions.{sessionQuestions, addQuestions, isName, markQuestions, returnQuestions}
+use Rattle.calls.specs.Questions.{valueQuestions, sessionQuestions, addQuestions, isName, markQuestions, returnQuestions, maskDeclared, derivativeQuestions}
 use Rattle.calls.specs.Questions.{solvingQuestions, writeQuestions, entryQuestions, auditQuestions, routeRises, walkQuestions}
 use Rattle.calls.specs.Walk.{walkAtMost, walkBehind, walkReply}
 
@@ -125,3 +125,20 @@ pub session-asked : (firstNo (addQuestions 7 0 ((2 ∷ 0 ∷ []) ∷ []) []) ≡
 unfolding firstNo addQuestions markQuestions returnQuestions sessionQuestions isName lettersFit bufferQuestions roomQuestions bitQuestions
     hasRoom holdsBits areBits
 session-asked = (refl, refl, refl, refl, refl, refl)
+
+-- the derivative over one unknown: 1 before 4, which goes to both buffers before 8 goes to the table, and 20 last; mask 2 is no letter's
+pub derivative-asked : (firstNo (derivativeQuestions 7 0 [] 0 0) ≡ 1)
+    × (firstNo (derivativeQuestions 1 0 (2 ∷ []) 2 2) ≡ 4)
+    × (firstNo (derivativeQuestions 1 0 (2 ∷ 0 ∷ []) 2 1) ≡ 4)
+    × (firstNo (derivativeQuestions 1 0 (2 ∷ 0 ∷ []) 2 2) ≡ 8)
+    × (firstNo (derivativeQuestions 1 0 (1 ∷ 0 ∷ []) 2 2) ≡ 20)
+    × (firstNo (derivativeQuestions 1 0 (1 ∷ 0 ∷ []) 1 2) ≡ 0)
+unfolding firstNo derivativeQuestions maskDeclared lettersFit bufferQuestions roomQuestions bitQuestions hasRoom holdsBits areBits
+derivative-asked = (refl, refl, refl, refl, refl, refl)
+
+-- the value over one unknown: 16 last
+pub value-asked : (firstNo (valueQuestions 1 0 (2 ∷ []) (record { 0 = 0 }) (record { 0 = 2 })) ≡ 4)
+    × (firstNo (valueQuestions 1 0 (2 ∷ 0 ∷ []) (record { 0 = 0 }) (record { 0 = 2 })) ≡ 8)
+    × (firstNo (valueQuestions 1 0 (1 ∷ 0 ∷ []) (record { 0 = 0 }) (record { 0 = 2 })) ≡ 16)
+unfolding firstNo valueQuestions inRange lettersFit bufferQuestions roomQuestions bitQuestions hasRoom holdsBits areBits
+value-asked = (refl, refl, refl)

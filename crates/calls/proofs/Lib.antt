@@ -1,5 +1,6 @@
 pub mod Buffers
 pub mod Injective
+pub mod Derivative
 pub mod Questions
 pub mod Text
 pub mod Entries

@@ -7,13 +7,14 @@ use Rattle.ring.specs.declared.State.{State}
 use Rattle.ring.specs.declared.Choice.{Choice}
 use Rattle.ring.specs.Letters.{digit, point}
 use Rattle.ring.specs.Polynomial.{value, sum, product, substitute}
+use Rattle.ring.specs.Derivative.{derivative}
 use Rattle.ring.specs.Table.{present, table, held, forUnknowns}
 use Rattle.tables.specs.Answered.{Reply, accepted, refused, Answered, call, _into_}
 use Rattle.calls.specs.declared.Outcome.{Outcome}
 use Rattle.calls.specs.declared.Outcome.the-variants as outcome-variants
 use Rattle.calls.specs.declared.Valued.{Valued}
 use Rattle.calls.specs.declared.Valued.the-variants.{Value, Refused}
-use Rattle.calls.specs.Questions.{valueQuestions, pairQuestions, substituteQuestions}
+use Rattle.calls.specs.Questions.{valueQuestions, pairQuestions, substituteQuestions, derivativeQuestions}
 
 -- this paper's number and values for each case of `Outcome`
 abbrev pub outcome : Outcome → Reply
@@ -53,3 +54,10 @@ substituteTable U G condition handed =
 abbrev pub substituteCall : ℕ → ℕ → List ℕ → List ℕ → List ℕ → Answered Reply
 substituteCall U G condition handed out =
     call (substituteQuestions U G condition handed (length out)) [] (substituteTable U G condition handed into out ∷ [])
+
+-- the table of the derivative by S, 'for any lent table and S, a mask' (document 02, C-13)
+unfoldable pub derivativeTable : ℕ → ℕ → List ℕ → ℕ → List ℕ
+derivativeTable U G t S = table (U + G) (derivative (U + G) S (present t))
+
+abbrev pub derivativeCall : ℕ → ℕ → List ℕ → ℕ → List ℕ → Answered Reply
+derivativeCall U G t S out = call (derivativeQuestions U G t S (length out)) [] (derivativeTable U G t S into out ∷ [])

@@ -1,4 +1,4 @@
--- The questions that each call puts, in their order (document 01, 'The questions, and the number if the answer is no'; document 02, C-11 and C-12):
+-- The questions that each call puts, in their order (document 01, 'The questions, and the number if the answer is no'; document 02, C-11 to C-13):
 -- 'The first no counts'. U unknowns and G givens, n = U + G; a table has 2 ^ n bytes, an answer or handed buffer U of them. A buffer that
 -- is only written comes as its number of bytes.
 -- Assumes nothing.
@@ -10,7 +10,7 @@ use lib.ListN.{length}
 use Rattle.ring.specs.declared.State.{State}
 use Rattle.ring.specs.declared.Choice.{Choice}
 use Rattle.tables.specs.declared.Question.the-variants.{Letters, Route, TextLength, Signs, Declared, Grammar, Solution, Records, Kinds}
-use Rattle.tables.specs.declared.Question.the-variants.{Numbers, Afresh, Output, Rising, Range, Order, Name, Marked}
+use Rattle.tables.specs.declared.Question.the-variants.{Numbers, Afresh, Output, Rising, Range, Order, Name, Marked, Mask}
 use Rattle.tables.specs.Questions.{Asked, asks, asksGiving, lettersFit, reads, writes, bitQuestions, bufferQuestions, inRange}
 use Rattle.grammar.specs.Symbols.{allSigns, allDeclared}
 use Rattle.grammar.specs.Reader.{grammarReads}
@@ -40,6 +40,17 @@ unfoldable pub substituteQuestions : ℕ → ℕ → List ℕ → List ℕ → �
 substituteQuestions U G condition handed room =
     asks Letters (lettersFit U G)
     ∷ bufferQuestions (reads (2 ^ (U + G)) condition ∷ reads (U * 2 ^ (U + G)) handed ∷ writes (2 ^ (U + G)) room ∷ [])
+
+-- 20: 'has S only declared letters', bits as in a monomial
+unfoldable pub maskDeclared : ℕ → ℕ → ℕ → Bool
+maskDeclared U G S = ltb S (2 ^ (U + G))
+
+-- the derivative by S, 'a call .. gives one table, it goes to a further condition buffer': 1, 4, 8, and '20 .. after 8'
+unfoldable pub derivativeQuestions : ℕ → ℕ → List ℕ → ℕ → ℕ → List Asked
+derivativeQuestions U G t S room =
+    asks Letters (lettersFit U G)
+    ∷ (bufferQuestions (reads (2 ^ (U + G)) t ∷ writes (2 ^ (U + G)) room ∷ [])
+    ++ (asks Mask (maskDeclared U G S) ∷ []))
 
 -- 3: 'Has the text 1 to 200 bytes?'
 unfoldable pub hasTextLength : List ℕ → Bool

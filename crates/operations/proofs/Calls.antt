@@ -13,18 +13,20 @@ use Rattle.ring.specs.declared.State.{State}
 use Rattle.ring.specs.declared.Choice.{Choice}
 use Rattle.ring.specs.Letters.{digit, point}
 use Rattle.ring.specs.Polynomial.{_⊕_, value, sum, product, substitute}
+use Rattle.ring.specs.Derivative.{derivative}
 use Rattle.ring.specs.Table.{present, table, held, forUnknowns}
 use Rattle.ring.proofs.Points.{point-lt}
 use Rattle.ring.proofs.Value.{value-cong, product-cong}
 use Rattle.ring.proofs.Substitute.{substitute-cong, forUnknowns-cong}
+use Rattle.ring.proofs.Derivative.{derivative-cong}
 use Rattle.ring.proofs.Table.{table-cong, present-take, held-take, length-table}
 use Rattle.ring.proofs.Bool.{and-left, and-right}
-use Rattle.tables.specs.declared.Question.the-variants.{Range}
+use Rattle.tables.specs.declared.Question.the-variants.{Range, Mask}
 use Rattle.tables.specs.Questions.{asks, firstNo, reads, writes, roomQuestions, bitQuestions, bufferQuestions, inRange}
 use Rattle.tables.proofs.FirstNo.{yes-to}
 use Rattle.tables.proofs.Answered.{givesNothing}
-use Rattle.calls.specs.Questions.{valueQuestions, pairQuestions, substituteQuestions}
-use Rattle.calls.specs.Operations.{valueAt, sumTable, productTable, substituteTable}
+use Rattle.calls.specs.Questions.{valueQuestions, pairQuestions, substituteQuestions, maskDeclared, derivativeQuestions}
+use Rattle.calls.specs.Operations.{valueAt, sumTable, productTable, substituteTable, derivativeTable}
 use Rattle.calls.proofs.Buffers.{Readable, TablesYes, tables-yes}
 
 module _ (u g k : ℕ) (a b : List ℕ) (e : k ≡ 2 ^ (u + g)) where
@@ -58,6 +60,15 @@ module _ (u g k : ℕ) (a b : List ℕ) (e : k ≡ 2 ^ (u + g)) where
   pub length-substitute : k ≡ length (substituteTable u g a b)
   unfolding substituteTable
   length-substitute = e ∙ sym (length-table (u + g) _)
+
+pub derivative-whole : (u g k s : ℕ) (t : List ℕ) → k ≡ 2 ^ (u + g)
+    → table (u + g) (derivative (u + g) s (present (take k t))) ≡ derivativeTable u g t s
+unfolding derivativeTable
+derivative-whole u g k s t e = rw e (table-cong (u + g) _ _ (derivative-cong (u + g) s _ _ (present-take (2 ^ (u + g)) t)))
+
+pub length-derivative : (u g k s : ℕ) (t : List ℕ) → k ≡ 2 ^ (u + g) → k ≡ length (derivativeTable u g t s)
+unfolding derivativeTable
+length-derivative u g k s t e = e ∙ sym (length-table (u + g) _)
 
 -- what no refusal of the value tells
 pub record Askable (u g : ℕ) (t : List ℕ) (state : State) (choice : Choice) : Type 0 where
@@ -105,6 +116,24 @@ substitute-yes u g condition handed size z =
     buffers-yes u g (u * 2 ^ (u + g)) condition handed size
     (tables-yes u g (reads (2 ^ (u + g)) condition ∷ reads (u * 2 ^ (u + g)) handed ∷ writes (2 ^ (u + g)) size ∷ []) [] z)
 
+-- what no refusal of the derivative tells
+pub record Derivable (u g : ℕ) (t : List ℕ) (s size : ℕ) : Type 0 where
+  pub small : u + g ≤ 10
+  pub lent : Readable (2 ^ (u + g)) t
+  pub room : 2 ^ (u + g) ≤ size
+  pub declared : s < 2 ^ (u + g)
+
+pub derivable : (u g : ℕ) (t : List ℕ) (s size : ℕ) → firstNo (derivativeQuestions u g t s size) ≡ 0 → Derivable u g t s size
+unfolding derivativeQuestions maskDeclared
+derivable u g t s size z =
+    let yes-all = tables-yes u g (reads (2 ^ (u + g)) t ∷ writes (2 ^ (u + g)) size ∷ []) (asks Mask (maskDeclared u g s) ∷ []) z in
+    record {
+      small = yes-all .small;
+      lent = yes-all .lent-well .0;
+      room = yes-all .lent-well .1 .0;
+      declared = ltb-true _ _ (yes-to Mask (maskDeclared u g s) [] [] (yes-all .further) .0);
+    }
+
 -- the no to each question of these calls gives its number alone
 pub value-plain : (u g : ℕ) (t : List ℕ) (state : State) (choice : Choice) → givesNothing (valueQuestions u g t state choice) ≡ true
 unfolding valueQuestions bufferQuestions roomQuestions bitQuestions
@@ -118,6 +147,10 @@ pub substitute-plain : (u g : ℕ) (condition handed : List ℕ) (size : ℕ)
     → givesNothing (substituteQuestions u g condition handed size) ≡ true
 unfolding substituteQuestions bufferQuestions roomQuestions bitQuestions
 substitute-plain u g condition handed size = refl
+
+pub derivative-plain : (u g : ℕ) (t : List ℕ) (s size : ℕ) → givesNothing (derivativeQuestions u g t s size) ≡ true
+unfolding derivativeQuestions bufferQuestions roomQuestions bitQuestions
+derivative-plain u g t s size = refl
 
 -- the value of the part that counts is the value of the whole, at the point that the code forms
 pub value-whole : (u g k l p : ℕ) (t : List ℕ) (state : State) (choice : Choice) → k ≡ 2 ^ (u + g) → l ≡ 2 ^ u

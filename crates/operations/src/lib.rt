@@ -1,5 +1,5 @@
-// The calls on tables: the value of a table, the sum and the product of two, and handed polynomials put into a condition.
-// Public calls, none with a `requires`: `value`, `sum`, `product`, `substitute`. The other functions are theirs alone.
+// The calls on tables: the value of a table, the sum and the product of two, handed polynomials put into a condition, and the derivative.
+// Public calls, none with a `requires`: `value`, `sum`, `product`, `substitute`, `derivative`. The other functions are theirs alone.
 // They ask the questions and lend the tables that have passed them; the work is `polynomials`'. Their contracts cite the polynomials' own
 // definitions.
 use calls::Outcome;
@@ -18,8 +18,8 @@ ghost use Rattle.ring.specs.Polynomial.{odd, value, within};
 ghost use Rattle.ring.specs.Table.{present};
 ghost use Rattle.tables.specs.Questions.{firstNo, inRange};
 ghost use Rattle.tables.specs.Answered.{answered};
-ghost use Rattle.calls.specs.Questions.{valueQuestions, pairQuestions, substituteQuestions};
-ghost use Rattle.calls.specs.Operations.{outcome, valued, valueCall, sumCall, productCall, substituteCall};
+ghost use Rattle.calls.specs.Questions.{valueQuestions, pairQuestions, substituteQuestions, derivativeQuestions};
+ghost use Rattle.calls.specs.Operations.{outcome, valued, valueCall, sumCall, productCall, substituteCall, derivativeCall};
 
 // Monomial m is present, by its byte, and its letters are all 1 at the point p.
 fn counts(byte: u8, m: u8, p: u8) -> bool
@@ -128,6 +128,20 @@ fn substitute_refusal(u: usize, g: usize, condition: &[u8], handed: &[u8], room:
     tables::ask(q, Question::Bits, tables::holds_bits(all, handed))
 }
 
+// The first no of the derivative by the letters of the mask s, or 0.
+fn derivative_refusal(u: usize, g: usize, t: &[u8], s: usize, room: usize) -> u8
+    ensures { λ r. ⌜ r ≡ firstNo (derivativeQuestions u g (now (t .entry)) s room) ⌝ }
+{
+    if !tables::letters_fit(u, g) {
+        return tables::number(Question::Letters);
+    }
+    let k = tables::pow2(u + g);
+    let q = tables::ask(0, Question::Room, tables::has_room(k, t.len()));
+    let q = tables::ask(q, Question::Room, tables::has_room(k, room));
+    let q = tables::ask(q, Question::Bits, tables::holds_bits(k, t));
+    tables::ask(q, Question::Mask, s < k)
+}
+
 // The value of a table at a state and a choice.
 pub fn value(u: usize, g: usize, t: &[u8], state: State, choice: Choice) -> Valued
     ensures { λ r. ⌜ answered (valued r) [] ≡ valueCall u g (now (t .entry)) state choice ⌝ }
@@ -180,5 +194,18 @@ pub fn substitute(u: usize, g: usize, condition: &[u8], handed: &[u8], out: &mut
     let k = tables::pow2(u + g);
     let all = u * k;
     polynomials::substitute(u, g, &condition[..k], &handed[..all], &mut out[..k]);
+    Outcome::Done
+}
+
+// The derivative of a table by the letters of the mask s: the table plus the table with these letters inverted, all at once.
+pub fn derivative(u: usize, g: usize, t: &[u8], s: usize, out: &mut [u8]) -> Outcome
+    ensures { λ r. ⌜ answered (outcome r) (now (out .exit) ∷ []) ≡ derivativeCall u g (now (t .entry)) s (now (out .entry)) ⌝ }
+{
+    let q = derivative_refusal(u, g, t, s, out.len());
+    if q != 0 {
+        return Outcome::Refused(q);
+    }
+    let k = tables::pow2(u + g);
+    polynomials::derive(u + g, &t[..k], s, &mut out[..k]);
     Outcome::Done
 }

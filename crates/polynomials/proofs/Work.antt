@@ -1,4 +1,4 @@
--- The steps of the inner functions put together: a sum, a join, a product by values, and the parts of a substitution.
+-- The steps of the inner functions put together: a sum, a join, a product and a derivative by values, and the parts of a substitution.
 -- Assumes nothing.
 use mathlib.Core.Path.{_≡_, sym, ap, ap₂, _∙_}
 use mathlib.Core.Bool.{Bool, _&&_, cond}
@@ -12,17 +12,19 @@ use Rattle.ring.specs.Letters.{bit}
 use Rattle.ring.specs.Lists.{listed}
 use Rattle.ring.specs.Polynomial.{Polynomial, _⊕_, value, sum, product}
 use Rattle.ring.specs.Join.{join}
+use Rattle.ring.specs.Derivative.{derivative, flipped}
 use Rattle.ring.specs.Table.{AreBits, IsTable, present, tabulate, table, held}
 use Rattle.ring.proofs.Bool.{xor-comm, xor-assoc}
 use Rattle.ring.proofs.Lists.{listed-cong}
 use Rattle.ring.proofs.Value.{value-cong, value-product}
+use Rattle.ring.proofs.Derivative.{flipped-lt, flipped-fewer, value-derivative}
 use Rattle.ring.proofs.Table.{tabulate-cong, present-tabulate, is-table, present-table}
 use Rattle.tables.proofs.Bits.{bits-take, bits-drop}
 use Rattle.tables.proofs.Filled.{filled}
 use Rattle.tables.proofs.Parts.{held-part}
 use Rattle.words.specs.Inner.Words.{wordOf, wordsOf, bitAt, answerWords}
 use Rattle.words.proofs.Words.{words-cong, at-known, size-words}
-use Rattle.words.proofs.Letters.{room, table-back}
+use Rattle.words.proofs.Letters.{points, room, table-back}
 use Rattle.words.proofs.Parts.{part-length, parts-end, words-parts}
 use Rattle.polynomials.specs.Inner.LookUp.{putFor}
 
@@ -69,6 +71,24 @@ product-done n k a b x y z out ek ex ey ez eo =
     at-known (2 ^ (n - 6)) _ z (ez ∙ ap (λ (q : ℕ). wordsOf q (λ p. bitAt x p && bitAt y p)) ek) p m
     ∙ ap₂ _&&_ (at-known (2 ^ (n - 6)) _ x ex p m) (at-known (2 ^ (n - 6)) _ y ey p m)
     ∙ sym (value-product n (present a) (present b) p))
+
+-- a mask in as many letters as words have, which are six or more
+pub mask-fits : (n c s : ℕ) → c ≡ n - 6 → s < 2 ^ n → s < 2 ^ (6 + c)
+mask-fits n c s e h = rw e (omega (arith, points n, room n))
+
+-- to values, each with that at the flipped point, and back
+pub derivative-done : (n c k s : ℕ) (t x y z out : List ℕ) → c ≡ n - 6 → k ≡ 2 ^ (n - 6) → s < 2 ^ n
+    → x ≡ wordsOf (2 ^ (n - 6)) (value n (present t)) → y ≡ wordsOf (2 ^ c) (λ p. bitAt x (flipped (6 + c) s p))
+    → z ≡ wordsOf k (λ p. bitAt x p ⊕ bitAt y p) → out ≡ table n (value n (bitAt z)) → out ≡ table n (derivative n s (present t))
+derivative-done n c k s t x y z out ec ek h ex ey ez eo =
+    eo ∙ table-back n (derivative n s (present t)) z (λ p l.
+    let m : p < 64 * 2 ^ (n - 6) = omega (arith, room n) in
+    let other : flipped (6 + c) s p ≡ flipped n s p = flipped-fewer n (6 + c) s p (omega arith) h l in
+    at-known (2 ^ (n - 6)) _ z (ez ∙ ap (λ (q : ℕ). wordsOf q (λ p. bitAt x p ⊕ bitAt y p)) ek) p m
+    ∙ ap₂ _⊕_ (at-known (2 ^ (n - 6)) _ x ex p m)
+    (at-known (2 ^ (n - 6)) _ y (ey ∙ ap (λ (q : ℕ). wordsOf (2 ^ q) (λ p. bitAt x (flipped (6 + c) s p))) ec) p m
+    ∙ ap (bitAt x) other ∙ at-known (2 ^ (n - 6)) _ x ex (flipped n s p) (omega (arith, room n, flipped-lt n s p)))
+    ∙ sym (value-derivative n s (present t) p))
 
 -- the handed table j
 module _ (n j size : ℕ) (t : List ℕ) (e : size ≡ 2 ^ n) where

@@ -1,4 +1,5 @@
-// The work of the calls on tables that have passed the questions: the sum, the product, the join, and polynomials put for the unknowns of a condition.
+// The work of the calls on tables that have passed the questions: the sum, the product, the join, the derivative, and polynomials put for the
+// unknowns of a condition.
 // Nothing here is a public call of the library: the functions are for the crates above, which ask the questions first
 // and then lend slices of exactly the length that is needed. All but the sum go to values in words, and come back.
 ghost use mathlib.Core.Path.{_≡_};
@@ -9,6 +10,7 @@ ghost use Rattle.ring.specs.Letters.{bit, pointWhere};
 ghost use Rattle.ring.specs.Lists.{listed};
 ghost use Rattle.ring.specs.Polynomial.{sum, product, substitute};
 ghost use Rattle.ring.specs.Join.{join};
+ghost use Rattle.ring.specs.Derivative.{derivative};
 ghost use Rattle.ring.specs.Table.{AreBits, IsTable, present, table, held, forUnknowns};
 ghost use Rattle.words.specs.Inner.Words.{wordOf, wordsOf, bitAt, answerWords};
 ghost use Rattle.polynomials.specs.Inner.LookUp.{chosen, placeOf, putFor};
@@ -59,6 +61,35 @@ pub fn join(n: usize, a: &[u8], b: &[u8], out: &mut [u8])
     multiply(n, a, b, out);
     tables::add_into(out, a);
     tables::add_into(out, b);
+}
+
+fn derive_with(
+    n: usize,
+    t: &[u8],
+    s: usize,
+    out: &mut [u8],
+    values: &mut [u64],
+    flipped: &mut [u64],
+)
+    requires { ⌜ (n ≤ 10) × IsTable n (now t) × (s < 2 ^ n) × (length (now out) ≡ 2 ^ n) × (length (now values) ≡ 2 ^ (n - 6))
+        × (length (now flipped) ≡ 2 ^ (n - 6)) ⌝ }
+    ensures { λ _. ⌜ now (out .exit) ≡ table n (derivative n s (present (now (t .entry)))) ⌝ }
+{
+    words::take_values(n, t, values);
+    words::flip(values, s, words::further(n), flipped);
+    words::add_into(values, flipped);
+    words::put_table(n, values, out);
+}
+
+// The derivative of a table by the letters of the mask s: at each point its value and that at the flipped point. The scratch words live here.
+pub fn derive(n: usize, t: &[u8], s: usize, out: &mut [u8])
+    requires { ⌜ (n ≤ 10) × IsTable n (now t) × (s < 2 ^ n) × (length (now out) ≡ 2 ^ n) ⌝ }
+    ensures { λ _. ⌜ now (out .exit) ≡ table n (derivative n s (present (now (t .entry)))) ⌝ }
+{
+    let k = words::word_count(n);
+    let mut values = [0u64; 16];
+    let mut flipped = [0u64; 16];
+    derive_with(n, t, s, out, &mut values[..k], &mut flipped[..k]);
 }
 
 // One bit of a word at all points.

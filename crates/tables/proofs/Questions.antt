@@ -1,8 +1,8 @@
 -- What a yes to questions 1, 4 and 8 tells.
 -- Assumes nothing.
-use mathlib.Core.Path.{_≡_, sym, _∙_}
+use mathlib.Core.Path.{_≡_, refl, sym, _∙_}
 use mathlib.Core.Bool.{Bool, true, false, not}
-use mathlib.Core.List.{List}
+use mathlib.Core.List.{List, [], _∷_}
 use Prim.Native.Nat.{ℕ, _+_, _*_, _^_, _≤_}
 use native.Mathlib.Nat.{mul-le-mul}
 use native.Mathlib.Omega.{arith}
@@ -13,7 +13,7 @@ use lib.Seq.{length-take-le}
 use borrow.Author.Tests.{leb-true, not-true, not-false}
 use Rattle.ring.specs.Table.{AreBits, IsTable}
 use Rattle.ring.proofs.Bool.{and-left, and-right}
-use Rattle.tables.specs.Questions.{lettersFit, hasRoom, holdsBits}
+use Rattle.tables.specs.Questions.{firstNo, lettersFit, hasRoom, areBits, holdsBits, reads, writes, roomQuestions, bitQuestions, bufferQuestions}
 use Rattle.tables.proofs.Bits.{are-bits}
 
 -- a question's answer as the code has it, in a bool that a branch then tests
@@ -58,3 +58,8 @@ held-bits k t e = are-bits (take k t) e
 -- a table that is lent with room and with bits
 pub lent-table : (n k : ℕ) (t : List ℕ) → k ≡ 2 ^ n → hasRoom (2 ^ n) (length t) ≡ true → holdsBits (2 ^ n) t ≡ true → IsTable n (take k t)
 lent-table n k t e room bits = rw e (record { size = room-length (2 ^ n) t room; bits = held-bits (2 ^ n) t bits })
+
+-- 4 goes to every buffer before 8 goes to any table
+pub rooms-first : firstNo (bufferQuestions (reads 1 (2 ∷ []) ∷ writes 1 0 ∷ [])) ≡ 4
+unfolding firstNo bufferQuestions roomQuestions bitQuestions hasRoom holdsBits areBits
+rooms-first = refl

@@ -31,6 +31,7 @@ pub enum Question {
     Order, // Does the order hold each unknown once and then only 255?
     Name, // Is the name a byte `A` to `D`?
     Marked, // When returning, is it marked?
+    Mask, // Has the set S only declared letters?
 }
 
 // The number of a question.
@@ -57,6 +58,7 @@ pub fn number(question: Question) -> u8
         Question::Order => 17,
         Question::Name => 18,
         Question::Marked => 19,
+        Question::Mask => 20,
     }
 }
 
