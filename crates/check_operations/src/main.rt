@@ -1,4 +1,4 @@
-// Runs the calls value, sum, product and substitute on the cases of standard input and prints what comes back.
+// Runs the calls value, sum, product, substitute and derivative on the cases of standard input and prints what comes back.
 // The stored input and output were made by the independent implementation in `reference/`.
 use calls::Valued;
 use libc::STDIN_FILENO;
@@ -31,6 +31,11 @@ fn call(f: cases::Fields, a: &[u8], b: &[u8], out: &mut [u8]) {
     }
     if name == b's' {
         let r = operations::substitute(f.unknowns, f.givens, a, b, out);
+        cases::show_outcome(r, out);
+        return;
+    }
+    if name == b'd' {
+        let r = operations::derivative(f.unknowns, f.givens, a, f.x, out);
         cases::show_outcome(r, out);
     }
 }

@@ -38,7 +38,7 @@ use Rattle.entry.proofs.Records.{records-made}
 use Rattle.entry.proofs.Passes.{Passes}
 use Rattle.entry.proofs.Verdicts.{VerdictFits}
 use Rattle.entry.proofs.Theorems.{entry-bound}
-use Rattle.calls.specs.Questions.{valueQuestions, pairQuestions, substituteQuestions, textQuestions}
+use Rattle.calls.specs.Questions.{valueQuestions, pairQuestions, substituteQuestions, derivativeQuestions, textQuestions}
 use Rattle.calls.specs.Questions.{solvingQuestions, handedQuestions, writeQuestions, entryQuestions, readQuestions, auditQuestions}
 use Rattle.calls.specs.Questions.{walkQuestions, startQuestions, addQuestions, markQuestions, returnQuestions}
 use Rattle.calls.specs.Operations.{outcome, valueAt}
@@ -215,6 +215,11 @@ pub substitute-decoded : (U G : ℕ) (condition handed : List ℕ) (room : ℕ)
 unfolding substituteQuestions bufferQuestions roomQuestions bitQuestions
 substitute-decoded U G condition handed room =
     plain-back (substituteQuestions U G condition handed room) refl
+
+pub derivative-decoded : (U G : ℕ) (t : List ℕ) (S room : ℕ)
+    → plainReply (code (reply (derivativeQuestions U G t S room) [])) ≡ reply (derivativeQuestions U G t S room) []
+unfolding derivativeQuestions bufferQuestions roomQuestions bitQuestions
+derivative-decoded U G t S room = plain-back (derivativeQuestions U G t S room) refl
 
 pub text-decoded : (U G : ℕ) (text : List ℕ) (room : ℕ)
     → plainReply (code (reply (textQuestions U G text room) [])) ≡ reply (textQuestions U G text room) []

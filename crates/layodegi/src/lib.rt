@@ -15,7 +15,7 @@ ghost use mathlib.Core.Path.{_≡_};
 ghost use mathlib.Core.List.{[], _∷_};
 ghost use Prim.Native.Nat.{_%_, _<_, _≤_};
 ghost use Rattle.tables.specs.Answered.{answered, coded};
-ghost use Rattle.calls.specs.Operations.{outcome, valued, valueCall, sumCall, productCall, substituteCall};
+ghost use Rattle.calls.specs.Operations.{outcome, valued, valueCall, sumCall, productCall, substituteCall, derivativeCall};
 ghost use Rattle.calls.specs.Text.{textCall};
 ghost use Rattle.calls.specs.Solving.{solving, booleCall, particularCall, lowenheimCall, handedCall};
 ghost use Rattle.calls.specs.Entries.{written, writeCall, stateSaid, reading, readCall, auditCall};
@@ -164,6 +164,21 @@ pub extern "C" fn layodegi_substitute(
         ≡ coded code (substituteCall u g (now (condition .entry)) (now (handed .entry)) (now (out .entry))) ⌝ }
 {
     outcome_code(operations::substitute(u, g, condition, handed, out))
+}
+
+// The derivative of a table by the letters of the mask s.
+#[no_mangle]
+pub extern "C" fn layodegi_derivative(
+    u: usize,
+    g: usize,
+    table: &[u8],
+    s: usize,
+    out: &mut [u8],
+) -> u64
+    ensures { λ c. ⌜ answered c (now (out .exit) ∷ [])
+        ≡ coded code (derivativeCall u g (now (table .entry)) s (now (out .entry))) ⌝ }
+{
+    outcome_code(operations::derivative(u, g, table, s, out))
 }
 
 // The table that a text is read into.
