@@ -15,6 +15,8 @@ use std::hint::black_box;
 
 /// The name that a session marks.
 const NAME: u64 = b'A' as u64;
+/// What a derivative is taken by: every second letter, unknowns and givens, low and high.
+const SET: usize = 0b01_0101_0101;
 
 pub struct Call {
     pub name: &'static str,
@@ -23,12 +25,13 @@ pub struct Call {
     pub measure: fn(&Inputs, Effort) -> Compared,
 }
 
-pub const CALLS: [Call; 16] = [
+pub const CALLS: [Call; 17] = [
     Call { name: "read_text", note: "", measure: read_text },
     Call { name: "value", note: "", measure: value },
     Call { name: "sum", note: "", measure: sum },
     Call { name: "product", note: "", measure: product },
     Call { name: "substitute", note: "", measure: substitute },
+    Call { name: "derivative", note: "", measure: derivative },
     Call { name: "boole", note: "", measure: boole },
     Call { name: "boole", note: " in reverse order", measure: boole_reversed },
     Call { name: "particular", note: "", measure: particular },
@@ -169,6 +172,22 @@ fn substitute(inputs: &Inputs, effort: Effort) -> Compared {
         |(condition, handed), out| layodegi::substitute(letters, condition, handed, out),
         |(condition, handed), out| plain::substitute::<Bytes>(u, g, condition, handed, out),
         |(condition, handed), out| plain::substitute::<u64>(u, g, condition, handed, out),
+        both_done,
+    )
+}
+
+fn derivative(inputs: &Inputs, effort: Effort) -> Compared {
+    let (letters, (u, g)) = (engine_letters(inputs.letters), counts(inputs.letters));
+    // those that are declared
+    let set = SET % inputs.letters.table_length();
+    let (for_engine, s) = (layodegi::Mask(set), set as u64);
+    measure(
+        effort,
+        &inputs.conditions,
+        inputs.letters.table_length(),
+        |table, out| layodegi::derivative(letters, table, for_engine, out),
+        |table, out| plain::derivative::<Bytes>(u, g, table, s, out),
+        |table, out| plain::derivative::<u64>(u, g, table, s, out),
         both_done,
     )
 }

@@ -85,7 +85,8 @@ enum layodegi_question {
     LAYODEGI_RANGE = 16,      /* Is the state below 2^G and the choice below 2^U? */
     LAYODEGI_ORDER = 17,      /* Does the order hold each unknown once and then only 255? */
     LAYODEGI_NAME = 18,       /* Is the name a byte `A` to `D`? */
-    LAYODEGI_MARKED = 19      /* When returning, is the name marked? */
+    LAYODEGI_MARKED = 19,     /* When returning, is the name marked? */
+    LAYODEGI_MASK = 20        /* Has S only declared letters? */
 };
 
 /*
@@ -122,6 +123,22 @@ uint64_t layodegi_product(size_t u, size_t g, const uint8_t *a, size_t a_length,
  */
 uint64_t layodegi_substitute(size_t u, size_t g, const uint8_t *condition, size_t condition_length,
                              const uint8_t *handed, size_t handed_length, uint8_t *out, size_t out_length);
+
+/*
+ * The vectorial derivative of a table by a set S of letters: f plus f with every letter of S inverted, all at once.
+ * Questions 1, 4, 8, 20. S is a number, so that one of any size may be passed.
+ * table: 2^n bytes; s: the letters, bits as in the mask of a monomial; out, written: 2^n bytes.
+ *
+ * It is the empty table exactly when flipping these letters together changes the value nowhere; else it has the value
+ * 1 where the flip changes it. So a maintainer sees which contacts cannot change a circuit:
+ *
+ *     uint8_t circuit[8], changes[8];
+ *     layodegi_read_text(1, 2, (const uint8_t *)"u*(a+b)", 7, circuit, 8);
+ *     layodegi_derivative(1, 2, circuit, 8, 2, changes, 8);      // a alone: u, where u is 1
+ *     layodegi_derivative(1, 2, circuit, 8, 2 | 4, changes, 8);  // a and b together: empty, nowhere
+ */
+uint64_t layodegi_derivative(size_t u, size_t g, const uint8_t *table, size_t table_length, size_t s,
+                             uint8_t *out, size_t out_length);
 
 /*
  * Boole's answers: the general solution, each unknown itself being the parameter, the unknowns eliminated in an
@@ -349,6 +366,8 @@ static inline const char *layodegi_question_words(unsigned question)
         return "Is the name a byte `A` to `D`?";
     case LAYODEGI_MARKED:
         return "When returning, is the name marked?";
+    case LAYODEGI_MASK:
+        return "Has S only declared letters?";
     default:
         return "no question of the paper";
     }

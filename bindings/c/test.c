@@ -61,6 +61,50 @@ static void check_tables(void)
     CHECK(holds(out, "\0\0\1\0", 4));
 }
 
+static void check_derivatives(void)
+{
+    static const uint8_t CIRCUIT[8] = {0, 0, 0, 1, 0, 1, 0, 0}; /* u*(a + b) */
+    static const uint8_t LONGER[5] = {0, 0, 0, 1, 9};           /* u*v, and a byte behind it */
+    static const uint8_t NO_BITS[4] = {0, 0, 0, 2};
+    uint8_t out[9];
+    memset(out, OLD, sizeof out);
+    CHECK(layodegi_derivative(0, 0, A + 2, 1, 0, out, 1) == 0); /* of 1 */
+    CHECK(holds(out, "\0", 1));
+    CHECK(layodegi_derivative(2, 0, U_TIMES_V, 4, 1, out, 4) == 0);
+    CHECK(holds(out, "\0\0\1\0", 4)); /* v */
+    CHECK(layodegi_derivative(2, 0, U_TIMES_V, 4, 3, out, 4) == 0);
+    CHECK(holds(out, "\1\1\1\0", 4)); /* u*v + (1 + u)*(1 + v) */
+    CHECK(layodegi_derivative(2, 0, U_TIMES_V, 4, 0, out, 4) == 0);
+    CHECK(holds(out, EMPTY, 4));
+    CHECK(layodegi_derivative(1, 1, A, 4, 1, out, 4) == 0);
+    CHECK(holds(out, EMPTY, 4)); /* a says nothing of u */
+    CHECK(layodegi_derivative(1, 1, A, 4, 2, out, 4) == 0);
+    CHECK(holds(out, "\1\0\0\0", 4));
+    CHECK(layodegi_derivative(2, 0, LONGER, 5, 2, out, 9) == 0);
+    CHECK(holds(out, "\0\1\0\0", 4)); /* u */
+
+    /* the first no counts: 1, 4, 8, 20 */
+    CHECK(layodegi_derivative(7, 0, NO_BITS, 3, SIZE_MAX, out, 3) == LAYODEGI_LETTERS);
+    CHECK(layodegi_derivative(2, 9, NO_BITS, 4, 0, out, 9) == LAYODEGI_LETTERS);
+    CHECK(layodegi_derivative(2, 0, NO_BITS, 3, 4, out, 4) == LAYODEGI_ROOM);
+    CHECK(layodegi_derivative(2, 0, NO_BITS, 4, 4, out, 3) == LAYODEGI_ROOM);
+    CHECK(layodegi_derivative(2, 0, U_TIMES_V, 0, 1, out, 4) == LAYODEGI_ROOM);
+    CHECK(layodegi_derivative(2, 0, U_TIMES_V, 4, 1, out, 0) == LAYODEGI_ROOM);
+    CHECK(layodegi_derivative(2, 0, NO_BITS, 4, 4, out, 4) == LAYODEGI_BITS);
+    CHECK(layodegi_derivative(2, 0, NO_BITS, 4, 1, out, 4) == LAYODEGI_BITS);
+    CHECK(layodegi_derivative(2, 0, LONGER, 5, 4, out, 9) == LAYODEGI_MASK);
+    CHECK(layodegi_derivative(2, 0, U_TIMES_V, 4, 5, out, 4) == LAYODEGI_MASK);
+    CHECK(layodegi_derivative(1, 1, A, 4, SIZE_MAX, out, 4) == LAYODEGI_MASK);
+    CHECK(layodegi_derivative(1, 1, A, 4, SIZE_MAX - 3, out, 4) == LAYODEGI_MASK);
+    CHECK(holds(out, "\0\1\0\0", 4));
+
+    /* the header's example */
+    CHECK(layodegi_derivative(1, 2, CIRCUIT, 8, 2, out, 8) == 0);
+    CHECK(holds(out, "\0\1\0\0\0\0\0\0", 8));
+    CHECK(layodegi_derivative(1, 2, CIRCUIT, 8, 2 | 4, out, 8) == 0);
+    CHECK(holds(out, "\0\0\0\0\0\0\0\0", 8));
+}
+
 static void check_solving(void)
 {
     uint8_t answers[9];
@@ -231,6 +275,7 @@ static void check_sessions_handed(void)
 int main(void)
 {
     check_tables();
+    check_derivatives();
     check_solving();
     check_entries();
     check_orders();

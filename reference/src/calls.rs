@@ -5,8 +5,8 @@
 
 use crate::polynomial::Polynomial;
 use crate::questions::{
-    ask, ask_bytes, ask_length, ask_letters, ask_order, ask_text_length, Choice, Letters, Order,
-    Refusal, State,
+    ask, ask_bytes, ask_length, ask_letters, ask_mask, ask_order, ask_text_length, Choice, Letters,
+    Order, Refusal, State,
 };
 use crate::solution::{formula, solve_boole, solve_lowenheim, solve_particular, Solution, Solved};
 use crate::text::read_tree;
@@ -57,6 +57,19 @@ pub fn substitute(
     ask_handed(letters, condition, handed)?;
     let f = lent(condition, letters);
     fill(result, letters, &[f.substitute(&lent_answers(handed, letters))]);
+    Ok(())
+}
+
+/// The vectorial derivative of a table by a set S of letters: f plus f with every letter of S
+/// inverted. S is any number, its bits as in a monomial. Questions 1, 4, 8, 20.
+pub fn derivative(u: u64, g: u64, table: &[u8], s: u64, result: &mut [u8]) -> Result<(), Refusal> {
+    let letters = ask_letters(u, g)?;
+    ask_length(table, letters.table_length())?;
+    ask_length(result, letters.table_length())?;
+    ask_bytes(table, letters.table_length())?;
+    let mask = ask_mask(letters, s)?;
+    let f = lent(table, letters);
+    fill(result, letters, &[f.sum(&f.inverted(mask))]);
     Ok(())
 }
 

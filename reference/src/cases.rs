@@ -136,6 +136,22 @@ pub const TOO_LARGE: [(u64, u64); 22] = [
     (18_446_744_073_709_551_615, 18_446_744_073_709_551_615),
 ];
 
+/// Sets of letters for which question 20 is answered no whatever is declared; cut to fewer bits,
+/// some of them hold only declared letters, or none.
+pub const UNDECLARED: [u64; 11] = [
+    1_024,
+    1_025,
+    2_047,
+    65_536,
+    65_539,
+    4_294_967_296,
+    4_294_967_297,
+    9_223_372_036_854_775_808,
+    9_223_372_036_854_775_809,
+    18_446_744_073_709_550_592,
+    18_446_744_073_709_551_615,
+];
+
 /// The rows of the bench table that a text can show, starred and others.
 pub const BENCH: [(u64, u64, &str); 13] = [
     (0, 0, "0"),

@@ -1,6 +1,6 @@
 //! A plain implementation of document 01, the thirty-year route volume, and of
-//! requests C-11, the order of elimination, and C-12, named design states, of
-//! document 02.
+//! requests C-11, the order of elimination, C-12, named design states, and C-13,
+//! contacts flipped together, of document 02.
 //!
 //! Written from the papers alone, to test the engine against: polynomials are
 //! sets of monomials and every step is worked out in the papers' own words.
@@ -20,7 +20,8 @@ mod solution;
 mod text;
 
 pub use calls::{
-    boole, lowenheim, lowenheim_handed, particular, product, read_text, substitute, sum, value,
+    boole, derivative, lowenheim, lowenheim_handed, particular, product, read_text, substitute,
+    sum, value,
 };
 pub use entry::{audit, read_entry, write_entry, Contents, Count, Reading, Walk};
 pub use polynomial::Polynomial;

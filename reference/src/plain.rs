@@ -1,7 +1,8 @@
 //! Plain Rust written for speed, in two forms that share every method: one byte a value (`Bytes`),
-//! and 64 values to a word (`u64`). Both go to values and back by the usual step per letter, and
-//! hold whole tables in arrays of a length that the compiler knows. They are the second way that
-//! the tests hold against the paper's own, and what `bench/` measures the engine against.
+//! and 64 values to a word (`u64`). Both go to values and back by the usual step per letter, but for
+//! the derivative, and hold whole tables in arrays of a length that the compiler knows. They are the
+//! second way that the tests hold against the paper's own, and what `bench/` measures the engine
+//! against.
 //! The functions named below are the calls on lent buffers and the sheet, each for a form `B`.
 
 mod block;
@@ -20,7 +21,8 @@ mod written;
 pub use block::Block;
 pub use bytes::{transform, Bytes};
 pub use calls::{
-    boole, lowenheim, lowenheim_handed, particular, product, read_text, substitute, sum, value,
+    boole, derivative, lowenheim, lowenheim_handed, particular, product, read_text, substitute,
+    sum, value,
 };
 pub use entry::{audit, read_entry, walk, write_entry};
 pub use session::{add_condition, mark, return_to};

@@ -71,6 +71,11 @@ impl Polynomial {
                 odd[(left | right) as usize] ^= true;
             }
         }
+        Polynomial::from_odd(&odd)
+    }
+
+    /// The monomials that are there an odd number of times.
+    fn from_odd(odd: &[bool]) -> Polynomial {
         Polynomial((0..odd.len() as u16).filter(|&mask| odd[mask as usize]).collect())
     }
 
@@ -86,6 +91,19 @@ impl Polynomial {
             result.add(mask & !letter);
         }
         result
+    }
+
+    /// The polynomial with 1 + x put for every letter x of a set, all at once. Multiplied out, a
+    /// monomial gives one for each choice of 1 or x for each of its letters in the set.
+    pub fn inverted(&self, set: u16) -> Polynomial {
+        let mut odd = [false; 1 << MOST_LETTERS];
+        for mask in self.masks() {
+            let (kept, replaced) = (mask & !set, mask & set);
+            for chosen in (0..=replaced).filter(|chosen| chosen & !replaced == 0) {
+                odd[(kept | chosen) as usize] ^= true;
+            }
+        }
+        Polynomial::from_odd(&odd)
     }
 
     /// The polynomial with all unknowns replaced at once; givens keep their place.

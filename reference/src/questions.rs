@@ -153,3 +153,11 @@ pub fn ask_order(letters: Letters, order: Order) -> Result<Vec<usize>, Refusal> 
 pub fn ask_name(name: u64) -> Result<usize, Refusal> {
     NAMES.iter().position(|&byte| u64::from(byte) == name).ok_or(Refusal(18))
 }
+
+/// 20. Has S only declared letters?
+///
+/// Answers them as a mask.
+pub fn ask_mask(letters: Letters, s: u64) -> Result<u16, Refusal> {
+    ask(20, s >> letters.count() == 0)?;
+    Ok(s as u16)
+}

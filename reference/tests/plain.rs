@@ -58,6 +58,12 @@ fn assert_operations_agree<E: Block>(letters: Letters, random: &mut Random) {
         |out| substitute(u, g, &a, &handed, out),
         |out| plain::substitute::<E>(u, g, &a, &handed, out),
     );
+    let s = random.below(length + 1 + length / 4) as u64;
+    assert_agree(
+        result,
+        |out| derivative(u, g, &a, s, out),
+        |out| plain::derivative::<E>(u, g, &a, s, out),
+    );
     assert_agree(
         room(letters.answer_length(), random),
         |out| lowenheim_handed(u, g, &a, &handed, out),
@@ -193,6 +199,7 @@ fn too_many_letters_agree_as<E: Block>() {
         let table = [0; 2048];
         assert_eq!(plain::read_text::<E>(u, g, b"u", &mut buffer), Err(Refusal(1)));
         assert_eq!(plain::sum::<E>(u, g, &table, &table, &mut buffer), Err(Refusal(1)));
+        assert_eq!(plain::derivative::<E>(u, g, &table, 4096, &mut buffer), Err(Refusal(1)));
         let order = Order([7; 6]);
         assert_eq!(plain::boole::<E>(u, g, order, &table, &mut buffer), Err(Refusal(1)));
         assert_eq!(plain::write_entry::<E>(0, u, g, order, &table, &mut buffer), Err(Refusal(1)));

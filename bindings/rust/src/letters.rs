@@ -1,4 +1,4 @@
-//! Letters, states, choices and orders, and the lengths of buffers for them.
+//! Letters, states, choices, orders and masks, and the lengths of buffers for them.
 
 use std::fmt;
 
@@ -135,6 +135,11 @@ pub struct State(pub usize);
 #[derive(Clone, Copy, Debug, PartialEq, Eq, Hash)]
 pub struct Choice(pub usize);
 
+/// A set of letters, as in a monomial: bit j for unknown j, bit U + i for given i. The call that takes
+/// it asks whether all of them are declared, so any number may stand here.
+#[derive(Clone, Copy, Debug, PartialEq, Eq, Hash)]
+pub struct Mask(pub usize);
+
 impl fmt::Display for State {
     fn fmt(&self, f: &mut fmt::Formatter) -> fmt::Result {
         write!(f, "state {}", self.0)
@@ -151,5 +156,11 @@ impl fmt::Display for Order {
 impl fmt::Display for Choice {
     fn fmt(&self, f: &mut fmt::Formatter) -> fmt::Result {
         write!(f, "choice {}", self.0)
+    }
+}
+
+impl fmt::Display for Mask {
+    fn fmt(&self, f: &mut fmt::Formatter) -> fmt::Result {
+        write!(f, "mask {}", self.0)
     }
 }

@@ -14,7 +14,8 @@
 //! 0, 1, 2 and so on. General solutions in any two orders are instances of each other.
 //!
 //! A [`Session`] keeps the conditions that a designer adds one by one, as one table, and states of it
-//! to return to.
+//! to return to. The [`derivative`] tells a maintainer whether flipping some contacts together can
+//! change a circuit.
 //!
 //! Each call asks its questions in the order named with it. The first no is the [`Refusal`], and
 //! a call that refuses has changed no byte. Buffers may be longer than they have to be: bytes
@@ -53,7 +54,7 @@ pub mod raw;
 mod session;
 
 pub use answer::{Answer, Entry, Reading, Stopped};
-pub use letters::{Choice, Letters, Order, State};
+pub use letters::{Choice, Letters, Mask, Order, State};
 pub use letters::{LAST_ROUTE, LONGEST_ANSWERS, LONGEST_ENTRY, LONGEST_TABLE, LONGEST_TEXT};
 pub use question::{Question, Refusal};
 pub use session::{Name, Session, Step, SESSION_LENGTH};
@@ -188,6 +189,44 @@ pub fn substitute(
             condition.len(),
             handed.as_ptr(),
             handed.len(),
+            out.as_mut_ptr(),
+            out.len(),
+        )
+    };
+    Code(code).done()
+}
+
+/// The vectorial derivative of a table by a set S of letters, put into `out`: f plus f with every
+/// letter of S inverted, all at once. Questions 1, 4, 8, 20.
+///
+/// It is the empty table exactly when flipping these letters together changes the value nowhere; else
+/// it has the value 1 where the flip changes it.
+///
+/// ```
+/// # use layodegi::{derivative, read_text, Letters, Mask, Question};
+/// // The circuit u*(a + b): unknown 0 is bit 0, givens 0 and 1 are bits 1 and 2.
+/// let letters = Letters { unknowns: 1, givens: 2 };
+/// let (mut circuit, mut changes) = ([7; 8], [7; 8]);
+/// read_text(letters, b"u*(a+b)", &mut circuit)?;
+///
+/// derivative(letters, &circuit, Mask(0b010), &mut changes)?; // contact a alone
+/// assert_eq!(changes, [0, 1, 0, 0, 0, 0, 0, 0]); // u: where u is 1
+/// derivative(letters, &circuit, Mask(0b110), &mut changes)?; // contacts a and b together
+/// assert_eq!(changes, [0; 8]); // nowhere
+///
+/// let undeclared = derivative(letters, &circuit, Mask(0b1000), &mut changes);
+/// assert_eq!(undeclared, Err(Question::Mask.into()));
+/// # Ok::<(), layodegi::Refusal>(())
+/// ```
+pub fn derivative(letters: Letters, table: &[u8], s: Mask, out: &mut [u8]) -> Result<(), Refusal> {
+    let Letters { unknowns, givens } = letters;
+    let code = unsafe {
+        raw::layodegi_derivative(
+            unknowns,
+            givens,
+            table.as_ptr(),
+            table.len(),
+            s.0,
             out.as_mut_ptr(),
             out.len(),
         )

@@ -11,7 +11,7 @@ use std::fmt;
 /// assert_eq!(Question::Grammar.number(), 7);
 /// assert_eq!(Question::Grammar.to_string(), "Does the grammar read the whole text?");
 /// assert_eq!(Question::with_number(7), Some(Question::Grammar));
-/// assert_eq!(Question::with_number(20), None);
+/// assert_eq!(Question::with_number(21), None);
 /// ```
 #[derive(Clone, Copy, Debug, PartialEq, Eq, Hash)]
 #[repr(u8)]
@@ -57,11 +57,13 @@ pub enum Question {
     Name = 18,
     /// When returning, is the name marked?
     Marked = 19,
+    /// Has S only declared letters?
+    Mask = 20,
 }
 
 impl Question {
     /// Every question, by number.
-    pub const ALL: [Question; 19] = [
+    pub const ALL: [Question; 20] = [
         Question::Letters,
         Question::Route,
         Question::TextLength,
@@ -81,6 +83,7 @@ impl Question {
         Question::Order,
         Question::Name,
         Question::Marked,
+        Question::Mask,
     ];
 
     /// The question with a number, if there is one.
@@ -126,6 +129,7 @@ impl Question {
             Question::Order => "Does the order hold each unknown once and then only 255?",
             Question::Name => "Is the name a byte `A` to `D`?",
             Question::Marked => "When returning, is the name marked?",
+            Question::Mask => "Has S only declared letters?",
         }
     }
 }

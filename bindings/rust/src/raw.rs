@@ -58,6 +58,16 @@ extern "C" {
         out_length: usize,
     ) -> u64;
 
+    pub fn layodegi_derivative(
+        u: usize,
+        g: usize,
+        table: *const u8,
+        table_length: usize,
+        s: usize,
+        out: *mut u8,
+        out_length: usize,
+    ) -> u64;
+
     pub fn layodegi_boole(
         u: usize,
         g: usize,

@@ -54,6 +54,7 @@ fn add_cases(call: char, lines: &mut Lines) -> bool {
         'v' => operations::add_values(lines),
         '+' | '*' => operations::add_two_tables(lines, call),
         's' => operations::add_substitutions(lines),
+        'd' => operations::add_derivatives(lines),
         't' => text::add_texts(lines),
         'b' | 'p' | 'l' => solving::add_solutions(lines, call),
         'h' => solving::add_handed(lines),

@@ -39,6 +39,9 @@ pub trait Block:
     fn bits(self) -> u64;
     /// The values of `whole` at each point, its lowest letters having the values of `parts` there.
     fn look_up<const K: usize>(whole: &[Self; K], parts: &[[Self; K]]) -> [Self; K];
+    /// The table of f plus f with every letter of a mask inverted. On coefficients: per letter, the
+    /// half with it is added to the half without it.
+    fn derivative<const K: usize>(table: &[u8], mask: usize, result: &mut [u8]);
 }
 
 /// The operands of a form: a constant function of a trait is not to be had.

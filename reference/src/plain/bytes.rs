@@ -62,6 +62,25 @@ impl BitOr for Bytes {
     }
 }
 
+/// Changes bytes as numbers of eight; fewer than eight as the front of one.
+#[inline(always)]
+fn change_eights(bytes: &mut [u8], to: impl Fn(u64) -> u64) {
+    let mut eights = bytes.chunks_exact_mut(8);
+    for eight in &mut eights {
+        let number = u64::from_le_bytes((&*eight).try_into().expect("eight bytes"));
+        eight.copy_from_slice(&to(number).to_le_bytes());
+    }
+    let fewer = eights.into_remainder();
+    let mut eight = [0; 8];
+    eight[..fewer.len()].copy_from_slice(fewer);
+    fewer.copy_from_slice(&to(u64::from_le_bytes(eight)).to_le_bytes()[..fewer.len()]);
+}
+
+#[inline(always)]
+fn add(bytes: &mut [u8], other: &[u8]) {
+    bytes.iter_mut().zip(other).for_each(|(byte, other)| *byte ^= other);
+}
+
 static OPERANDS: Operands<Bytes> = operands!(Bytes);
 
 impl Block for Bytes {
@@ -143,5 +162,26 @@ impl Block for Bytes {
             *block = Bytes::pack(&bytes);
         }
         result
+    }
+
+    /// In the bytes of the result.
+    fn derivative<const K: usize>(table: &[u8], mask: usize, result: &mut [u8]) {
+        result.copy_from_slice(table);
+        for (j, with) in WITH.into_iter().enumerate() {
+            if mask >> j & 1 == 1 {
+                change_eights(result, |x| x ^ (x & with) >> (8 << j));
+            }
+        }
+        let mut width = 8;
+        while width < result.len() {
+            if mask & width != 0 {
+                for halves in result.chunks_exact_mut(2 * width) {
+                    let (without, with) = halves.split_at_mut(width);
+                    add(without, with);
+                }
+            }
+            width *= 2;
+        }
+        add(result, table);
     }
 }

@@ -5,8 +5,8 @@ use super::table::Table;
 use super::text::text_values;
 use super::{for_blocks, Block};
 use crate::questions::{
-    ask, ask_length, ask_letters, ask_text_length, Choice, Letters, Order, Refusal, State,
-    MOST_UNKNOWNS,
+    ask, ask_length, ask_letters, ask_mask, ask_text_length, Choice, Letters, Order, Refusal,
+    State, MOST_UNKNOWNS,
 };
 use crate::solution::Solved;
 
@@ -137,6 +137,29 @@ fn put_substituted<B: Block, const K: usize>(
         *part = Table::<B, K>::from_bytes(bytes).transformed().0;
     }
     Table(B::look_up(&whole.0, &parts[..letters.unknowns])).transformed().put(result);
+}
+
+/// The vectorial derivative of a table by a set S of letters, a mask. Questions 1, 4, 8, 20.
+pub fn derivative<B: Block>(
+    u: u64,
+    g: u64,
+    table: &[u8],
+    s: u64,
+    result: &mut [u8],
+) -> Result<(), Refusal> {
+    let letters = ask_letters(u, g)?;
+    let length = letters.table_length();
+    ask_length(table, length)?;
+    ask_length(result, length)?;
+    let table = &table[..length];
+    ask_bits(table)?;
+    let mask = ask_mask(letters, s)? as usize;
+    for_blocks!(B, letters.count(), put_derivative(table, mask, &mut result[..length]));
+    Ok(())
+}
+
+fn put_derivative<B: Block, const K: usize>(table: &[u8], mask: usize, result: &mut [u8]) {
+    B::derivative::<K>(table, mask, result);
 }
 
 /// Boole's answer. Questions 1, 17, 4, 8, 9.

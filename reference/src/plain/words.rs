@@ -2,7 +2,7 @@
 
 use std::array;
 
-use super::block::{operands, Block, Operands, LOW_LETTERS, MOST_BLOCKS, OPERAND_ONE};
+use super::block::{operands, Block, Operands, LOW_LETTERS, MOST_BLOCKS, OPERAND_ONE, POINTS};
 
 static OPERANDS: Operands<u64> = operands!(u64);
 
@@ -10,11 +10,37 @@ static OPERANDS: Operands<u64> = operands!(u64);
 /// table are then one shifted load or store.
 #[inline(always)]
 fn cross(mut word: u64) -> u64 {
-    for (shift, mask) in [(7, 0x00aa_00aa_00aa_00aa), (14, 0x0000_cccc_0000_cccc), (28, 0xf0f0_f0f0)] {
+    for (shift, mask) in
+        [(7, 0x00aa_00aa_00aa_00aa), (14, 0x0000_cccc_0000_cccc), (28, 0xf0f0_f0f0)]
+    {
         let moved = (word ^ word >> shift) & mask;
         word ^= moved ^ moved << shift;
     }
     word
+}
+
+/// At most 64 bytes as a word that is crossed.
+fn gather(bytes: &[u8]) -> u64 {
+    let eights = bytes.chunks_exact(8);
+    let mut crossed = 0;
+    for (i, &byte) in eights.remainder().iter().enumerate() {
+        crossed |= (byte as u64) << (8 * i);
+    }
+    for (i, eight) in eights.enumerate() {
+        crossed |= u64::from_le_bytes(eight.try_into().expect("eight bytes")) << i;
+    }
+    crossed
+}
+
+/// A word that is crossed as bytes.
+fn scatter(crossed: u64, bytes: &mut [u8]) {
+    let mut eights = bytes.chunks_exact_mut(8);
+    for (i, eight) in (&mut eights).enumerate() {
+        eight.copy_from_slice(&(crossed >> i & 0x0101_0101_0101_0101).to_le_bytes());
+    }
+    for (i, byte) in eights.into_remainder().iter_mut().enumerate() {
+        *byte = (crossed >> (8 * i) & 1) as u8;
+    }
 }
 
 impl Block for u64 {
@@ -45,26 +71,11 @@ impl Block for u64 {
     }
 
     fn pack(bytes: &[u8]) -> u64 {
-        let eights = bytes.chunks_exact(8);
-        let mut crossed = 0;
-        for (i, &byte) in eights.remainder().iter().enumerate() {
-            crossed |= (byte as u64) << (8 * i);
-        }
-        for (i, eight) in eights.enumerate() {
-            crossed |= u64::from_le_bytes(eight.try_into().expect("eight bytes")) << i;
-        }
-        cross(crossed)
+        cross(gather(bytes))
     }
 
     fn unpack(self, bytes: &mut [u8]) {
-        let crossed = cross(self);
-        let mut eights = bytes.chunks_exact_mut(8);
-        for (i, eight) in (&mut eights).enumerate() {
-            eight.copy_from_slice(&(crossed >> i & 0x0101_0101_0101_0101).to_le_bytes());
-        }
-        for (i, byte) in eights.into_remainder().iter_mut().enumerate() {
-            *byte = (crossed >> (8 * i) & 1) as u8;
-        }
+        scatter(cross(self), bytes);
     }
 
     fn set(&mut self, point: usize) {
@@ -87,7 +98,8 @@ impl Block for u64 {
                 let full = |place: usize| (bits as u64 >> place & 1).wrapping_neg();
                 pick(second, pick(first, full(0), full(1)), pick(first, full(2), full(3)))
             });
-            let mut words: [u64; 16] = array::from_fn(|q| fours[(whole[k] >> (4 * q) & 15) as usize]);
+            let mut words: [u64; 16] =
+                array::from_fn(|q| fours[(whole[k] >> (4 * q) & 15) as usize]);
             for (j, half) in [(5, 8), (4, 4), (3, 2), (2, 1)] {
                 let (chooses, (zero, one)) = (put(j), words.split_at_mut(half));
                 for (zero, &one) in zero.iter_mut().zip(&*one) {
@@ -96,6 +108,32 @@ impl Block for u64 {
             }
             words[0]
         })
+    }
+
+    /// The words stay crossed: that only names the letters within them anew.
+    fn derivative<const K: usize>(table: &[u8], mask: usize, result: &mut [u8]) {
+        let mut f = [0; K];
+        for (word, bytes) in f.iter_mut().zip(table.chunks(POINTS)) {
+            *word = gather(bytes);
+        }
+        let mut words = f;
+        for (j, with) in Self::LOW.into_iter().enumerate() {
+            if mask >> ((j + 3) % LOW_LETTERS) & 1 == 1 {
+                words.iter_mut().for_each(|word| *word ^= (*word & with) >> (1 << j));
+            }
+        }
+        let mut width = 1;
+        while width < K {
+            if mask >> LOW_LETTERS & width != 0 {
+                for k in (0..K).filter(|k| k & width == 0) {
+                    words[k] ^= words[k + width];
+                }
+            }
+            width *= 2;
+        }
+        for ((word, f), bytes) in words.iter().zip(&f).zip(result.chunks_mut(POINTS)) {
+            scatter(word ^ f, bytes);
+        }
     }
 }
 

@@ -5,7 +5,7 @@ use crate::lent::{Case, Lent};
 use crate::sessions::take_step;
 use crate::tally::Tally;
 use layodegi::{
-    raw, Answer, Choice, Entry, Letters, Name, Order, Refusal, Session, State, Step, Stopped,
+    raw, Answer, Choice, Entry, Letters, Mask, Name, Order, Refusal, Session, State, Step, Stopped,
 };
 use reference::cases::sessions::Event;
 use reference::cases::Random;
@@ -176,6 +176,27 @@ impl Calls {
                 )
             },
             |[a, b], [out]| (call.safe)(letters(u, g), a, b, out),
+        );
+    }
+
+    pub fn derivative(&mut self, u: u64, g: u64, table: &[u8], s: u64, out: &[u8]) {
+        self.case(
+            ("derivative", &[u, g, s]),
+            [table],
+            [out],
+            |[table], [out]| done(reference::derivative(u, g, table, s, out)),
+            |[table], [out]| unsafe {
+                raw::layodegi_derivative(
+                    u as usize,
+                    g as usize,
+                    table.as_ptr(),
+                    table.len(),
+                    s as usize,
+                    out.as_mut_ptr(),
+                    out.len(),
+                )
+            },
+            |[table], [out]| layodegi::derivative(letters(u, g), table, Mask(s as usize), out),
         );
     }
 

@@ -25,6 +25,7 @@ fn main() -> ExitCode {
         tables::run_products,
         tables::run_substitutions,
         tables::run_handed,
+        tables::run_derivatives,
         solving::run_boole,
         solving::run_particular,
         solving::run_lowenheim,

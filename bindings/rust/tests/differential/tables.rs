@@ -1,9 +1,9 @@
-//! Cases for value, sum, product, substitution and the formula on handed
-//! polynomials.
+//! Cases for value, sum, product, substitution, the formula on handed
+//! polynomials, and the derivative.
 
 use crate::calls::{Calls, PairCall, LOWENHEIM_HANDED, PRODUCT, SUBSTITUTE, SUM};
 use crate::making::{condition, damage, garbage, large, result, wrong_letters};
-use reference::cases::{bench_tables, pairs, Random};
+use reference::cases::{bench_tables, pairs, Random, UNDECLARED};
 
 pub fn run_values() -> Calls {
     let mut calls = Calls::new('V');
@@ -110,4 +110,70 @@ fn one_short(
     calls.pair(call, u, g, &spoiled(&a), &b, &out);
     calls.pair(call, u, g, &a, &spoiled(&b), &out);
     calls.pair(call, u, g, &a, &a, &out);
+}
+
+pub fn run_derivatives() -> Calls {
+    let mut calls = Calls::new('D');
+    let random = &mut Random::new('d');
+    for (u, g) in wrong_letters(random) {
+        calls.derivative(u, g, &random.table(16, 2), large(random), &garbage(random, 64));
+        calls.derivative(u, g, &[7], 0, &[]);
+    }
+    every_small_derivative(&mut calls, random);
+    for (u, g) in pairs(0, 10) {
+        let length = 1 << (u + g);
+        every_letter(&mut calls, random, u, g);
+        for _ in 0..80 {
+            let mut table = condition(random, u, g);
+            damage(random, &mut table);
+            let s = around(random, length);
+            calls.derivative(u, g, &table, s, &result(random, length));
+        }
+        two_wrong(&mut calls, random, u, g);
+    }
+    // every set of ten letters
+    let (table, out) = (random.table(1_024, 2), garbage(random, 1_024));
+    for s in 0..1_024 {
+        calls.derivative(6, 4, &table, s, &out);
+    }
+    calls
+}
+
+/// Every table over at most three letters, by every S and the first that is none.
+fn every_small_derivative(calls: &mut Calls, random: &mut Random) {
+    for (u, g) in pairs(0, 3) {
+        let length = 1 << (u + g);
+        for bits in 0..1usize << length {
+            let table: Vec<u8> = (0..length).map(|mask| (bits >> mask & 1) as u8).collect();
+            for s in 0..=length as u64 {
+                calls.derivative(u, g, &table, s, &garbage(random, length));
+            }
+        }
+    }
+}
+
+/// Each bit that a number has, declared or not, alone and beside declared letters.
+fn every_letter(calls: &mut Calls, random: &mut Random, u: u64, g: u64) {
+    let length = 1 << (u + g);
+    for bit in 0..64 {
+        let table = condition(random, u, g);
+        let beside = random.below(length) as u64;
+        calls.derivative(u, g, &table, 1 << bit, &garbage(random, length));
+        calls.derivative(u, g, &table, 1 << bit | beside, &result(random, length));
+    }
+}
+
+/// A set with a letter that is not declared, beside a table or a buffer that is wrong as well.
+fn two_wrong(calls: &mut Calls, random: &mut Random, u: u64, g: u64) {
+    let length = 1 << (u + g);
+    for s in UNDECLARED.into_iter().chain([length as u64]) {
+        let table = condition(random, u, g);
+        let out = garbage(random, length);
+        let mut spoiled = table.clone();
+        spoiled[random.below(length)] = 2 + random.below(254) as u8;
+        calls.derivative(u, g, &spoiled, s, &out);
+        calls.derivative(u, g, &spoiled[1..], s, &out);
+        calls.derivative(u, g, &table, s, &out[1..]);
+        calls.derivative(u, g, &table, s, &out);
+    }
 }

@@ -7,12 +7,13 @@ const LEAST_CASES: usize = 4_000;
 const LEAST_NOES: usize = 50;
 
 /// The calls, with the questions that each asks, in the papers' order.
-pub const QUESTIONS: [(&str, &[u8]); 17] = [
+pub const QUESTIONS: [(&str, &[u8]); 18] = [
     ("read_text", &[1, 3, 4, 5, 6, 7]),
     ("value", &[1, 4, 8, 16]),
     ("sum", &[1, 4, 8]),
     ("product", &[1, 4, 8]),
     ("substitute", &[1, 4, 8]),
+    ("derivative", &[1, 4, 8, 20]),
     ("boole", &[1, 17, 4, 8, 9]),
     ("particular", &[1, 17, 4, 8, 9]),
     ("lowenheim", &[1, 17, 4, 8, 9]),

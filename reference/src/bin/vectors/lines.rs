@@ -2,7 +2,8 @@
 //!
 //! Input: CALL U G X Y SIZE SIZE2 A B, single spaces between. A and B are
 //! digits, one a byte, hexadecimal bytes, or raw text; `-` is an empty one.
-//! For a call that takes an order, Y is its six bytes in hexadecimal.
+//! For a call that takes an order, Y is its six bytes in hexadecimal; for the
+//! derivative, X is the set S.
 //!
 //! The lines of a session stop after the last field that they use, and the
 //! session goes on from line to line: a start is `s U G`, adding A is
@@ -118,6 +119,14 @@ impl Lines {
         let expected = format!("{} {}", done(result), digits(&buffer));
         let numbers = Numbers { u, g, size, ..Numbers::default() };
         self.add(call, numbers, &digits(a), digits(b).as_bytes(), expected);
+    }
+
+    pub fn derivative(&mut self, u: u64, g: u64, table: &[u8], s: u64, size: usize) {
+        let mut buffer = vec![GARBAGE; size];
+        let result = reference::derivative(u, g, table, s, &mut buffer);
+        let expected = format!("{} {}", done(result), digits(&buffer));
+        let numbers = Numbers { u, g, x: s, size, ..Numbers::default() };
+        self.add('d', numbers, &digits(table), b"-", expected);
     }
 
     pub fn text(&mut self, u: u64, g: u64, text: &[u8], size: usize) {

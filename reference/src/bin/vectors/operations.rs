@@ -1,8 +1,8 @@
-//! Cases for value, sum, product and handed polynomials put into a condition.
+//! Cases for value, sum, product, handed polynomials put into a condition, and the derivative.
 
 use crate::lines::Lines;
 use reference::cases::orders::default_order;
-use reference::cases::{bench_tables, pairs, Random, TOO_LARGE};
+use reference::cases::{bench_tables, pairs, Random, TOO_LARGE, UNDECLARED};
 
 pub fn add_values(lines: &mut Lines) {
     let random = &mut Random::new('v');
@@ -210,4 +210,99 @@ fn add_renamings(lines: &mut Lines, random: &mut Random, u: u64, g: u64) {
     }
     let table = random.any_table(length);
     lines.tables('s', u, g, &table, &handed, length);
+}
+
+pub fn add_derivatives(lines: &mut Lines) {
+    let random = &mut Random::new('d');
+    for (u, g, table) in bench_tables() {
+        for s in 0..table.len() as u64 {
+            lines.derivative(u, g, &table, s, table.len());
+        }
+    }
+    for (u, g) in TOO_LARGE {
+        lines.derivative(u, g, &[1, 0], 1, 2);
+        lines.derivative(u, g, &[7], u64::MAX, 0);
+    }
+    for s in UNDECLARED {
+        lines.derivative(2, 1, &[0, 1, 1, 0, 1, 0, 0, 1], s, 8);
+    }
+    add_every_derivative(lines);
+    for (u, g) in pairs(0, 4) {
+        add_wrong_derivatives(lines, random, u, g);
+        for _ in 0..6 {
+            add_any_derivative(lines, random, u, g);
+        }
+    }
+    for (u, g) in pairs(5, 7) {
+        let length = 1 << (u + g);
+        let single = 1 << random.below((u + g) as usize);
+        for s in [length - 1, single, random.below(length)] {
+            lines.derivative(u, g, &random.any_table(length), s as u64, length);
+        }
+    }
+    // the highest letter alone, all, all but the lowest, and unknowns with givens
+    for (u, g, s) in [
+        (0, 8, 0x80),
+        (3, 5, 0x5a),
+        (6, 2, 0xc1),
+        (1, 8, 0x1fe),
+        (6, 3, 0x0aa),
+        (2, 8, 0x200),
+        (4, 6, 0x3ff),
+        (6, 4, 0x299),
+    ] {
+        lines.derivative(u, g, &random.table(1 << (u + g), 2), s, 1 << (u + g));
+    }
+}
+
+/// Every table over at most one letter, and over an unknown and a given, by every S and the first
+/// that is none.
+fn add_every_derivative(lines: &mut Lines) {
+    for (u, g) in pairs(0, 1).into_iter().chain([(1, 1)]) {
+        let length = 1 << (u + g);
+        for bits in 0..1usize << length {
+            let table: Vec<u8> = (0..length).map(|m| (bits >> m & 1) as u8).collect();
+            for s in 0..=length as u64 {
+                lines.derivative(u, g, &table, s, length);
+            }
+        }
+    }
+}
+
+/// Each wrong thing by itself, then two.
+fn add_wrong_derivatives(lines: &mut Lines, random: &mut Random, u: u64, g: u64) {
+    let length = 1 << (u + g);
+    let (table, s) = (random.any_table(length), random.below(length) as u64);
+    let mut spoiled = table.clone();
+    random.spoil(&mut spoiled, length);
+    let longer = [&table[..], &[7, 1, 9]].concat();
+    let (first, huge) = (length as u64, random.pick(&UNDECLARED));
+    lines.derivative(u, g, &longer, s, length + 3);
+    lines.derivative(u, g, &table[1..], s, length);
+    lines.derivative(u, g, &table, s, length - 1);
+    lines.derivative(u, g, &spoiled, s, length);
+    lines.derivative(u, g, &table, first, length);
+    lines.derivative(u, g, &longer, first | s, length + 3);
+    lines.derivative(u, g, &table, huge, length);
+    lines.derivative(u, g, &spoiled[1..], first, length);
+    lines.derivative(u, g, &spoiled, huge, length - 1);
+    lines.derivative(u, g, &spoiled, first, length);
+    lines.derivative(u, g, &spoiled, huge, length + 1);
+}
+
+/// A random table, perhaps spoiled, longer, short or empty, by letters that are mostly declared.
+fn add_any_derivative(lines: &mut Lines, random: &mut Random, u: u64, g: u64) {
+    let length = 1 << (u + g);
+    let mut table = random.any_table(length);
+    if random.once_in(6) {
+        random.spoil(&mut table, length);
+    }
+    random.fit(&mut table);
+    let s = match random.below(8) {
+        0 => random.pick(&UNDECLARED),
+        1 => (length + random.below(length)) as u64,
+        _ => random.below(length) as u64,
+    };
+    let size = random.size(length);
+    lines.derivative(u, g, &table, s, size);
 }
