@@ -5,6 +5,7 @@
 ghost use mathlib.Core.Path.{_≡_};
 ghost use mathlib.Core.Bool.{true, false, _&&_, cond};
 ghost use Prim.Native.Nat.{_+_, _-_, _*_, _/_, _%_, _^_, _≤_, _<_};
+ghost use lib.Bits.{bitAnd, bitOr};
 ghost use lib.ListN.{length, getD};
 ghost use Rattle.ring.specs.Lists.{listed};
 ghost use Rattle.ring.specs.Letters.{digit, bit, assign};
@@ -413,16 +414,35 @@ pub fn add_letter(d: &mut [u64], x: usize)
     }
 }
 
-// A letter below six turned over, in place: the two halves of each pair of blocks change places.
-fn turn_low(words: &mut [u64], x: usize)
+// The two halves of each pair of blocks change places: the points that the mask has, and those `width` before them.
+fn exchange(word: u64, mask: u64, width: usize) -> u64
+    requires { ⌜ width < 64 ⌝ }
+    ensures { λ r. ⌜ r ≡ bitOr (bitAnd word mask / 2 ^ width) (bitAnd (word * 2 ^ width % 2 ^ 64) mask) ⌝ }
+{
+    ((word & mask) >> width) | ((word << width) & mask)
+}
+
+// f with a letter below six turned over.
+fn turn_low(f: &[u64], x: usize, out: &mut [u64])
+    requires { ⌜ (x < 6) × (length (now f) ≡ length (now out)) ⌝ }
+    ensures { λ _. ⌜ now (out .exit) ≡ wordsOf (length (now (out .entry))) (λ p. bitAt (now (f .entry)) (turned x p)) ⌝ }
+{
+    let mask = low_letter(x);
+    let width = tables::pow2(x);
+    for i in 0..out.len() {
+        out[i] = exchange(f[i], mask, width);
+    }
+}
+
+// The same in place.
+fn turn_in(words: &mut [u64], x: usize)
     requires { ⌜ x < 6 ⌝ }
     ensures { λ _. ⌜ now (words .exit) ≡ wordsOf (length (now (words .entry))) (λ p. bitAt (now (words .entry)) (turned x p)) ⌝ }
 {
     let mask = low_letter(x);
     let width = tables::pow2(x);
     for i in 0..words.len() {
-        let word = words[i];
-        words[i] = ((word & mask) >> width) | ((word << width) & mask);
+        words[i] = exchange(words[i], mask, width);
     }
 }
 
@@ -442,8 +462,7 @@ pub fn turn(f: &[u64], x: usize, c: usize, out: &mut [u64])
     ensures { λ _. ⌜ now (out .exit) ≡ wordsOf (2 ^ c) (λ p. bitAt (now (f .entry)) (turned x p)) ⌝ }
 {
     if x < 6 {
-        copy(out, f);
-        turn_low(out, x);
+        turn_low(f, x, out);
     } else {
         flip_high(f, tables::pow2(x - 6), c, out);
     }
@@ -457,7 +476,7 @@ pub fn flip(f: &[u64], s: usize, c: usize, out: &mut [u64])
     flip_high(f, s >> 6, c, out);
     for x in 0..6 {
         if (s >> x) % 2 == 1 {
-            turn_low(out, x);
+            turn_in(out, x);
         }
     }
 }

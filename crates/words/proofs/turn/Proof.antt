@@ -1,6 +1,6 @@
 -- `words::turn` meets its contract. Assumes nothing.
 use borrow.Author.Needs.{needs}
-use Rattle.words.proofs.Turned.{turned-copied}
+use Rattle.words.proofs.Holds.{words-sized}
 use Rattle.words.proofs.Flipped.{high-small, turned-high}
 use Rattle.words.proofs.turn.Statement.{statement}
 use Rattle.words.proofs.turn.Tie as tie
@@ -14,9 +14,8 @@ flip-high-requires c κs =
 returns : tie.Need-returns
 returns c =
     let after-turn-low = c .before .before in
-    let after-copy = after-turn-low .before .before .before .before in
-    let entry = after-copy .before .before .before .before .before in
-    turned-copied _ _ _ _ _ (after-copy .copy .ensures) (entry .pre .2) (after-turn-low .turn-low .ensures)
+    let entry = after-turn-low .before .before .before .before .before in
+    words-sized _ _ _ _ (after-turn-low .turn-low .ensures) (entry .pre .3)
 
 returns-2 : tie.Need-returns-2
 returns-2 c =
@@ -30,7 +29,6 @@ pub turn-spec : {M : Type 1} → statement M
 turn-spec =
     tie.close
     (tie.spec
-    (λ c κs. search needs)
     (λ c κs. search needs)
     (λ c κs. search needs)
     flip-high-requires
