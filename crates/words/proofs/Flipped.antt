@@ -139,7 +139,8 @@ module _ (c s : ℕ) (f : List ℕ) where
           ∙ xor-false (not (bit p x)) ∙ xor-comm true (bit p x)
           ∙ sym (ap (λ (y : ℕ). bit p y ⊕ ((not (ltb y 6) || ltb y (x + 1)) && bit s y)) d
           ∙ ap (λ (y : Bool). bit p x ⊕ y)
-          (ap₂ (λ (y z : Bool). (not (ltb x 6) || y) && z) (lt-ltb x (x + 1) (omega arith)) (eq-eqb (s / 2 ^ x % 2) 1 b) ∙ ap (λ (y : Bool). y && true) (or-true (not (ltb x 6)))))
+          (ap₂ (λ (y z : Bool). (not (ltb x 6) || y) && z) (lt-ltb x (x + 1) (omega arith)) (eq-eqb (s / 2 ^ x % 2) 1 b)
+          ∙ ap (λ (y : Bool). y && true) (or-true (not (ltb x 6)))))
       go p t false q = ap₂ _⊕_ (bit-assign-other p t x (not (bit p x)) (eqb-false t x q)) (done-other x t q)
 
   pub flip-skip : (x : ℕ) (ws : List ℕ) → (s / 2 ^ x % 2 ≡ 1 → ⊥)

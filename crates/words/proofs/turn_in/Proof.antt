@@ -40,7 +40,8 @@ loop-again c =
     let small : getD (turn .loop .words) i 0 < 2 ^ 64 = omega (arith, after-slice-known .slice-known .given i) in (
       search needs,
       words-more (λ p. bitAt words (turned (entry .args .x) p)) _ _ _ _ (turn .loop .inv .1) (tested .loop-test .taken)
-          (turn-low-holds words _ _ _ i _ _ (entry .pre) (after-pow2 .pow2 .ensures) (after-low-letter .low-letter .ensures) (rw read at small) read (c .exchange .ensures)),
+          (turn-low-holds words _ _ _ i _ _ (entry .pre) (after-pow2 .pow2 .ensures) (after-low-letter .low-letter .ensures) (rw read at small) read
+          (c .exchange .ensures)),
       search needs,
     )
 

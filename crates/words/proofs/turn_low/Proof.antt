@@ -37,7 +37,8 @@ loop-again c =
     let small : getD (entry .args .f .now) (turn .loop .i) 0 < 2 ^ 64 = omega (arith, after-shared-slice-known .shared-slice-known .given (turn .loop .i)) in (
       search needs,
       words-more (λ p. bitAt (entry .args .f .now) (turned (entry .args .x) p)) _ _ _ _ (turn .loop .inv .1) (tested .loop-test .taken)
-          (turn-low-holds (entry .args .f .now) _ _ _ _ _ _ (entry .pre .0) (after-pow2 .pow2 .ensures) (after-low-letter .low-letter .ensures) small refl (c .exchange .ensures)),
+          (turn-low-holds (entry .args .f .now) _ _ _ _ _ _ (entry .pre .0) (after-pow2 .pow2 .ensures) (after-low-letter .low-letter .ensures) small refl
+          (c .exchange .ensures)),
       search needs,
     )
 
