@@ -1,5 +1,5 @@
--- Contacts flipped together (document 02, C-13): what stands in the buffer behind the call, for every U, G, table and S. By points first, and
--- by states and choices (`derivative-changes`).
+-- Contacts flipped together (document 02, C-13): what the call puts into the buffer, for every U, G, table and S; by points, and by states and
+-- choices (`derivative-changes`, `derivative-nowhere`).
 -- Assumes nothing.
 use mathlib.Core.Path.{_≡_, refl, sym, ap, ap₂, _∙_}
 use mathlib.Core.Bool.{Bool, true, false}
@@ -7,16 +7,15 @@ use mathlib.Core.Logic.{_↔_}
 use mathlib.Core.List.{List, [], _∷_}
 use Prim.Native.Nat.{ℕ, _+_, _*_, _/_, _%_, _^_, _<_}
 use native.Mathlib.Omega.{arith}
-use lib.Bits.{bitXor}
 use lib.ListN.{getD, replicate}
 use borrow.Author.Tests.{lt-ltb, ltb-true}
 use Rattle.ring.specs.declared.State.{State}
 use Rattle.ring.specs.declared.Choice.{Choice}
 use Rattle.ring.specs.Letters.{digit, bit, point}
 use Rattle.ring.specs.Polynomial.{Polynomial, _⊕_, count, odd, value, constant, letter, sum, product, restrict, monomial, substitute}
-use Rattle.ring.specs.Derivative.{inverted, derivative, flipped}
+use Rattle.ring.specs.Derivative.{inverted, derivative, flipped, flippedState, flippedChoice}
 use Rattle.ring.specs.Table.{present, tabulate, table}
-use Rattle.ring.proofs.Points.{mask-letters}
+use Rattle.ring.proofs.Points.{parts, point-lt, mask-letters}
 use Rattle.ring.proofs.Value.{value-cong}
 use Rattle.ring.proofs.Table.{table-cong, present-table, empty-exactly}
 use Rattle.ring.proofs.Derivative as ring
@@ -42,11 +41,10 @@ module _ (U G : ℕ) where
   unfolding derivativeTable
   derivative-at t S p = made (derivative (U + G) S (present t)) p ∙ ring.value-derivative (U + G) S (present t) p
 
-  -- as the value call gives it: S has the choice's bits below bit U, and the state's from there on
+  -- at a state and a choice, as the value call gives it
   pub derivative-changes : (t : List ℕ) (S : ℕ) (state : State) (choice : Choice) → S < 2 ^ (U + G) → state .0 < 2 ^ G → choice .0 < 2 ^ U
       → valueAt U G (derivativeTable U G t S) state choice
-      ≡ digit (at t (point U state choice)
-      ⊕ at t (point U (record { 0 = bitXor (state .0) (S / 2 ^ U) }) (record { 0 = bitXor (choice .0) (S % 2 ^ U) })))
+      ≡ digit (at t (point U state choice) ⊕ at t (point U (flippedState U S state) (flippedChoice U S choice)))
   unfolding valueAt
   derivative-changes t S state choice h hs hc =
       ap digit (derivative-at t S (point U state choice)
@@ -60,6 +58,28 @@ module _ (U G : ℕ) where
       let table-none = empty-exactly (U + G) (derivative (U + G) S (present t)) in
       let none-flips = ring.derivative-none (U + G) S (present t) in
       (λ e. none-flips .0 (table-none .0 e), λ same. table-none .1 (none-flips .1 same))
+
+  -- the same by states and choices, as the value call gives the values
+  pub derivative-nowhere : (t : List ℕ) (S : ℕ) → S < 2 ^ (U + G)
+      → (derivativeTable U G t S ≡ replicate (2 ^ (U + G)) 0)
+      ↔ ((state : State) (choice : Choice) → state .0 < 2 ^ G → choice .0 < 2 ^ U
+      → valueAt U G t (flippedState U S state) (flippedChoice U S choice) ≡ valueAt U G t state choice)
+  unfolding valueAt
+  derivative-nowhere t S h = (
+    λ e state choice hs hc. ap digit (ap (at t) (sym (ring.flipped-point U G S state choice h hs hc))
+        ∙ derivative-empty t S .0 e (point U state choice) (point-lt U G state choice hs hc)),
+    λ same. derivative-empty t S .1 (λ p l.
+        let q = parts U G p l in
+        ap (λ (x : ℕ). at t (flipped (U + G) S x)) (sym (q .whole))
+        ∙ ap (at t) (ring.flipped-point U G S (q .state) (q .choice) h (q .state-fits) (q .choice-fits))
+        ∙ same-digit _ _ (same (q .state) (q .choice) (q .state-fits) (q .choice-fits)) ∙ ap (at t) (q .whole)),
+  )
+    where
+      same-digit : (a b : Bool) → digit a ≡ digit b → a ≡ b
+      same-digit true true e = refl
+      same-digit true false e = absurd (omega arith)
+      same-digit false true e = absurd (omega arith)
+      same-digit false false e = refl
 
   -- 'For an empty S it is empty'
   pub derivative-of-none : (t : List ℕ) → derivativeTable U G t 0 ≡ replicate (2 ^ (U + G)) 0

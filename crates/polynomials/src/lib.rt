@@ -81,7 +81,7 @@ fn derive_with(
     words::put_table(n, values, out);
 }
 
-// The derivative of a table by the letters of the mask s: at each point its value and that at the flipped point. The scratch words live here.
+// The derivative of a table by the letters of the mask s: at each point its value plus that at the flipped point. The scratch words live here.
 pub fn derive(n: usize, t: &[u8], s: usize, out: &mut [u8])
     requires { ⌜ (n ≤ 10) × IsTable n (now t) × (s < 2 ^ n) × (length (now out) ≡ 2 ^ n) ⌝ }
     ensures { λ _. ⌜ now (out .exit) ≡ table n (derivative n s (present (now (t .entry)))) ⌝ }

@@ -8,7 +8,7 @@ use mathlib.Core.List.{[], _∷_}
 use Prim.Native.Nat.{ℕ, _+_, _-_, _/_, _%_, _^_, _≤_, _<_}
 use native.Mathlib.Nat.{add-comm, mod-lt}
 use native.Mathlib.Omega.{arith}
-use lib.Bits.{bitXor, xor-lt}
+use lib.Bits.{xor-lt}
 use lib.Dec.{eqb, ltb}
 use lib.Pow.{pow-pos, pow-mono, shr-lt, split}
 use borrow.Author.Tests.{eqb-true, eqb-false, ltb-true, ltb-false}
@@ -17,7 +17,7 @@ use Rattle.ring.specs.declared.Choice.{Choice}
 use Rattle.ring.specs.Letters.{bit, point, pointWhere, assign}
 use Rattle.ring.specs.Polynomial.{Polynomial, _⊕_, count, odd, value, constant, letter, sum, product, restrict, monomial, substitute}
 use Rattle.ring.specs.Table.{tabulate, table}
-use Rattle.ring.specs.Derivative.{inverted, derivative, flipped}
+use Rattle.ring.specs.Derivative.{inverted, derivative, flipped, flippedState, flippedChoice}
 use Rattle.ring.proofs.Bool.{xor-self, xor-comm, xor-false, ac}
 use Rattle.ring.proofs.Points.{bit-none, assign-bit, bit-assign, bit-assign-other, assign-lt, assign-set, pointWhere-cong, pointWhere-bits}
 use Rattle.ring.proofs.Points.{pointWhere-lt, bit-pointWhere, same-letters, bit-low, bit-high, bit-choice, bit-state, point-lt}
@@ -82,19 +82,19 @@ flipped-letter n j p h l =
         ∙ sym (ap (bit (assign p j (not (bit p j)))) q ∙ bit-assign p j (not (bit p j)))
     go i false e = xor-false (bit p i) ∙ sym (bit-assign-other p i j (not (bit p j)) (eqb-false i j e))
 
--- 'bits as in a monomial': bit j of S flips unknown j, which is the choice's bit j, and bit U + i flips given i, which is the state's bit i
+-- 'bits as in a monomial': the flipped point is that of the flipped state and the flipped choice
 pub flipped-point : (U G S : ℕ) (state : State) (choice : Choice) → S < 2 ^ (U + G) → state .0 < 2 ^ G → choice .0 < 2 ^ U
-    → flipped (U + G) S (point U state choice)
-    ≡ point U (record { 0 = bitXor (state .0) (S / 2 ^ U) }) (record { 0 = bitXor (choice .0) (S % 2 ^ U) })
+    → flipped (U + G) S (point U state choice) ≡ point U (flippedState U S state) (flippedChoice U S choice)
+unfolding flippedState flippedChoice
 flipped-point U G S state choice hS hs hc =
     same-letters (U + G) _ _ (flipped-lt (U + G) S (point U state choice)) (point-lt U G state′ choice′ (xor-lt G _ _ hs high-lt) low-flipped)
     (λ i l. bit-flipped (U + G) S (point U state choice) i l ∙ go i (ltb i U) refl)
   where
     state′ : State
-    state′ = record { 0 = bitXor (state .0) (S / 2 ^ U) }
+    state′ = flippedState U S state
 
     choice′ : Choice
-    choice′ = record { 0 = bitXor (choice .0) (S % 2 ^ U) }
+    choice′ = flippedChoice U S choice
 
     low-lt : S % 2 ^ U < 2 ^ U
     low-lt = mod-lt S (pow-pos U)

@@ -446,7 +446,7 @@ fn turn_in(words: &mut [u64], x: usize)
     }
 }
 
-// f with the letters of a mask flipped, of which `high` has those beyond six: whole words change places.
+// f with letters beyond six flipped, letter 6 + j for each bit j of `high`: whole words change places.
 fn flip_high(f: &[u64], high: usize, c: usize, out: &mut [u64])
     requires { ⌜ (high < 2 ^ c) × (length (now f) ≡ 2 ^ c) × (length (now out) ≡ 2 ^ c) ⌝ }
     ensures { λ _. ⌜ now (out .exit) ≡ wordsOf (2 ^ c) (λ p. bitAt (now (f .entry)) (flipped (6 + c) (high * 64) p)) ⌝ }
