@@ -115,6 +115,12 @@ pub order-asked : (firstNo (solvingQuestions 7 0 noOrder [] 0) ≡ 1)
 unfolding firstNo solvingQuestions writeQuestions lettersFit routeFits orderFits times everyBelow
 order-asked = (refl, refl, refl, refl)
 
+-- 9 is asked last: of the table 1 with a byte above 1 behind it, which has no solution
+pub solution-asked : (firstNo (solvingQuestions 1 0 (0 ∷ 255 ∷ 255 ∷ 255 ∷ 255 ∷ 255 ∷ []) (1 ∷ 2 ∷ []) 2) ≡ 8)
+    × (firstNo (solvingQuestions 1 0 (0 ∷ 255 ∷ 255 ∷ 255 ∷ 255 ∷ 255 ∷ []) (1 ∷ 0 ∷ []) 2) ≡ 9)
+unfolding firstNo solvingQuestions lettersFit orderFits times everyBelow bufferQuestions roomQuestions bitQuestions hasRoom holdsBits areBits solvable isZero remains nextCondition product restrict odd count bit present
+solution-asked = (refl, refl)
+
 -- sessions over one unknown: 1 before the session's own 8, that before 4 of an added table and before 18, and 18 before 19
 pub session-asked : (firstNo (addQuestions 7 0 ((2 ∷ 0 ∷ []) ∷ []) []) ≡ 1)
     × (firstNo (addQuestions 1 0 ((0 ∷ 0 ∷ []) ∷ (0 ∷ 2 ∷ []) ∷ []) []) ≡ 8)
