@@ -3,5 +3,6 @@ pub mod Letters
 pub mod Relation
 pub mod Order
 pub mod Places
-pub mod Steps
+pub mod Skip
 pub mod Listing
+pub mod Examples

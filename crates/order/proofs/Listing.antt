@@ -1,14 +1,13 @@
 -- Masks listed one behind another, each that passes a test: every mask is stored, and the place moves on behind those that pass.
--- One invariant, `Listing`, for the loop that skips masks that are too large and for the one that lists a table's monomials.
+-- `Listing` is the invariant of the loop that lists a table's monomials.
 -- Assumes nothing.
 use mathlib.Core.Path.{_≡_, refl, sym, ap, _∙_}
 use mathlib.Core.Bool.{Bool, true, false, cond}
 use mathlib.Core.List.{List, [], _∷_, _++_, append-assoc, append-nil}
 use Prim.Native.Nat.{ℕ, _+_, _-_, _*_, _^_, _≤_, _<_}
-use native.Mathlib.Nat.{add-zero, zero-add}
+use native.Mathlib.Nat.{add-zero}
 use native.Mathlib.Numerals.{add-one}
 use native.Mathlib.Omega.{arith}
-use lib.Dec.{ltb}
 use lib.ListN.{length, getD, set, take, length-append, length-set, length-map}
 use lib.Seq.{take-suc, take-all, take-suc-set, take-set-le}
 use Rattle.ring.specs.Letters.{digit}
@@ -17,7 +16,7 @@ use Rattle.words.proofs.Letters.{room}
 use Rattle.order.specs.Order.{keep, order, monomials}
 use Rattle.order.specs.Inner.Listing.{tagged, Listed}
 use Rattle.order.proofs.Lists.{keep-append}
-use Rattle.order.proofs.Order.{length-order, order-below, order-fewer}
+use Rattle.order.proofs.Order.{length-order, order-below}
 
 tagged-append : (tag : ℕ) (ms ks : List ℕ) → tagged tag (ms ++ ks) ≡ tagged tag ms ++ tagged tag ks
 unfolding tagged
@@ -27,11 +26,6 @@ tagged-append tag (m ∷ ms) ks = ap (λ (l : List ℕ). (tag + m) ∷ l) (tagge
 pub length-tagged : (tag : ℕ) (ms : List ℕ) → length (tagged tag ms) ≡ length ms
 unfolding tagged
 length-tagged tag ms = length-map ms (λ m. tag + m)
-
-tagged-zero : (ms : List ℕ) → tagged 0 ms ≡ ms
-unfolding tagged
-tagged-zero [] = refl
-tagged-zero (m ∷ ms) = rw zero-add (ap (λ (l : List ℕ). m ∷ l) (tagged-zero ms))
 
 -- what the first p masks of the list leave: those that pass, tagged
 unfoldable pub kept : (ℕ → Bool) → ℕ → List ℕ → ℕ → List ℕ
@@ -67,7 +61,7 @@ kept-next f tag masks p l =
     ∙ tagged-append tag (keep f (take p masks)) (keep f (getD masks p 0 ∷ []))
     ∙ ap (λ (l : List ℕ). kept f tag masks p ++ l) (one-kept f tag (getD masks p 0))
 
--- what the loops keep: those of the first p masks that pass are listed
+-- what the loop keeps: those of the first p masks that pass are listed
 pub record Listing (f : ℕ → Bool) (tag : ℕ) (masks old : List ℕ) (from p at : ℕ) (new : List ℕ) : Type 0 where
   pub turn : p ≤ length masks
   pub room : from + length masks ≤ length old
@@ -126,20 +120,11 @@ module _ {f : ℕ → Bool} {tag : ℕ} {masks old : List ℕ} {from p at : ℕ}
         long = w .long;
       }
 
--- ---- the two loops
+-- ---- the masks of the order
 pub listed-monomials : (n tag : ℕ) (f : Polynomial) {masks old new : List ℕ} {from r : ℕ} → masks ≡ order n
     → Listed old from (tagged tag (keep f masks)) r new → Listed old from (tagged tag (monomials n f)) r new
 unfolding monomials
 listed-monomials n tag f e w = rw e at w
-
--- the masks for n letters, from the front of the buffer on
-pub listed-order : (n o : ℕ) {masks old new : List ℕ} {r : ℕ} → n ≤ o → masks ≡ order o
-    → Listed old 0 (tagged 0 (keep (λ m. ltb m (2 ^ n)) masks)) r new → take (2 ^ n) new ≡ order n
-listed-order n o {masks} {old} {new} {r} h e w =
-    let is : tagged 0 (keep (λ m. ltb m (2 ^ n)) masks) ≡ order n = tagged-zero (keep (λ m. ltb m (2 ^ n)) masks)
-    ∙ ap (keep (λ m. ltb m (2 ^ n))) e ∙ order-fewer n o h in
-    let size : r ≡ 2 ^ n = w .place ∙ zero-add _ ∙ ap length is ∙ length-order n in
-    ap (λ (k : ℕ). take k new) (sym size) ∙ w .front ∙ is
 
 -- a mask of the order, as the words have it
 pub mask-place : (n p : ℕ) {masks : List ℕ} {m : ℕ} → masks ≡ order n → p < length masks → m ≡ getD masks p 0 → m < 2 ^ n

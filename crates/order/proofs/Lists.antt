@@ -1,17 +1,19 @@
 -- The laws of `keep`, `below` and `has`, the lists that the written order is made of.
 -- Assumes nothing.
-use mathlib.Core.Path.{_≡_, refl, sym, ap, _∙_}
+use mathlib.Core.Path.{_≡_, refl, sym, ap, ap₂, _∙_}
 use mathlib.Core.Bool.{Bool, true, false, cond, _&&_, _||_, and-false}
 use mathlib.Core.List.{List, [], _∷_, _++_}
 use mathlib.Core.Logic.{_⊎_, inl, inr}
-use Prim.Native.Nat.{ℕ, suc, _≤_, _<_}
+use Prim.Native.Nat.{ℕ, zero, suc, _+_, _≤_, _<_}
 use native.Mathlib.Omega.{arith}
 use lib.Dec.{eqb, ltb}
-use lib.ListN.{length}
+use lib.ListN.{length, length-append}
 use borrow.Author.Tests.{lt-ltb, ltb-true, eqb-true, eqb-false, eq-eqb}
 use Rattle.ring.proofs.Bool.{bool-iff, or-cases, or-right, bool-cases}
 use Rattle.ring.proofs.Lists.{length-listed, listed-last, has-numbers}
+use Rattle.ring.specs.Letters.{digit}
 use Rattle.ring.specs.Lists.{listed, has}
+use Rattle.ring.specs.Polynomial.{count}
 use Rattle.order.specs.Order.{keep, below}
 
 pub ltb-suc : (m k : ℕ) → ltb m (suc k) ≡ (ltb m k || eqb m k)
@@ -44,6 +46,14 @@ unfolding keep has
 keep-every t [] h = refl
 keep-every t (x ∷ xs) h =
     let r : keep t xs ≡ xs = keep-every t xs (λ m i. h m (or-right (eqb m x) i)) in
+    rw (h x (rw (eq-eqb x x refl)), r)
+
+-- two tests that agree on the list
+pub keep-same : (t u : ℕ → Bool) (xs : List ℕ) → ((m : ℕ) → has m xs ≡ true → t m ≡ u m) → keep t xs ≡ keep u xs
+unfolding keep has
+keep-same t u [] h = refl
+keep-same t u (x ∷ xs) h =
+    let r : keep t xs ≡ keep u xs = keep-same t u xs (λ m i. h m (or-right (eqb m x) i)) in
     rw (h x (rw (eq-eqb x x refl)), r)
 
 -- nothing passes
@@ -84,6 +94,17 @@ below-none = refl
 pub below-last : (k : ℕ) → below (suc k) ≡ below k ++ (k ∷ [])
 unfolding below
 below-last k = listed-last k (λ i. i)
+
+-- how many numbers below b pass
+pub count-below : (t : ℕ → Bool) (b : ℕ) → length (keep t (below b)) ≡ count b t
+unfolding count keep
+count-below t zero = rw below-none
+count-below t (suc b) =
+    rw (below-last b, keep-append t (below b) (b ∷ []), length-append) (ap₂ _+_ (count-below t b) (one (t b)))
+  where
+    one : (c : Bool) → length (cond c (b ∷ []) []) ≡ digit c
+    one true = refl
+    one false = refl
 
 -- ---- has
 pub has-keep : (t : ℕ → Bool) (m : ℕ) (xs : List ℕ) → has m (keep t xs) ≡ (t m && has m xs)

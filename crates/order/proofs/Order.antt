@@ -4,19 +4,21 @@
 -- Assumes nothing.
 use mathlib.Core.Path.{_≡_, refl, sym, ap, ap₂, _∙_}
 use mathlib.Core.Bool.{Bool, true, false, cond, _&&_, _||_, and-false, or-false, and-or-distrib-right}
-use mathlib.Core.List.{List, [], _∷_, _++_, append-nil}
+use mathlib.Core.List.{List, [], _∷_, _++_, append-nil, append-assoc}
 use mathlib.Core.Logic.{_⊎_, inl, inr}
-use Prim.Native.Nat.{ℕ, zero, suc, _+_, _^_, _≤_, _<_}
+use Prim.Native.Nat.{ℕ, zero, suc, _+_, _-_, _^_, _≤_, _<_}
 use native.Mathlib.Omega.{arith}
 use lib.Dec.{eqb, ltb}
-use lib.ListN.{length, getD, length-append}
+use lib.ListN.{length, getD, length-append, List·getD-append}
+use lib.Seq.{getD-append-add}
 use lib.Pow.{pow-mono}
-use borrow.Author.Tests.{lt-ltb, le-ltb, ltb-true, eqb-true}
+use borrow.Author.Tests.{lt-ltb, le-ltb, ltb-true, eqb-true, eqb-false}
 use Rattle.ring.specs.Polynomial.{Polynomial}
 use Rattle.ring.specs.Lists.{has}
 use Rattle.ring.proofs.Bool.{bool-iff, and-left, and-right, both, or-cases, bool-cases, never}
 use Rattle.ring.proofs.Lists.{has-append, has-cases, has-first, has-place, has-rest}
 use Rattle.order.specs.Order.{letters, before, keep, below, groups, order, monomials, rises}
+use Rattle.order.specs.Inner.Place.{start}
 use Rattle.order.proofs.Lists.{keep-append, keep-none, keep-every, keep-all, length-below, below-none, below-last, ltb-suc}
 use Rattle.order.proofs.Lists.{has-keep, has-below}
 use Rattle.order.proofs.Letters.{letters-most}
@@ -205,6 +207,62 @@ length-order n = length-groups n (suc n) ∙ ap length (keep-every (λ m. ltb (l
   where
     few : (m : ℕ) → has m (below (2 ^ n)) ≡ true → ltb (letters m) (suc n) ≡ true
     few m i = lt-ltb (letters m) (suc n) (omega (arith, letters-most n m (ltb-true m (2 ^ n) (sym (has-below m (2 ^ n)) ∙ i))))
+
+-- ---- where the masks with so many letters begin
+pub start-count : (n k : ℕ) → start n k ≡ length (keep (λ m. ltb (letters m) k) (below (2 ^ n)))
+unfolding start
+start-count n k = length-groups n k
+
+-- behind the masks that have fewer than k letters come those that have k or more
+groups-split : (n k o : ℕ) → k ≤ o → (rest : List ℕ) × (groups n o ≡ groups n k ++ rest) × ((m : ℕ) → has m rest ≡ true → k ≤ letters m)
+unfolding groups group has
+groups-split n k zero l = let e : k ≡ 0 = omega arith in ([], rw e, λ m i. never i refl)
+groups-split n k (suc o) l = go (groups-split n k o) (bool-cases (eqb k (suc o)))
+  where
+    more : (m : ℕ) → k ≤ o → {b : Bool} → (b ≡ true → k ≤ letters m) → (b ≡ true) ⊎ (has m (group (2 ^ n) o) ≡ true) → k ≤ letters m
+    more m h f (inl i) = f i
+    more m h f (inr i) = omega (arith, in-group (2 ^ n) o m i .0)
+
+    go : (k ≤ o → (rest : List ℕ) × (groups n o ≡ groups n k ++ rest) × ((m : ℕ) → has m rest ≡ true → k ≤ letters m))
+        → (eqb k (suc o) ≡ true) ⊎ (eqb k (suc o) ≡ false)
+        → (rest : List ℕ) × (groups n (suc o) ≡ groups n k ++ rest) × ((m : ℕ) → has m rest ≡ true → k ≤ letters m)
+    go ih (inl e) = let q : k ≡ suc o = eqb-true k (suc o) e in ([], rw q (sym (append-nil (groups n (suc o)))), λ m i. never i refl)
+    go ih (inr e) =
+        let h : k ≤ o = omega (arith, eqb-false k (suc o) e) in
+        let s = ih h in
+        let last : List ℕ = group (2 ^ n) o in (
+          s .0 ++ last,
+          ap (λ (l : List ℕ). l ++ last) (s .1) ∙ append-assoc (groups n k) (s .0) last,
+          λ m i. more m h (s .2 m) (or-cases (has m (s .0)) (has m last) (sym (has-append m (s .0) last) ∙ i)),
+        )
+
+module _ (n k : ℕ) (l : k ≤ suc n) where
+  split : (rest : List ℕ) × (order n ≡ groups n k ++ rest) × ((m : ℕ) → has m rest ≡ true → k ≤ letters m)
+  unfolding order
+  split = groups-split n k (suc n) l
+
+  pub start-within : start n k ≤ 2 ^ n
+  unfolding start
+  start-within = omega (arith, ap length (split .1), length-append (groups n k) (split .0), length-order n)
+
+  pub start-fewer : (i : ℕ) → i < start n k → letters (getD (order n) i 0) < k
+  unfolding start
+  start-fewer i h =
+      let e : getD (order n) i 0 ≡ getD (groups n k) i 0 =
+      ap (λ (x : List ℕ). getD x i 0) (split .1) ∙ List·getD-append (groups n k) (split .0) 0 i h in
+      let g : (ltb (letters (getD (groups n k) i 0)) k && ltb (getD (groups n k) i 0) (2 ^ n)) ≡ true =
+      sym (has-groups n k (getD (groups n k) i 0)) ∙ has-place (groups n k) i h in
+      rw e (ltb-true _ _ (and-left _ (ltb (getD (groups n k) i 0) (2 ^ n)) g))
+
+  pub start-more : (i : ℕ) → start n k ≤ i → i < 2 ^ n → k ≤ letters (getD (order n) i 0)
+  unfolding start
+  start-more i h b =
+      let j : ℕ = i - start n k in
+      let q : i ≡ length (groups n k) + j = omega arith in
+      let e : getD (order n) i 0 ≡ getD (split .0) j 0 =
+      ap₂ (λ (x : List ℕ) (y : ℕ). getD x y 0) (split .1) q ∙ getD-append-add (groups n k) (split .0) j 0 in
+      let s : j < length (split .0) = omega (arith, ap length (split .1), length-append (groups n k) (split .0), length-order n) in
+      rw e (split .2 _ (has-place (split .0) j s))
 
 -- what stands at a place is a mask for n letters
 pub order-below : (n p : ℕ) → p < 2 ^ n → getD (order n) p 0 < 2 ^ n

@@ -1,89 +1,25 @@
 // The written order of monomials: fewer letters first and, among equals, the smaller mask.
-// Callers take the order from `fill_order`, or out of a longer one by `skip_large`, and list a table's monomials by
-// `list_monomials`; `rank_of` puts two masks in order, by the table that `letter_counts` gives. Nothing here is a public call of the
-// library: what these functions require, callers within it meet.
+// It stands in a constant table, `masks::ORDER`. Callers take it from there by `fill_order` and list a table's monomials by
+// `list_monomials`; `rank_of` puts two masks in order, by the table that `letter_counts` gives. Nothing here is a public
+// call of the library: what these functions require, callers within it meet.
+mod masks;
+
 ghost use mathlib.Core.Path.{_≡_};
 ghost use mathlib.Core.List.{_++_};
 ghost use Prim.Native.Nat.{_+_, _-_, _^_, _≤_, _<_};
-ghost use lib.ListN.{length, take, drop};
+ghost use lib.ListN.{length, getD, drop};
 ghost use Rattle.ring.specs.Letters.{digit};
 ghost use Rattle.words.specs.Inner.Words.{bitAt};
 ghost use Rattle.order.specs.Order.{letters, order, monomials};
-ghost use Rattle.order.specs.Inner.Place.{AreCounts, AreLetters, choose, nth, rank};
+ghost use Rattle.order.specs.Inner.Place.{AreLetters, start, rank};
 ghost use Rattle.order.specs.Inner.Listing.{tagged, Listed};
-
-// How many masks for n letters have k: row n, entry k.
-const COUNTS: [[u8; 11]; 11] = [
-    [1, 0, 0, 0, 0, 0, 0, 0, 0, 0, 0],
-    [1, 1, 0, 0, 0, 0, 0, 0, 0, 0, 0],
-    [1, 2, 1, 0, 0, 0, 0, 0, 0, 0, 0],
-    [1, 3, 3, 1, 0, 0, 0, 0, 0, 0, 0],
-    [1, 4, 6, 4, 1, 0, 0, 0, 0, 0, 0],
-    [1, 5, 10, 10, 5, 1, 0, 0, 0, 0, 0],
-    [1, 6, 15, 20, 15, 6, 1, 0, 0, 0, 0],
-    [1, 7, 21, 35, 35, 21, 7, 1, 0, 0, 0],
-    [1, 8, 28, 56, 70, 56, 28, 8, 1, 0, 0],
-    [1, 9, 36, 84, 126, 126, 84, 36, 9, 1, 0],
-    [1, 10, 45, 120, 210, 252, 210, 120, 45, 10, 1],
-];
+use masks::ORDER;
 
 // The cast in one place, where a byte is known to fit.
 fn wide(x: u8) -> usize
     ensures { λ r. ⌜ r ≡ x ⌝ }
 {
     x as usize
-}
-
-fn count_masks(counts: &[[u8; 11]; 11], n: usize, k: usize) -> usize
-    requires { ⌜ (AreCounts (now counts)) × (n ≤ 10) × (k ≤ 10) ⌝ }
-    ensures { λ r. ⌜ r ≡ choose n k ⌝ }
-{
-    wide(counts[n][k])
-}
-
-// The mask at a place of the ten-letter order, from counts of letters: number r of those that have k. From the last letter down, the masks
-// without it come first; once none comes before, the letters left are the first ones.
-fn mask_at(counts: &[[u8; 11]; 11], k: usize, r: usize) -> usize
-    requires { ⌜ (AreCounts (now counts)) × (k ≤ 10) × (r < choose 10 k) ⌝ }
-    ensures { λ m. ⌜ m ≡ nth 10 k r ⌝ }
-{
-    let mut m = 0;
-    let mut left = k;
-    let mut rest = r;
-    let mut n = 10;
-    while 0 < rest {
-        n -= 1;
-        let without = count_masks(counts, n, left);
-        if without <= rest {
-            m += tables::pow2(n);
-            rest -= without;
-            left -= 1;
-        }
-    }
-    m + (tables::pow2(left) - 1)
-}
-
-// The masks for n letters, in written order, at the front of a buffer. Those of the ten-letter order that are too large are skipped:
-// among the masks with k letters they come last.
-pub fn fill_order(n: usize, out: &mut [u16])
-    requires { ⌜ (n ≤ 10) × (2 ^ n ≤ length (now out)) ⌝ }
-    ensures { λ r. ⌜ now (out .exit) ≡ order n ++ drop (2 ^ n) (now (out .entry)) ⌝ }
-{
-    // Copied once and lent on: a constant is laid out anew wherever it is read.
-    let counts = COUNTS;
-    let mut at = 0;
-    let mut k = 0;
-    let mut r = 0;
-    while k <= n {
-        if r < count_masks(&counts, n, k) {
-            out[at] = mask_at(&counts, k, r) as u16;
-            at += 1;
-            r += 1;
-        } else {
-            k += 1;
-            r = 0;
-        }
-    }
 }
 
 fn wide_mask(x: u16) -> usize
@@ -98,19 +34,65 @@ fn one_if(yes: bool) -> usize
     if yes { 1 } else { 0 }
 }
 
-// The masks for n letters out of those for ten: 'smaller n skips masks that are too large'. A mask is stored and then passed or not,
-// so that nothing branches on it; the buffer has room for one behind the last.
-pub fn skip_large(n: usize, masks: &[u16], out: &mut [u16])
-    requires { ⌜ (n ≤ 10) × (now masks ≡ order 10) × (length (now out) ≡ 1024) ⌝ }
-    ensures { λ _. ⌜ take (2 ^ n) (now (out .exit)) ≡ order n ⌝ }
+// The mask at a place of the written order for ten letters. The table is lent: a constant is laid out anew wherever it is read.
+fn mask_at(masks: &[u16; 1024], p: usize) -> usize
+    requires { ⌜ (now masks ≡ order 10) × (p < 1024) ⌝ }
+    ensures { λ m. ⌜ m ≡ getD (order 10) p 0 ⌝ }
 {
-    let k = tables::pow2(n);
-    let mut at = 0;
-    for p in 0..masks.len() {
-        let m = wide_mask(masks[p]);
-        out[at] = m as u16;
-        at += one_if(m < k);
+    wide_mask(masks[p])
+}
+
+// The place at which the masks that have a letter more than m begin.
+fn next_start(m: usize) -> usize
+    requires { ⌜ m < 1024 ⌝ }
+    ensures { λ r. ⌜ r ≡ start 10 (letters m + 1) ⌝ }
+{
+    let starts = STARTS;
+    let counts = letter_counts();
+    wide_mask(starts[count_letters(&counts, m) + 1])
+}
+
+fn copy_order(masks: &[u16; 1024], out: &mut [u16])
+    requires { ⌜ (now masks ≡ order 10) × (1024 ≤ length (now out)) ⌝ }
+    ensures { λ _. ⌜ now (out .exit) ≡ order 10 ++ drop 1024 (now (out .entry)) ⌝ }
+{
+    for p in 0..1024 {
+        out[p] = mask_at(masks, p) as u16;
     }
+}
+
+// 'Smaller n skips the masks that are too large': from the first of these on, all that have as many letters are, so that few letters
+// come to few places.
+fn skip_large(n: usize, masks: &[u16; 1024], out: &mut [u16])
+    requires { ⌜ (n ≤ 10) × (now masks ≡ order 10) × (2 ^ n ≤ length (now out)) ⌝ }
+    ensures { λ _. ⌜ now (out .exit) ≡ order n ++ drop (2 ^ n) (now (out .entry)) ⌝ }
+{
+    if n == 10 {
+        copy_order(masks, out);
+        return;
+    }
+    let size = tables::pow2(n);
+    let mut at = 0;
+    let mut p = 0;
+    while at < size {
+        let m = mask_at(masks, p);
+        if m < size {
+            out[at] = m as u16;
+            at += 1;
+            p += 1;
+        } else {
+            p = next_start(m);
+        }
+    }
+}
+
+// The masks for n letters, in written order, at the front of a buffer.
+pub fn fill_order(n: usize, out: &mut [u16])
+    requires { ⌜ (n ≤ 10) × (2 ^ n ≤ length (now out)) ⌝ }
+    ensures { λ _. ⌜ now (out .exit) ≡ order n ++ drop (2 ^ n) (now (out .entry)) ⌝ }
+{
+    let masks = ORDER;
+    skip_large(n, &masks, out);
 }
 
 // The monomials of the coefficients in `words`, in written order, each with `tag` added, from the place `from` of the buffer on.
@@ -136,6 +118,9 @@ pub fn list_monomials(
     }
     at
 }
+
+// Where the masks that have so many letters begin in that order; behind them, its end.
+const STARTS: [u16; 12] = [0, 1, 11, 56, 176, 386, 638, 848, 968, 1013, 1023, 1024];
 
 // How many letters each mask below 32 has.
 const LETTERS: [u8; 32] = [

@@ -253,9 +253,6 @@ module _ (route U G : ℕ) (t : List ℕ) {found : Listing} {codes : List ℕ} (
       )
 
 -- ---- the written order
-pub few-are : (n : ℕ) {k : ℕ} (few : List ℕ) → k ≡ 2 ^ n → take (2 ^ n) few ≡ order n → take k few ≡ order n
-few-are n few ek e = rw ek e
-
 -- all of a buffer
 pub filled-order : (o : ℕ) {new : List ℕ} (rest : List ℕ) → length new ≡ 2 ^ o → new ≡ order o ++ rest → new ≡ order o
 filled-order o {new} rest h e = sym (take-all (2 ^ o) new (omega arith)) ∙ masks-ordered o rest refl e

@@ -252,7 +252,7 @@ fn put_values(
     put_found(out, at, route, u, g, found, codes)
 }
 
-// The same by the written order for ten letters: 'smaller n skips masks that are too large'.
+// The same; `masks` has the written order for ten letters.
 fn put_entry(
     out: &mut [u8],
     at: usize,
@@ -285,7 +285,7 @@ fn put_entry(
     }
     let all = tables::pow2(u + g);
     let mut few = [0u16; 1024];
-    order::skip_large(u + g, masks, &mut few);
+    order::fill_order(u + g, &mut few);
     put_values(
         out,
         at,

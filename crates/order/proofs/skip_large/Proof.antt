@@ -1,92 +1,89 @@
--- The invariant: those of the first p masks that are small enough are listed. The measure is the number of masks that are left.
--- Assumes nothing.
-use mathlib.Core.Path.{ap, sym}
-use native.Mathlib.Nat.{zero-add}
-use Prim.Native.Nat.{_-_}
+-- `order::skip_large` meets its contract. The loop's invariant, `Walked`: the buffer begins with the masks of the first p places that are
+-- small enough, and goes on as it was. The measure is the number of places that are left. Assumes nothing.
+use mathlib.Core.Path.{sym, ap, _∙_}
+use mathlib.Core.List.{_++_}
+use Prim.Native.Nat.{ℕ, _-_, _^_}
 use native.Mathlib.Omega.{arith}
 use borrow.Author.Needs.{needs}
-use lib.Dec.{ltb}
-use lib.ListN.{length}
-use Rattle.order.proofs.Order.{length-order}
-use Rattle.order.proofs.Listing.{Listing, listing-start, listing-room, listing-more, listing-end, listed-order, mask-place}
+use lib.ListN.{drop}
+use lib.Pow.{pow-mono}
+use Rattle.order.specs.Order.{order}
+use Rattle.order.proofs.Skip.{Walked, walk-start, walk-inside, walk-room, walk-mask, walk-put, walk-skip, walk-end}
 use Rattle.order.proofs.skip_large.Statement.{statement}
 use Rattle.order.proofs.skip_large.Tie as tie
 
 abbrev Inv-loop : tie.InvT-loop
-Inv-loop n masks out₀ k at₀ p₀ p-end out at p = Listing (λ m. ltb m k) 0 masks out₀ 0 p at out
+Inv-loop n masks out₀ size at₀ p₀ out at p = Walked n size out₀ out at p
 
 abbrev μ-loop : tie.MeasureT-loop
-μ-loop n masks out₀ k at₀ p₀ p-end out at p = length masks - p
+μ-loop n masks out₀ size at₀ p₀ out at p = 1024 - p
+
+copy-order-requires : tie.Need-copy-order-requires Inv-loop μ-loop
+copy-order-requires c κs = (search needs, rw (c .before .if1 .taken) at (c .before .before .before .pre .2))
+
+same-length : tie.Need-same-length Inv-loop μ-loop
+same-length c = search needs
+
+returns : tie.Need-returns Inv-loop μ-loop
+returns c =
+    let whole = c .before .before .before .before in
+    let out = whole .before .before .args .out .now in
+    c .before .before .copy-order .ensures ∙ ap (λ (k : ℕ). order k ++ drop (2 ^ k) out) (sym (whole .if1 .taken))
 
 pow2-requires : tie.Need-pow2-requires Inv-loop μ-loop
 pow2-requires c κs = search needs
 
 loop-holds : tie.Need-loop-holds Inv-loop μ-loop
-loop-holds c =
-    listing-start _ _ _ _ _
-    (omega (arith, ap length ((c .before .before .before .pre) .1), length-order 10, (c .before .before .before .pre) .2))
+loop-holds c = search walk-start
 
-mul-wide-mask : tie.Need-mul-wide-mask Inv-loop μ-loop
-mul-wide-mask c = search needs
-
-shared-slice-read-wide-mask : tie.Need-shared-slice-read-wide-mask Inv-loop μ-loop
-shared-slice-read-wide-mask c = search needs
-
-wide-mask-requires : tie.Need-wide-mask-requires Inv-loop μ-loop
-wide-mask-requires c κs = search needs
+mask-at-requires : tie.Need-mask-at-requires Inv-loop μ-loop
+mask-at-requires c κs = (search needs, search walk-inside)
 
 cast-out : tie.Need-cast-out Inv-loop μ-loop
 cast-out c =
-    omega (
-      arith,
-      mask-place 10 _ ((c .before .before .before .before .before .before .before .pre) .1)
-          ((c .before .before .loop-test) .taken) ((c .wide-mask) .ensures),
-    )
+    let turn = c .before .before in
+    omega (arith, walk-mask (turn .before .loop .inv) (turn .loop-test .taken) (c .before .mask-at .ensures))
 
 mul-out : tie.Need-mul-out Inv-loop μ-loop
-mul-out c =
-    omega (
-      arith,
-      listing-room ((c .before .before .before .loop) .inv)
-          ((c .before .before .loop-test) .taken),
-      ((c .before .before .before .loop) .inv) .long,
-      (c .before .before .before .before .before .before .before .pre) .2,
-    )
+mul-out c = let i = c .before .before .before .loop .inv in omega (arith, i .sized, pow-mono (i .few))
 
 slice-write-out : tie.Need-slice-write-out Inv-loop μ-loop
-slice-write-out c = listing-room ((c .before .before .before .loop) .inv) ((c .before .before .loop-test) .taken)
-
-one-if-requires : tie.Need-one-if-requires Inv-loop μ-loop
-one-if-requires c κs = search needs
+slice-write-out c = search walk-room
 
 add-at : tie.Need-add-at Inv-loop μ-loop
-add-at c =
-    omega (
-      arith,
-      listing-more ((c .before .before .before .before .loop) .inv) ((c .before .before .before .loop-test) .taken)
-          ((c .before .wide-mask) .ensures) (sym (zero-add _))
-          ((c .one-if) .ensures) .most,
-      ((c .before .before .before .before .loop) .inv) .room,
-    )
+add-at c = let i = c .before .before .before .loop .inv in omega (arith, i .sized, pow-mono (i .few))
 
 add-p : tie.Need-add-p Inv-loop μ-loop
-add-p c = search needs
+add-p c = omega (arith, walk-inside (c .before .before .before .loop .inv) (c .before .before .loop-test .taken))
 
 loop-less : tie.Need-loop-less Inv-loop μ-loop
-loop-less c = search needs
+loop-less c = omega (arith, walk-inside (c .before .before .before .loop .inv) (c .before .before .loop-test .taken))
 
 loop-again : tie.Need-loop-again Inv-loop μ-loop
-loop-again c =
-    listing-more ((c .before .before .before .before .loop) .inv) ((c .before .before .before .loop-test) .taken)
-    ((c .before .wide-mask) .ensures) (sym (zero-add _)) ((c .one-if) .ensures)
+loop-again c = search walk-put
 
-same-length : tie.Need-same-length Inv-loop μ-loop
-same-length c = (c .before .loop) .inv .long
+next-start-requires : tie.Need-next-start-requires Inv-loop μ-loop
+next-start-requires c κs = search walk-mask
 
-returns : tie.Need-returns Inv-loop μ-loop
-returns c =
-    listed-order _ 10 ((c .before .before .before .before .before .pre) .0) ((c .before .before .before .before .before .pre) .1)
-    (rw ((c .before .before .pow2) .ensures) at (listing-end ((c .before .loop) .inv) ((c .loop-test) .left)))
+loop-less-2 : tie.Need-loop-less-2 Inv-loop μ-loop
+loop-less-2 c =
+    let read = c .before .before in
+    let turn = read .before in
+    let s =
+    walk-skip (turn .before .loop .inv) (turn .loop-test .taken) (read .mask-at .ensures) (c .before .if2 .left) (c .next-start .ensures) in
+    omega (arith, s .0, s .1)
+
+loop-again-2 : tie.Need-loop-again-2 Inv-loop μ-loop
+loop-again-2 c =
+    let read = c .before .before in
+    let turn = read .before in
+    walk-skip (turn .before .loop .inv) (turn .loop-test .taken) (read .mask-at .ensures) (c .before .if2 .left) (c .next-start .ensures) .2
+
+same-length-2 : tie.Need-same-length-2 Inv-loop μ-loop
+same-length-2 c = c .before .loop .inv .kept .same
+
+returns-2 : tie.Need-returns-2 Inv-loop μ-loop
+returns-2 c = search walk-end
 
 pub skip-large-spec : {M : Type 1} → statement M
 skip-large-spec =
@@ -94,18 +91,21 @@ skip-large-spec =
     (tie.spec
     Inv-loop
     μ-loop
+    copy-order-requires
+    same-length
+    returns
     pow2-requires
     loop-holds
-    mul-wide-mask
-    shared-slice-read-wide-mask
-    wide-mask-requires
+    mask-at-requires
     cast-out
     mul-out
     slice-write-out
-    one-if-requires
     add-at
     add-p
     loop-less
     loop-again
-    same-length
-    returns)
+    next-start-requires
+    loop-less-2
+    loop-again-2
+    same-length-2
+    returns-2)

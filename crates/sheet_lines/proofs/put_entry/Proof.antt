@@ -3,12 +3,12 @@ use mathlib.Core.Path.{sym, ap, _∙_}
 use Prim.Native.Nat.{_+_}
 use native.Mathlib.Omega.{arith}
 use borrow.Author.Needs.{needs}
+use lib.Pow.{pow-mono}
 use lib.Seq.{length-take-le}
 use Rattle.tables.proofs.Questions.{letters-small}
 use Rattle.words.proofs.Letters.{count-small}
 use Rattle.order.specs.Order.{order}
-use Rattle.writer.proofs.Parts.{masks-room}
-use Rattle.sheet_lines.proofs.Entries.{few-are}
+use Rattle.writer.proofs.Parts.{ordered, masks-room}
 use Rattle.sheet_lines.proofs.put_entry.Statement.{statement}
 use Rattle.sheet_lines.proofs.put_entry.Tie as tie
 
@@ -66,18 +66,18 @@ add-pow2 c = omega (arith, letters-small _ _ ((c .before .before .before .before
 pow2-requires : tie.Need-pow2-requires
 pow2-requires c κs = letters-small _ _ ((c .before .before .before .before .before .before .pre) .0)
 
-add-skip-large : tie.Need-add-skip-large
-add-skip-large c =
+add-fill-order : tie.Need-add-fill-order
+add-fill-order c =
     let start = c .before .before .before .before .before .before .before in
     omega (arith, letters-small _ _ (start .pre .0))
 
-slice-aggregate-skip-large : tie.Need-slice-aggregate-skip-large
-slice-aggregate-skip-large c = search needs
+slice-aggregate-fill-order : tie.Need-slice-aggregate-fill-order
+slice-aggregate-fill-order c = search needs
 
-skip-large-requires : tie.Need-skip-large-requires
-skip-large-requires c κs =
+fill-order-requires : tie.Need-fill-order-requires
+fill-order-requires c κs =
     let start = c .before .before .before .before .before .before .before .before in
-    (letters-small _ _ (start .pre .0), start .pre .3, search needs)
+    (letters-small _ _ (start .pre .0), pow-mono (letters-small _ _ (start .pre .0)))
 
 array-borrow-prefix-coefficients-2 : tie.Need-array-borrow-prefix-coefficients-2
 array-borrow-prefix-coefficients-2 c =
@@ -93,25 +93,25 @@ slice-aggregate-put-values-2 c =
 
 array-share-prefix-few : tie.Need-array-share-prefix-few
 array-share-prefix-few c =
-    let after-skip-large = c .before .before .before .before in
-    let after-pow2 = after-skip-large .before .before in
+    let after-fill-order = c .before .before .before .before in
+    let after-pow2 = after-fill-order .before .before in
     let start = after-pow2 .before .before .before .before .before .before .before in
-    masks-room (start .args .u + start .args .g) (after-skip-large .skip-large .last .1 .1 .0) (after-pow2 .pow2 .ensures)
-    (letters-small _ _ (start .pre .0)) (after-skip-large .skip-large .kept .1 .1 .0)
+    masks-room (start .args .u + start .args .g) (after-fill-order .fill-order .last .1 .0) (after-pow2 .pow2 .ensures)
+    (letters-small _ _ (start .pre .0)) (after-fill-order .fill-order .kept .1 .0)
 
 slice-aggregate-put-values-3 : tie.Need-slice-aggregate-put-values-3
 slice-aggregate-put-values-3 c =
-    let after-skip-large = c .before .before .before .before .before in
-    let after-pow2 = after-skip-large .before .before in
+    let after-fill-order = c .before .before .before .before .before in
+    let after-pow2 = after-fill-order .before .before in
     let start = after-pow2 .before .before .before .before .before .before .before in
     sym (length-take-le _ _
-    (masks-room (start .args .u + start .args .g) (after-skip-large .skip-large .last .1 .1 .0) (after-pow2 .pow2 .ensures)
-    (letters-small _ _ (start .pre .0)) (after-skip-large .skip-large .kept .1 .1 .0)))
+    (masks-room (start .args .u + start .args .g) (after-fill-order .fill-order .last .1 .0) (after-pow2 .pow2 .ensures)
+    (letters-small _ _ (start .pre .0)) (after-fill-order .fill-order .kept .1 .0)))
 
 put-values-requires-2 : tie.Need-put-values-requires-2
 put-values-requires-2 c κs =
-    let after-skip-large = c .before .before .before .before .before .before in
-    let after-pow2 = after-skip-large .before .before in
+    let after-fill-order = c .before .before .before .before .before .before in
+    let after-pow2 = after-fill-order .before .before in
     let after-word-count = after-pow2 .before .before in
     let start = after-word-count .before .before .before .before .before in (
       start .pre .0,
@@ -119,8 +119,7 @@ put-values-requires-2 c κs =
       start .pre .2,
       length-take-le _ _ (count-small _ _ (after-word-count .word-count .ensures) (letters-small _ _ (start .pre .0)))
           ∙ after-word-count .word-count .ensures,
-      few-are (start .args .u + start .args .g) (after-skip-large .skip-large .last .1 .1 .0) (after-pow2 .pow2 .ensures)
-          (after-skip-large .skip-large .ensures),
+      ordered (start .args .u + start .args .g) _ (after-pow2 .pow2 .ensures) (after-fill-order .fill-order .ensures),
       start .pre .4,
       start .pre .5,
     )
@@ -153,9 +152,9 @@ put-entry-spec =
     returns
     add-pow2
     pow2-requires
-    add-skip-large
-    slice-aggregate-skip-large
-    skip-large-requires
+    add-fill-order
+    slice-aggregate-fill-order
+    fill-order-requires
     array-borrow-prefix-coefficients-2
     slice-aggregate-put-values-2
     array-share-prefix-few
