@@ -3,8 +3,8 @@
 use mathlib.Core.Path.{_≡_, refl, sym, ap, _∙_}
 use mathlib.Core.Bool.{Bool, true, false, not}
 use mathlib.Core.List.{List, [], _∷_, _++_}
-use Prim.Native.Nat.{ℕ, _+_, _^_, _≤_, _<_}
-use native.Mathlib.Nat.{zero-add}
+use Prim.Native.Nat.{ℕ, _+_, _*_, _^_, _≤_, _<_}
+use native.Mathlib.Nat.{zero-add, mul-le-mul}
 use native.Mathlib.Omega.{arith}
 use lib.Dec.{leb}
 use lib.ListN.{length, take, drop}
@@ -74,6 +74,12 @@ module _ (route U G : ℕ) (order t : List ℕ) where
 
     pub fine-part : {k : ℕ} → k ≡ 2 ^ (U + G) → k ≡ length (take k t)
     fine-part {k} ek = sym (length-take-le k t (rw ek (room-enough (2 ^ (U + G)) (length t) (all-fine .long))))
+
+    -- room for the monomials of the condition and of U answers
+    pub fine-room : {k : ℕ} → k ≡ 2 ^ (U + G) → (most : ℕ) → k ≤ most → (U + 1) * 2 ^ (U + G) ≤ 7 * most
+    fine-room {k} ek most l =
+        let h : U + 1 ≤ 7 = omega (arith, unknowns-small U G (all-fine .letters)) in
+        rw (← ek) (mul-le-mul h l)
 
     pub fine-ready : {k : ℕ} → k ≡ 2 ^ (U + G) → Ready U G order (take k t)
     unfolding lettersFit

@@ -7,7 +7,6 @@ use Prim.Native.Nat.{ℕ, zero, suc, _+_, _-_, _*_, _^_, _≤_, _<_}
 use native.Mathlib.Nat.{add-zero, suc-mul, add-mul, one-mul, mul-le-mul, mul-le-mul-right}
 use native.Mathlib.Numerals.{add-one}
 use native.Mathlib.Omega.{arith}
-use lib.Pow.{pow-mono}
 use lib.ListN.{length, take, drop, length-append}
 use lib.Seq.{length-take-le}
 use Rattle.ring.specs.Polynomial.{Polynomial, value}
@@ -108,15 +107,17 @@ pub answering-end : {u n : ℕ} {a old : List ℕ} {from j at : ℕ} {new : List
 answering-end {u} {n} {a} {old} {from} {j} w l = let e : j ≡ u = omega (arith, w .turn) in rw (← e) (w .list)
 
 -- ---- rooms
-pub first-room : (n size : ℕ) → n ≤ 10 → 7168 ≤ size → 0 + 2 ^ n ≤ size
-first-room n size h r = let p : 2 ^ n ≤ 1024 = pow-mono h in omega arith
+module _ (U n size : ℕ) (r : (U + 1) * 2 ^ n ≤ size) where
+  both : 2 ^ n + U * 2 ^ n ≤ size
+  both = let e : (U + 1) * 2 ^ n ≡ U * 2 ^ n + 1 * 2 ^ n = add-mul U 1 (2 ^ n) in omega arith
 
-pub answers-room : (U n : ℕ) (f : Polynomial) (tag : ℕ) {told : ℕ} {old codes : List ℕ} → U ≤ 6 → n ≤ 10 → 7168 ≤ length old
+  pub first-room : 0 + 2 ^ n ≤ size
+  first-room = omega (arith, both)
+
+pub answers-room : (U n : ℕ) (f : Polynomial) (tag : ℕ) {told : ℕ} {old codes : List ℕ} → (U + 1) * 2 ^ n ≤ length old
     → Listed old 0 (tagged tag (monomials n f)) told codes → told + U * 2 ^ n ≤ length codes
-answers-room U n f tag h hn r w =
-    let p : 2 ^ n ≤ 1024 = pow-mono hn in
-    let m : U * 2 ^ n ≤ 6 * 1024 = mul-le-mul h p in
-    omega (arith, w .place, w .long, length-tagged tag (monomials n f), monomials-most n f)
+answers-room U n f tag {old = old} r w =
+    omega (arith, both U n (length old) r, w .place, w .long, length-tagged tag (monomials n f), monomials-most n f)
 
 pub words-fit : (u k n : ℕ) → u ≤ 6 → k ≡ 2 ^ (n - 6) → n ≤ 10 → u * k ≤ 96
 words-fit u k n h e hn = let m : u * k ≤ 6 * 16 = mul-le-mul h (count-small k n e hn) in omega arith

@@ -150,7 +150,7 @@ fn list_with(
     codes: &mut [u16],
     answers: &mut [u64],
 ) -> Listing
-    requires { ⌜ Listable u g (now coefficients) (now values) (now masks) × (7168 ≤ length (now codes)) × (orderFits u order ≡ true)
+    requires { ⌜ Listable u g (now coefficients) (now values) (now masks) × ((u + 1) * 2 ^ (u + g) ≤ length (now codes)) × (orderFits u order ≡ true)
         × (length (now answers) ≡ u * 2 ^ (u + g - 6)) ⌝ }
     ensures { λ r. ⌜ Lists (ordered u g (take u order) (table (u + g) (bitAt (now (coefficients .entry))))) r (now (codes .exit)) ⌝ }
 {
@@ -175,7 +175,7 @@ pub fn list_entry(
     masks: &[u16],
     codes: &mut [u16],
 ) -> Listing
-    requires { ⌜ Listable u g (now coefficients) (now values) (now masks) × (7168 ≤ length (now codes)) × (orderFits u order ≡ true) ⌝ }
+    requires { ⌜ Listable u g (now coefficients) (now values) (now masks) × ((u + 1) * 2 ^ (u + g) ≤ length (now codes)) × (orderFits u order ≡ true) ⌝ }
     ensures { λ r. ⌜ Lists (ordered u g (take u order) (table (u + g) (bitAt (now (coefficients .entry))))) r (now (codes .exit)) ⌝ }
 {
     let size = u * words::word_count(u + g);
@@ -333,7 +333,7 @@ fn list_table(
     codes: &mut [u16],
 ) -> Listing
     requires { ⌜ Ready u g order (now condition) × (length (now coefficients) ≡ 2 ^ (u + g - 6))
-        × (length (now values) ≡ 2 ^ (u + g - 6)) × (now masks ≡ writtenOrder (u + g)) × (7168 ≤ length (now codes)) ⌝ }
+        × (length (now values) ≡ 2 ^ (u + g - 6)) × (now masks ≡ writtenOrder (u + g)) × ((u + 1) * 2 ^ (u + g) ≤ length (now codes)) ⌝ }
     ensures { λ r. ⌜ Lists (ordered u g (take u order) (now (condition .entry))) r (now (codes .exit)) ⌝ }
 {
     words::pack(u + g, condition, coefficients);
@@ -349,7 +349,7 @@ fn list_condition(
     condition: &[u8],
     codes: &mut [u16],
 ) -> Listing
-    requires { ⌜ Ready u g order (now condition) × (7168 ≤ length (now codes)) ⌝ }
+    requires { ⌜ Ready u g order (now condition) × ((u + 1) * 2 ^ (u + g) ≤ length (now codes)) ⌝ }
     ensures { λ r. ⌜ Lists (ordered u g (take u order) (now (condition .entry))) r (now (codes .exit)) ⌝ }
 {
     let k = words::word_count(u + g);
@@ -370,7 +370,7 @@ fn list_condition(
     )
 }
 
-// `codes` has room for all monomials of any entry.
+// `codes` has room for all monomials that such an entry can have.
 fn write_ready(
     route: u8,
     u: usize,
@@ -380,7 +380,7 @@ fn write_ready(
     codes: &mut [u16],
     out: &mut [u8],
 ) -> Written
-    requires { ⌜ Ready u g order (now condition) × (7168 ≤ length (now codes)) ⌝ }
+    requires { ⌜ Ready u g order (now condition) × ((u + 1) * 2 ^ (u + g) ≤ length (now codes)) ⌝ }
     ensures { λ r. ⌜ answered (written r) (now (out .exit) ∷ [])
         ≡ handOut (entry route (ordered u g (take u order) (now (condition .entry)))) (now (out .entry)) ⌝ }
 {
@@ -419,6 +419,11 @@ pub fn write_entry(
         return Written::Refused(refusal);
     }
     let k = tables::pow2(u + g);
+    // Up to six letters need so much less room that clearing it would be most of the work.
+    if k <= 64 {
+        let mut few = [0u16; 448];
+        return write_ready(route as u8, u, g, order, &condition[..k], &mut few, out);
+    }
     let mut codes = [0u16; 7168];
     write_ready(route as u8, u, g, order, &condition[..k], &mut codes, out)
 }

@@ -1,8 +1,9 @@
 -- The coefficients, the list, and its lines. Assumes nothing.
+use mathlib.Core.Path.{refl}
 use Prim.Native.Nat.{_+_}
 use native.Mathlib.Omega.{arith}
 use borrow.Author.Needs.{needs}
-use Rattle.tables.proofs.Questions.{letters-small, unknowns-small}
+use Rattle.tables.proofs.Questions.{letters-small, unknowns-small, tables-fit}
 use Rattle.sheet_lines.proofs.Entries.{givens-small, route-small, values-size, listable, default-asked, default-lists}
 use Rattle.sheet_lines.proofs.Entries.{archived-room, archived-put, same-table}
 use Rattle.sheet_lines.proofs.put_values.Statement.{statement}
@@ -22,7 +23,7 @@ list-entry-requires c κs =
     let after-transform = after-default-order .before .before .before in
     let start = after-transform .before .before .before .before .before .before .before .before in (
       listable (start .pre .0) (after-transform .transform .ensures) (start .pre .2) (start .pre .4),
-      omega (arith, start .pre .5),
+      omega (arith, start .pre .5, tables-fit (start .args .u + 1) _ _ _ (omega arith) refl (start .pre .0)),
       default-asked _ (after-default-order .default-order .ensures) (unknowns-small _ _ (start .pre .0)),
     )
 
