@@ -1,6 +1,7 @@
-//! Measures the engine beside plain Rust in two forms, and prints a report that says what is
-//! measured and how. With `--write` it also writes the report to `RESULTS.md` and the plot to
-//! `time-by-letters.svg`; without it, measuring leaves the folder as it was.
+//! Measures the engine beside plain Rust in two forms, and the written order by the method that the
+//! engine had and by the one that it has, and prints a report that says what is measured and how.
+//! With `--write` it also writes the report to `RESULTS.md` and the plot to `time-by-letters.svg`;
+//! without it, measuring leaves the folder as it was.
 
 mod calls;
 mod inputs;
@@ -9,11 +10,12 @@ mod processor_time;
 mod report;
 mod sheet;
 mod timing;
+mod written_order;
 
 use calls::{Call, CALLS};
 use inputs::{letters_of, Inputs, Kind};
 use plot::{plot, Series};
-use report::{Machine, Report, Row};
+use report::{Machine, Report, Row, WRITING};
 use std::hint::black_box;
 use std::ops::RangeInclusive;
 use std::path::{Path, PathBuf};
@@ -31,7 +33,7 @@ const PLOTTED: [(&str, &str); 6] = [
     ("product", "product of two tables"),
     ("boole", "Boole's answers"),
     ("lowenheim", "own Löwenheim answers"),
-    ("write_entry", "writing an entry"),
+    ("write_entry", WRITING),
     ("audit", "audit of an entry"),
 ];
 
@@ -53,6 +55,7 @@ fn main() {
         sheet: sheet::compare_sheets(&programs),
         numbers_of_letters: NUMBERS_OF_LETTERS,
         by_letters: PLOTTED.map(|(call, words)| by_letters(call, words)).into(),
+        written_order: written_order::compare_methods(NUMBERS_OF_LETTERS, FEWER_LETTERS),
     };
     let results = report.text();
     print!("{results}");

@@ -1,4 +1,5 @@
-//! Times of the engine and of both forms of plain Rust, measured in turns within one run.
+//! Times of the engine and of both forms of plain Rust, or of other sides, measured in turns within
+//! one run.
 
 use crate::processor_time;
 use std::time::Duration;
@@ -27,7 +28,7 @@ impl Times {
     }
 }
 
-/// The sides, in the order in which their times stand.
+/// The sides that are meant where no others are named, in the order in which their times stand.
 pub const SIDES: usize = 3;
 pub const ENGINE: usize = 0;
 pub const BYTES: usize = 1;
@@ -39,26 +40,25 @@ const QUIET: f64 = 1.2;
 const TRIES: usize = 6;
 
 #[derive(Clone, Copy)]
-pub struct Compared {
-    pub times: [Times; SIDES],
-    /// The medians of the rounds' ratios, engine by each side: below 1 the engine is ahead. All
+pub struct Compared<const N: usize = SIDES> {
+    pub times: [Times; N],
+    /// The medians of the rounds' ratios, the first side by each: below 1 the first is ahead. All
     /// sides of a round follow one another, so that a change of the processor's speed falls on all.
-    pub ratios: [f64; SIDES],
+    pub ratios: [f64; N],
 }
 
-impl Compared {
+impl<const N: usize> Compared<N> {
     /// From the times of each side, round by round.
-    pub fn of_rounds(rounds: [Vec<f64>; SIDES]) -> Compared {
-        let ratio = |side: &Vec<f64>| {
-            let ratios = rounds[ENGINE].iter().zip(side).map(|(engine, side)| engine / side);
+    pub fn of_rounds(rounds: [Vec<f64>; N]) -> Self {
+        let ratios = rounds.each_ref().map(|side| {
+            let ratios = rounds[0].iter().zip(side).map(|(first, side)| first / side);
             Times::of(ratios.collect()).median
-        };
-        let ratios = [ratio(&rounds[ENGINE]), ratio(&rounds[BYTES]), ratio(&rounds[WORDS])];
+        });
         Compared { times: rounds.map(Times::of), ratios }
     }
 
     /// From the times of each side and the times that are to be taken off, round by round.
-    pub fn of_rounds_without(rounds: &[Vec<f64>; SIDES], off: &[Vec<f64>; SIDES]) -> Compared {
+    pub fn of_rounds_without(rounds: &[Vec<f64>; N], off: &[Vec<f64>; N]) -> Self {
         let net = std::array::from_fn(|side| {
             rounds[side].iter().zip(&off[side]).map(|(time, off)| time - off).collect()
         });
@@ -79,7 +79,10 @@ impl Compared {
 
 /// Measures until the machine was quiet by the times to be judged, and takes the quietest
 /// measurement.
-pub fn quietly<T>(mut measure: impl FnMut() -> T, judged: impl Fn(&T) -> &Compared) -> T {
+pub fn quietly<T, const N: usize>(
+    mut measure: impl FnMut() -> T,
+    judged: impl Fn(&T) -> &Compared<N>,
+) -> T {
     let mut found = measure();
     for _ in 1..TRIES {
         if judged(&found).is_quiet() {
@@ -102,18 +105,18 @@ pub struct Effort {
 
 /// Calls each side on every input, so often that a round takes its time. The first round of each
 /// side is a warm-up; the side that goes first changes from round to round.
-pub fn compare<I>(
+pub fn compare<I, const N: usize>(
     effort: Effort,
     inputs: &[I],
-    mut sides: [&mut dyn FnMut(&I); SIDES],
-) -> Compared {
+    mut sides: [&mut dyn FnMut(&I); N],
+) -> Compared<N> {
     let measure = || {
-        let mut rounds = [const { Vec::new() }; SIDES];
+        let mut rounds = [const { Vec::new() }; N];
         let passes: Vec<usize> =
             sides.iter_mut().map(|side| passes(effort, inputs, *side)).collect();
         for round in 0..effort.rounds {
-            for turn in 0..SIDES {
-                let side = (round + turn) % SIDES;
+            for turn in 0..N {
+                let side = (round + turn) % N;
                 rounds[side].push(time_round(passes[side], inputs, sides[side]));
             }
         }
