@@ -55,6 +55,9 @@ pub fn run_writing() -> Calls {
         for length in [exact - 1, exact, exact + 1, LONGEST_ENTRY, LONGEST_ENTRY + 1] {
             calls.write_entry(250, (u, g, order), &table, &garbage(random, length));
         }
+        // Every monomial: such an entry has the whole written order.
+        let table = vec![1; 1 << (u + g)];
+        calls.write_entry(7, (u, g, order), &table, &garbage(random, LONGEST_ENTRY));
     }
     for table in long_conditions(random) {
         let order = reverse_order(6);

@@ -36,6 +36,11 @@ pub fn add_writings(lines: &mut Lines) {
             add_any_writing(lines, random, u, g);
         }
     }
+    // Every monomial: such an entry has the whole written order.
+    for n in 0..=9 {
+        let (u, g, table) = (n.min(1), n - n.min(1), vec![1; 1 << n]);
+        lines.writing(7, (u, g, default_order(u)), &table, entry(7, u, g, &table).len());
+    }
     for (u, g) in pairs(5, 10) {
         let (table, order, length) = table_for_line(random, u, g, 1_900);
         lines.writing(1 + random.below(250) as u64, (u, g, order), &table, length);
