@@ -18,7 +18,7 @@ use Rattle.ring.proofs.Value.{value-cong, involution}
 use Rattle.tables.specs.Inner.Put.{Put}
 use Rattle.tables.specs.Questions.{lettersFit}
 use Rattle.tables.proofs.Put.{put-length, put-both, put-same}
-use Rattle.tables.proofs.Questions.{letters-small, unknowns-small}
+use Rattle.tables.proofs.Questions.{letters-small, unknowns-small, pow-small}
 use Rattle.words.specs.Inner.Words.{wordsOf, bitAt}
 use Rattle.words.proofs.Words.{at-known, words-cong, size-words}
 use Rattle.words.proofs.Letters.{room}
@@ -253,6 +253,9 @@ module _ (route U G : ℕ) (t : List ℕ) {found : Listing} {codes : List ℕ} (
       )
 
 -- ---- the written order
+pub masks-room : (n : ℕ) {k : ℕ} (last : List ℕ) → k ≡ 2 ^ n → n ≤ 10 → length last ≡ 1024 → k ≤ length last
+masks-room n {k} last e h el = let p : k ≤ 1024 = pow-small k n e h in omega arith
+
 -- all of a buffer
 pub filled-order : (o : ℕ) {new : List ℕ} (rest : List ℕ) → length new ≡ 2 ^ o → new ≡ order o ++ rest → new ≡ order o
 filled-order o {new} rest h e = sym (take-all (2 ^ o) new (omega arith)) ∙ masks-ordered o rest refl e

@@ -6,7 +6,6 @@ use mathlib.Core.Bool.{Bool, true, false}
 use mathlib.Core.List.{List, [], _∷_, _++_, map, append-nil, append-assoc}
 use Prim.Native.Nat.{ℕ, _+_, _-_, _*_, _/_, _%_, _^_, _≤_, _<_}
 use native.Mathlib.Omega.{arith}
-use lib.Pow.{pow-mono}
 use lib.ListN.{length, getD, take, length-append}
 use lib.Seq.{take-at, length-take-le}
 use Rattle.tables.specs.Inner.Put.{Put}
@@ -181,9 +180,3 @@ module _ {found : Listing} (h : toldOf found ≤ countOf found) (m : sizeOf foun
 -- the masks for n letters stand at the front of the buffer that they were filled into
 pub ordered : (n : ℕ) {k : ℕ} {last : List ℕ} (rest : List ℕ) → k ≡ 2 ^ n → last ≡ writtenOrder n ++ rest → take k last ≡ writtenOrder n
 ordered n {k} {last} rest ek e = ap (take k) e ∙ take-at (writtenOrder n) rest k (length-order n ∙ sym ek)
-
-pub masks-room : (n : ℕ) {k : ℕ} (last : List ℕ) → k ≡ 2 ^ n → n ≤ 10 → length last ≡ 1024 → k ≤ length last
-masks-room n last e h el = let p : 2 ^ n ≤ 1024 = pow-mono h in omega arith
-
-pub masks-part : (n : ℕ) {k : ℕ} (last : List ℕ) → k ≡ 2 ^ n → n ≤ 10 → length last ≡ 1024 → k ≡ length (take k last)
-masks-part n {k} last e h el = sym (length-take-le k last (masks-room n last e h el))

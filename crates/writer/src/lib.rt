@@ -150,8 +150,8 @@ fn list_with(
     codes: &mut [u16],
     answers: &mut [u64],
 ) -> Listing
-    requires { ⌜ Listable u g (now coefficients) (now values) (now masks) × ((u + 1) * 2 ^ (u + g) ≤ length (now codes)) × (orderFits u order ≡ true)
-        × (length (now answers) ≡ u * 2 ^ (u + g - 6)) ⌝ }
+    requires { ⌜ Listable u g (now coefficients) (now values) (now masks) × ((u + 1) * 2 ^ (u + g) ≤ length (now codes))
+        × (orderFits u order ≡ true) × (length (now answers) ≡ u * 2 ^ (u + g - 6)) ⌝ }
     ensures { λ r. ⌜ Lists (ordered u g (take u order) (table (u + g) (bitAt (now (coefficients .entry))))) r (now (codes .exit)) ⌝ }
 {
     let told = order::list_monomials(u + g, 0, coefficients, masks, codes, 0);
@@ -175,7 +175,8 @@ pub fn list_entry(
     masks: &[u16],
     codes: &mut [u16],
 ) -> Listing
-    requires { ⌜ Listable u g (now coefficients) (now values) (now masks) × ((u + 1) * 2 ^ (u + g) ≤ length (now codes)) × (orderFits u order ≡ true) ⌝ }
+    requires { ⌜ Listable u g (now coefficients) (now values) (now masks) × ((u + 1) * 2 ^ (u + g) ≤ length (now codes))
+        × (orderFits u order ≡ true) ⌝ }
     ensures { λ r. ⌜ Lists (ordered u g (take u order) (table (u + g) (bitAt (now (coefficients .entry))))) r (now (codes .exit)) ⌝ }
 {
     let size = u * words::word_count(u + g);
@@ -333,7 +334,8 @@ fn list_table(
     codes: &mut [u16],
 ) -> Listing
     requires { ⌜ Ready u g order (now condition) × (length (now coefficients) ≡ 2 ^ (u + g - 6))
-        × (length (now values) ≡ 2 ^ (u + g - 6)) × (now masks ≡ writtenOrder (u + g)) × ((u + 1) * 2 ^ (u + g) ≤ length (now codes)) ⌝ }
+        × (length (now values) ≡ 2 ^ (u + g - 6)) × (now masks ≡ writtenOrder (u + g))
+        × ((u + 1) * 2 ^ (u + g) ≤ length (now codes)) ⌝ }
     ensures { λ r. ⌜ Lists (ordered u g (take u order) (now (condition .entry))) r (now (codes .exit)) ⌝ }
 {
     words::pack(u + g, condition, coefficients);
@@ -341,23 +343,24 @@ fn list_table(
     list_entry(u, g, order, coefficients, values, masks, codes)
 }
 
-// The scratch words and the written order live here.
+// The scratch words live here; `masks` is room for the written order.
 fn list_condition(
     u: usize,
     g: usize,
     order: [u8; 6],
     condition: &[u8],
+    masks: &mut [u16],
     codes: &mut [u16],
 ) -> Listing
-    requires { ⌜ Ready u g order (now condition) × ((u + 1) * 2 ^ (u + g) ≤ length (now codes)) ⌝ }
+    requires { ⌜ Ready u g order (now condition) × (2 ^ (u + g) ≤ length (now masks))
+        × ((u + 1) * 2 ^ (u + g) ≤ length (now codes)) ⌝ }
     ensures { λ r. ⌜ Lists (ordered u g (take u order) (now (condition .entry))) r (now (codes .exit)) ⌝ }
 {
     let k = words::word_count(u + g);
     let all = tables::pow2(u + g);
     let mut coefficients = [0u64; 16];
     let mut values = [0u64; 16];
-    let mut masks = [0u16; 1024];
-    order::fill_order(u + g, &mut masks);
+    order::fill_order(u + g, masks);
     list_table(
         u,
         g,
@@ -370,21 +373,23 @@ fn list_condition(
     )
 }
 
-// `codes` has room for all monomials that such an entry can have.
+// `masks` has room for the written order, `codes` for all monomials that such an entry can have.
 fn write_ready(
     route: u8,
     u: usize,
     g: usize,
     order: [u8; 6],
     condition: &[u8],
+    masks: &mut [u16],
     codes: &mut [u16],
     out: &mut [u8],
 ) -> Written
-    requires { ⌜ Ready u g order (now condition) × ((u + 1) * 2 ^ (u + g) ≤ length (now codes)) ⌝ }
+    requires { ⌜ Ready u g order (now condition) × (2 ^ (u + g) ≤ length (now masks))
+        × ((u + 1) * 2 ^ (u + g) ≤ length (now codes)) ⌝ }
     ensures { λ r. ⌜ answered (written r) (now (out .exit) ∷ [])
         ≡ handOut (entry route (ordered u g (take u order) (now (condition .entry)))) (now (out .entry)) ⌝ }
 {
-    let found = list_condition(u, g, order, condition, codes);
+    let found = list_condition(u, g, order, condition, masks, codes);
     hand_out(route, u, g, order, found, codes, out)
 }
 
@@ -421,9 +426,29 @@ pub fn write_entry(
     let k = tables::pow2(u + g);
     // Up to six letters need so much less room that clearing it would be most of the work.
     if k <= 64 {
-        let mut few = [0u16; 448];
-        return write_ready(route as u8, u, g, order, &condition[..k], &mut few, out);
+        let mut masks = [0u16; 64];
+        let mut codes = [0u16; 448];
+        return write_ready(
+            route as u8,
+            u,
+            g,
+            order,
+            &condition[..k],
+            &mut masks,
+            &mut codes,
+            out,
+        );
     }
+    let mut masks = [0u16; 1024];
     let mut codes = [0u16; 7168];
-    write_ready(route as u8, u, g, order, &condition[..k], &mut codes, out)
+    write_ready(
+        route as u8,
+        u,
+        g,
+        order,
+        &condition[..k],
+        &mut masks,
+        &mut codes,
+        out,
+    )
 }

@@ -8,7 +8,8 @@ use lib.Seq.{length-take-le}
 use Rattle.tables.proofs.Questions.{letters-small}
 use Rattle.words.proofs.Letters.{count-small}
 use Rattle.order.specs.Order.{order}
-use Rattle.writer.proofs.Parts.{ordered, masks-room}
+use Rattle.writer.proofs.Parts.{ordered}
+use Rattle.sheet_lines.proofs.Entries.{masks-room}
 use Rattle.sheet_lines.proofs.put_entry.Statement.{statement}
 use Rattle.sheet_lines.proofs.put_entry.Tie as tie
 
