@@ -1,4 +1,4 @@
--- The walk over the table that `fill_order` makes: masks that are small enough are put one behind another, the others are skipped.
+-- The walk over the table in `skip_large`: masks that are small enough are put one behind another, the others are skipped.
 -- Assumes nothing.
 use mathlib.Core.Path.{_≡_, refl, sym, ap, ap₂, _∙_}
 use mathlib.Core.Bool.{Bool, true, false, cond}
@@ -99,7 +99,7 @@ module _ {t : ℕ → Bool} {xs lent : List ℕ} where
         none (x ∷ l) e = absurd (omega arith)
 
 -- ---- the masks below 2 ^ n of the order for ten letters
--- what `fill_order` keeps, with 2 ^ n as the code has it
+-- what the loop keeps, with 2 ^ n as the code has it
 pub record Walked (n size : ℕ) (lent out : List ℕ) (at p : ℕ) : Type 0 where
   pub few : n ≤ 10
   pub sized : size ≡ 2 ^ n

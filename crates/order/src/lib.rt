@@ -42,6 +42,9 @@ fn mask_at(masks: &[u16; 1024], p: usize) -> usize
     wide_mask(masks[p])
 }
 
+// Where in it the masks that have so many letters begin; behind the last, its end.
+const STARTS: [u16; 12] = [0, 1, 11, 56, 176, 386, 638, 848, 968, 1013, 1023, 1024];
+
 // The place at which the masks that have a letter more than m begin.
 fn next_start(m: usize) -> usize
     requires { ⌜ m < 1024 ⌝ }
@@ -118,9 +121,6 @@ pub fn list_monomials(
     }
     at
 }
-
-// Where the masks that have so many letters begin in that order; behind them, its end.
-const STARTS: [u16; 12] = [0, 1, 11, 56, 176, 386, 638, 848, 968, 1013, 1023, 1024];
 
 // How many letters each mask below 32 has.
 const LETTERS: [u8; 32] = [
