@@ -424,7 +424,7 @@ pub fn write_entry(
         return Written::Refused(refusal);
     }
     let k = tables::pow2(u + g);
-    // Up to six letters need so much less room that clearing it would be most of the work.
+    // Up to six letters need so much less room that clearing all of it would take as long as much of the work.
     if k <= 64 {
         let mut masks = [0u16; 64];
         let mut codes = [0u16; 448];
