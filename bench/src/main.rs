@@ -55,7 +55,7 @@ fn main() {
         sheet: sheet::compare_sheets(&programs),
         numbers_of_letters: NUMBERS_OF_LETTERS,
         by_letters: PLOTTED.map(|(call, words)| by_letters(call, words)).into(),
-        written_order: written_order::compare_methods(NUMBERS_OF_LETTERS, FEWER_LETTERS),
+        written_order: written_order::compare_methods(FEWER_LETTERS),
     };
     let results = report.text();
     print!("{results}");

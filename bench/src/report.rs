@@ -57,7 +57,7 @@ pub struct Report {
     pub numbers_of_letters: RangeInclusive<usize>,
     pub by_letters: Vec<Series>,
     /// At each number of letters.
-    pub written_order: Vec<Compared<2>>,
+    pub written_order: Vec<(usize, Compared<2>)>,
 }
 
 impl Report {
@@ -122,8 +122,7 @@ At ten letters on typical inputs:
             let restless = points.filter(|(_, point)| !point.is_quiet());
             names.extend(restless.map(|(count, _)| format!("{} at {count} letters", series.name)));
         }
-        let orders = self.numbers_of_letters.clone().zip(&self.written_order);
-        let restless = orders.filter(|(_, order)| !order.is_quiet());
+        let restless = self.written_order.iter().filter(|(_, order)| !order.is_quiet());
         names.extend(restless.map(|(count, _)| format!("the written order at {count} letters")));
         match names.is_empty() {
             true => String::new(),
@@ -142,7 +141,7 @@ At ten letters on typical inputs:
 - **Engine**: the archive of the proved library, called through the safe wrapper in `bindings/rust`, all its calls, the unknowns going as 0, 1, 2 and so on but where a row says 'in reverse order'; for the whole sheet the program `target/bin/sheet`.
 - **Plain Rust**: `reference/src/plain`, safe Rust from its standard library alone, which does the same job and asks the same questions, built with link-time optimisation in one unit. Two forms share all methods: on **bytes**, one byte a value, by the usual step per letter; and on **words**, 64 values to a word.
 - **Techniques of all three**: values and back by the usual step per letter, with literal widths; a text decoded once, without unpredictable branches, and worked out at all points at once; question 8 as one union of all bytes; the value of a table a block of 64 masks at a time, each mask a byte; on words, eight bytes of a table as one shifted load or store, the two halves of a word's letters exchanged meanwhile; on words, polynomials put in by choices, the two lowest letters at once by what stands for each four bits; elimination that keeps the values before each unknown goes, and puts later answers in one letter at a time from the last on; records looked at in one pass for all questions, the number of letters of a mask from a table, with a loop for each kind of record that holds a monomial, which goes on as long as each passes question 12.
-- **Of plain Rust alone**: tables whose length the compiler knows, so that it holds them in registers; a letter, negated or not, multiplied in where it stands without a branch, each `!` being counted onto the sign behind it; the masks present counted by their number of letters, eight masks at a time out of a table, so that each record goes straight to its place in the output, which needs no copy, and sparse tables are quick; the digits of a mask from a table; a sheet read line by line and printed in pieces that stay in the cache; on bytes, polynomials put in by looking values up point by point; a derivative on coefficients, where inverting a letter adds one half of them to the other, on bytes in the result itself, on words without exchanging the halves of a word's letters; the steps of a session in place. **Of the engine alone**: the masks present are listed without a branch out of the written order, which it takes from a constant table of the masks of ten letters, as the request has it; a derivative goes to values, where inverting letters exchanges points, and back; a session goes by value, out of its block of bytes and back at each step. Tried in plain Rust and slower there: that listing, the masks taken out one number of letters after another, and eight masks at a time listed out of a table.
+- **Of plain Rust alone**: tables whose length the compiler knows, so that it holds them in registers, as the engine does only up to six letters when it solves and lists; a letter, negated or not, multiplied in where it stands without a branch, each `!` being counted onto the sign behind it; the masks present counted by their number of letters, eight masks at a time out of a table, so that each record goes straight to its place in the output, which needs no copy, and sparse tables are quick; the digits of a mask from a table; a sheet read line by line and printed in pieces that stay in the cache; on bytes, polynomials put in by looking values up point by point; a derivative on coefficients, where inverting a letter adds one half of them to the other, on bytes in the result itself, on words without exchanging the halves of a word's letters; the steps of a session in place. **Of the engine alone**: the masks present are listed without a branch out of the written order, which it takes from a constant table of the masks of ten letters, as the request has it, up to six letters from one of theirs; a derivative goes to values, where inverting letters exchanges points, and back; a session goes by value, out of its block of bytes and back at each step. Tried in plain Rust and slower there: that listing, the masks taken out one number of letters after another, and eight masks at a time listed out of a table.
 - All are optimised builds for plain x86-64, on one thread. Tests hold plain Rust against the paper's own definitions; here all results and lent bytes are compared on every input before it is timed.
 - **Inputs** come from a fixed seed, eight for each call, over and over, so that the processor learns the way that they take; the sheet's lines come once in a process. Typical: texts of 180 to 200 bytes as a designer writes them, products of a few letters joined by `|` and `+`, and the conditions that such texts are read into. Dense: texts of 199 bytes that are letters and signs in turn, and conditions with every second monomial present. All conditions have a solution, so that solving finds answers; a derivative is taken by every second letter; a walk goes over a volume of eight entries.
 - **Buffers are not cleared first**: no call needs it, and each writes over what the call before it left.
@@ -234,7 +233,7 @@ Writing an entry, the best of the same rounds:
 
     fn written_order(&self) -> String {
         let mut table = String::new();
-        for (count, compared) in self.numbers_of_letters.clone().zip(&self.written_order) {
+        for (count, compared) in &self.written_order {
             let [before, after] = [BEFORE, AFTER].map(|side| duration(compared.times[side].best));
             let ratio = compared.ratios[BEFORE];
             table += &format!("| {count} | {before} | {after} | **{ratio:.3}** |\n");
@@ -242,7 +241,7 @@ Writing an entry, the best of the same rounds:
         format!(
             "## The written order, before and after
 
-Filling a buffer with the masks for so many letters: before, each mask worked out from counts of letters; after, taken from a constant table of the masks of ten letters, where fewer letters skip those that are too large. Both are plain Rust ports of the engine's methods, side by side in this run, since the formula no longer stands in the engine; the port lays the table out on the stack for each call, as the engine's compiler does with a constant. The ratio is after by before.
+Filling a buffer with the masks for so many letters: before, each mask worked out from counts of letters; after, taken from a constant table, where fewer letters skip the masks that are too large: a table of the masks of ten letters, or, up to six letters, of six. Both are plain Rust ports of the engine's methods, side by side in this run, since the formula no longer stands in the engine; the port lays the table out on the stack for each call, as the engine's compiler does with a constant. The ratio is after by before.
 
 | letters | from counts, best | from the table, best | ratio |
 |---|---:|---:|---:|

@@ -3,7 +3,6 @@
 
 use crate::timing::{compare, Compared, Effort};
 use std::hint::black_box;
-use std::ops::RangeInclusive;
 
 /// The sides, in the order in which their times stand: ratios are after by before.
 pub const AFTER: usize = 0;
@@ -61,14 +60,15 @@ fn mask_at(k: usize, r: usize) -> usize {
     mask + ((1 << left) - 1)
 }
 
-/// The masks of ten letters.
+/// The masks of ten letters, and those of six.
 static ORDER: [u16; MASKS] = order();
+static ORDER_SIX: [u16; 64] = order();
 
-const fn order() -> [u16; MASKS] {
-    let (mut order, mut at, mut k) = ([0; MASKS], 0, 0);
-    while k <= MOST_LETTERS as u32 {
+const fn order<const N: usize>() -> [u16; N] {
+    let (mut order, mut at, mut k) = ([0; N], 0, 0);
+    while at < N {
         let mut mask = 0;
-        while mask < MASKS as u16 {
+        while mask < N as u16 {
             if mask.count_ones() == k {
                 order[at] = mask;
                 at += 1;
@@ -82,22 +82,33 @@ const fn order() -> [u16; MASKS] {
 
 /// Where the masks that have so many letters begin there; behind them, its end.
 static STARTS: [u16; 12] = [0, 1, 11, 56, 176, 386, 638, 848, 968, 1013, 1023, 1024];
+static STARTS_SIX: [u16; 8] = [0, 1, 7, 22, 42, 57, 63, 64];
 
 /// How many letters each mask below 32 has.
 static LETTERS: [u8; 32] = [
     0, 1, 1, 2, 1, 2, 2, 3, 1, 2, 2, 3, 2, 3, 3, 4, 1, 2, 2, 3, 2, 3, 3, 4, 2, 3, 3, 4, 3, 4, 4, 5,
 ];
 
-/// After: ten letters are a copy; for fewer, from the first mask that is too large on, all that
-/// have as many letters are, and are passed at once.
+/// After: ten letters are a copy, fewer skip. The engine's compiler lays a constant out on the
+/// stack wherever it is read, so that up to six letters have a small table.
 fn from_table(n: usize, out: &mut [u16; MASKS]) {
-    // The engine's compiler lays a constant out on the stack wherever it is read.
+    if n <= 6 {
+        let masks = ORDER_SIX;
+        skip_large(n, black_box(&masks), &STARTS_SIX, out);
+        return;
+    }
     let masks = ORDER;
     let masks = black_box(&masks);
     if n == MOST_LETTERS {
         out.copy_from_slice(masks);
         return;
     }
+    skip_large(n, masks, &STARTS, out);
+}
+
+/// From the first mask that is too large on, all that have as many letters are, and are passed at
+/// once.
+fn skip_large(n: usize, masks: &[u16], starts: &[u16], out: &mut [u16; MASKS]) {
     let size = 1 << n;
     let (mut at, mut place) = (0, 0);
     while at < size {
@@ -107,22 +118,17 @@ fn from_table(n: usize, out: &mut [u16; MASKS]) {
             at += 1;
             place += 1;
         } else {
-            place = next_start(mask as usize);
+            let letters = LETTERS[mask as usize % 32] + LETTERS[mask as usize / 32];
+            place = starts[letters as usize + 1] as usize;
         }
     }
 }
 
-/// The place at which the masks that have a letter more begin.
-fn next_start(mask: usize) -> usize {
-    let letters = LETTERS[mask % 32] + LETTERS[mask / 32];
-    STARTS[letters as usize + 1] as usize
-}
-
 /// Fills a buffer with the masks for each number of letters, again and again.
-pub fn compare_methods(numbers: RangeInclusive<usize>, effort: Effort) -> Vec<Compared<2>> {
+pub fn compare_methods(effort: Effort) -> Vec<(usize, Compared<2>)> {
     assert_same();
     let (mut after, mut before) = ([7; MASKS], [7; MASKS]);
-    let compare = |n| {
+    let mut times = |n| {
         compare(
             effort,
             &[n; CALLS],
@@ -132,7 +138,7 @@ pub fn compare_methods(numbers: RangeInclusive<usize>, effort: Effort) -> Vec<Co
             ],
         )
     };
-    numbers.map(compare).collect()
+    (0..=MOST_LETTERS).map(|n| (n, times(n))).collect()
 }
 
 /// Both methods give the masks as they are sorted, and leave what is behind them.

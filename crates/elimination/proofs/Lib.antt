@@ -4,3 +4,4 @@ pub mod Stages
 pub mod Slots
 pub mod States
 pub mod Lengths
+pub mod OneWord

@@ -4,18 +4,17 @@
 // The contracts cite the method at points (`solution/specs/Inner/ByPoints.antt`), which the laws of `solution` tie to the polynomials.
 ghost use mathlib.Core.Path.{_≡_};
 ghost use mathlib.Core.Bool.{true};
-ghost use mathlib.Core.List.{_++_};
 ghost use Prim.Native.Nat.{_+_, _-_, _*_, _^_, _≤_, _<_};
-ghost use lib.ListN.{length, getD, drop};
+ghost use lib.ListN.{length};
 ghost use Rattle.ring.specs.Letters.{bit};
 ghost use Rattle.ring.specs.Lists.{listed, has};
-ghost use Rattle.ring.specs.Polynomial.{_⊕_};
 ghost use Rattle.solution.specs.Condition.{IsOrder, ListsEach};
 ghost use Rattle.solution.specs.Elimination.{smallestBelow};
 ghost use Rattle.solution.specs.Inner.ByPoints.{bothCases, remainsThrough, answeredThrough};
-ghost use Rattle.words.specs.Inner.Words.{wordsOf, bitAt, answerWords};
+ghost use Rattle.words.specs.Inner.Words.{wordOf, wordsOf, bitAt, answerWords};
 ghost use Rattle.elimination.specs.Inner.Stages.{InLetters, IgnoresUnknowns, noRepeats};
 ghost use Rattle.elimination.specs.Inner.Stages.{stageWords, slotWords, putWords, firstAnswered, placeOf, slotWord};
+ghost use Rattle.elimination.specs.Inner.Stages.{answeredWords, putPlaced};
 
 // f into `stage`, and then the product of its two cases of x in its place.
 fn keep_stage(x: usize, c: usize, f: &mut [u64], stage: &mut [u64])
@@ -175,6 +174,49 @@ fn solve_with(
     state
 }
 
+// a with the words in `answers` put for the letters of the order, the last one first.
+fn put_placed(order: &[usize], answers: &[u64], a: u64) -> u64
+    requires { ⌜ InLetters (length (now answers)) (now order) × (length (now answers) ≤ 6) ⌝ }
+    ensures { λ r. ⌜ r ≡ wordOf (putPlaced (now (answers .entry)) (now (order .entry)) (bit a)) ⌝ }
+{
+    let mut put = a;
+    let mut i = order.len();
+    while 0 < i {
+        i -= 1;
+        let x = order[i];
+        put = words::replace_word(put, x, answers[x]);
+    }
+    put
+}
+
+// Elimination in one word: what remains of f, and each unknown's answer in its place, the last unknown first. The values before an
+// unknown goes wait in its own call.
+fn answer_word(order: &[usize], f: u64, answers: &mut [u64]) -> u64
+    requires { ⌜ InLetters (length (now answers)) (now order) × (length (now answers) ≤ 6) × (noRepeats (now order) ≡ true) ⌝ }
+    ensures { λ r. ⌜ r ≡ wordOf (remainsThrough (bit f) (now (order .entry))) ⌝ }
+    ensures { λ _. ⌜ now (answers .exit) ≡ answeredWords (bit f) (now (order .entry)) (now (answers .entry)) ⌝ }
+{
+    if order.len() == 0 {
+        return f;
+    }
+    let x = order[0];
+    let remains = answer_word(&order[1..], words::both_word(f, x), answers);
+    answers[x] = put_placed(&order[1..], answers, f ^ words::low_letter(x));
+    remains
+}
+
+// Up to six letters, whose values are one word: nothing is kept in scratch words, and nothing loops over them.
+fn solve_word(u: usize, g: usize, order: &[usize], f: &mut [u64], answers: &mut [u64]) -> usize
+    requires { ⌜ (u + g ≤ 6) × IsOrder u (now order) × (noRepeats (now order) ≡ true)
+        × (length (now f) ≡ 2 ^ (u + g - 6)) × (length (now answers) ≡ u * 2 ^ (u + g - 6)) ⌝ }
+    ensures { λ r. ⌜ r ≡ smallestBelow (2 ^ g) (λ s. remainsThrough (bitAt (now (f .entry))) (now (order .entry)) (s * 2 ^ u)) ⌝ }
+    ensures { λ _. ⌜ now (answers .exit)
+        ≡ answerWords u (2 ^ (u + g - 6)) (λ x p. bit (answeredThrough (bitAt (now (f .entry))) (now (order .entry)) p) x) ⌝ }
+{
+    f[0] = answer_word(order, f[0], answers);
+    first_state(f, u, g)
+}
+
 // From the values f of a condition, which it uses up, to the values of Boole's answers, unless something remains.
 // Answers the first state in which something remains, 2 ^ g if there is none. The scratch words live here.
 pub fn solve_words(u: usize, g: usize, order: &[usize], f: &mut [u64], answers: &mut [u64]) -> usize
@@ -185,6 +227,9 @@ pub fn solve_words(u: usize, g: usize, order: &[usize], f: &mut [u64], answers: 
         → now (answers .exit)
         ≡ answerWords u (2 ^ (u + g - 6)) (λ x p. bit (answeredThrough (bitAt (now (f .entry))) (now (order .entry)) p) x)) ⌝ }
 {
+    if u + g <= 6 {
+        return solve_word(u, g, order, f, answers);
+    }
     let all = order.len() * words::word_count(u + g);
     let mut slots = [0u64; 96];
     solve_with(u, g, order, f, &mut slots[..all], answers)

@@ -4,19 +4,21 @@
 use mathlib.Core.Path.{_≡_, refl, sym, ap, _∙_}
 use mathlib.Core.Bool.{Bool, true, false, cond}
 use mathlib.Core.List.{List, [], _∷_, _++_, append-assoc, append-nil}
-use Prim.Native.Nat.{ℕ, _+_, _-_, _*_, _^_, _≤_, _<_}
+use Prim.Native.Nat.{ℕ, _+_, _-_, _*_, _/_, _%_, _^_, _≤_, _<_}
 use native.Mathlib.Nat.{add-zero}
 use native.Mathlib.Numerals.{add-one}
 use native.Mathlib.Omega.{arith}
 use lib.ListN.{length, getD, set, take, length-append, length-set, length-map}
+use lib.Pow.{pow-mono}
 use lib.Seq.{take-suc, take-all, take-suc-set, take-set-le}
-use Rattle.ring.specs.Letters.{digit}
+use Rattle.ring.specs.Letters.{digit, bit}
 use Rattle.ring.specs.Polynomial.{Polynomial}
+use Rattle.words.specs.Inner.Words.{bitAt}
 use Rattle.words.proofs.Letters.{room}
 use Rattle.order.specs.Order.{keep, order, monomials}
 use Rattle.order.specs.Inner.Listing.{tagged, Listed}
 use Rattle.order.proofs.Lists.{keep-append}
-use Rattle.order.proofs.Order.{length-order, order-below}
+use Rattle.order.proofs.Order.{length-order, order-below, monomials-same}
 
 tagged-append : (tag : ℕ) (ms ks : List ℕ) → tagged tag (ms ++ ks) ≡ tagged tag ms ++ tagged tag ks
 unfolding tagged
@@ -136,3 +138,19 @@ pub mask-in-words : (n p : ℕ) {masks : List ℕ} {m k : ℕ} → masks ≡ ord
     → m < 64 * k
 mask-in-words n p e l em ek =
     rw ek (omega (arith, mask-place n p e l em, room n))
+
+-- up to six letters the coefficients are one word
+pub one-word : {n k : ℕ} → n ≤ 6 → k ≡ 2 ^ (n - 6) → k ≡ 1
+one-word {n} h e = let z : n - 6 ≡ 0 = omega arith in rw (e, z)
+
+pub listed-word : (n tag : ℕ) (words : List ℕ) {old new : List ℕ} {from r : ℕ} → n ≤ 6
+    → Listed old from (tagged tag (monomials n (bit (getD words 0 0)))) r new → Listed old from (tagged tag (monomials n (bitAt words))) r new
+unfolding bitAt
+listed-word n tag words h w = rw (monomials-same n (bit (getD words 0 0)) (bitAt words) same) at w
+  where
+    same : (m : ℕ) → m < 2 ^ n → bit (getD words 0 0) m ≡ bitAt words m
+    same m l =
+        let s : 2 ^ n ≤ 64 = pow-mono h in
+        let q : m / 64 ≡ 0 = omega arith in
+        let r : m % 64 ≡ m = omega arith in
+        rw (q, r)

@@ -11,11 +11,11 @@ use lib.Dec.{eqb, ltb, leb}
 use lib.ListN.{length, getD}
 use borrow.Author.Tests.{lt-ltb, ltb-true, ltb-false, leb-true, eqb-true}
 use Rattle.ring.proofs.Bool.{and-left, and-right, bool-cases, never}
-use Rattle.ring.proofs.Lists.{has-cases, getD-listed}
+use Rattle.ring.proofs.Lists.{has-cases, getD-listed, length-listed, listed-cong}
 use Rattle.ring.specs.Lists.{listed, has}
 use Rattle.ring.specs.Polynomial.{count}
 use Rattle.order.specs.Order.{letters, before, keep, below, order, rises}
-use Rattle.order.specs.Inner.Place.{start, rank}
+use Rattle.order.specs.Inner.Place.{start, AreStarts, rank}
 use Rattle.order.proofs.Letters.{lettersIn, letters-in, letters-most}
 use Rattle.order.proofs.Lists.{keep-same, count-below, has-below}
 use Rattle.order.proofs.Relation.{before-cases, before-rank}
@@ -104,10 +104,15 @@ start-in n k =
     (λ m i. ap (λ (l : ℕ). ltb l k) (letters-in n m (ltb-true m (2 ^ n) (sym (has-below m (2 ^ n)) ∙ i)))))
     ∙ count-below (λ m. ltb (lettersIn n m) k) (2 ^ n)
 
--- a table of these numbers, for ten letters
-pub starts-looked-up : (t : List ℕ) → t ≡ listed 12 (fewerIn 10) → (k : ℕ) → k ≤ 11 → getD t k 0 ≡ start 10 k
-starts-looked-up t e k h =
-    ap (λ (l : List ℕ). getD l k 0) e ∙ getD-listed 12 (fewerIn 10) k 0 (omega arith) ∙ sym (start-in 10 k)
+-- a table of these numbers, computed for o letters, and what is looked up in it
+pub are-starts : (o : ℕ) (t : List ℕ) → t ≡ listed (o + 2) (fewerIn o) → AreStarts o t
+are-starts o t e = e ∙ listed-cong (o + 2) (fewerIn o) (start o) (λ k l. sym (start-in o k))
+
+pub starts-looked-up : (o : ℕ) (t : List ℕ) → AreStarts o t → (k : ℕ) → k ≤ o + 1 → getD t k 0 ≡ start o k
+starts-looked-up o t e k h = ap (λ (l : List ℕ). getD l k 0) e ∙ getD-listed (o + 2) (start o) k 0 (omega arith)
+
+pub length-starts : (o : ℕ) (t : List ℕ) → AreStarts o t → length t ≡ o + 2
+length-starts o t e = ap length e ∙ length-listed (o + 2) (start o)
 
 -- from a mask on, as far as those that have a letter more, none is smaller
 pub larger-follow : (n p i : ℕ) → p < 2 ^ n → p ≤ i → i < start n (letters (getD (order n) p 0) + 1)

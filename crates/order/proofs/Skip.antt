@@ -10,15 +10,16 @@ use native.Mathlib.Numerals.{add-one}
 use native.Mathlib.Omega.{arith}
 use lib.Dec.{ltb}
 use lib.ListN.{length, getD, take, drop, set, length-append, length-set, take-append-drop}
+use lib.Pow.{pow-mono}
 use lib.Seq.{drop-cons, set-at, take-suc, take-all}
 use borrow.Author.Tests.{lt-ltb, le-ltb, ltb-true, ltb-false}
 use Rattle.ring.proofs.Bool.{bool-cases}
 use Rattle.order.specs.Order.{letters, keep, order}
-use Rattle.order.specs.Inner.Place.{start}
+use Rattle.order.specs.Inner.Place.{start, AreStarts}
 use Rattle.order.proofs.Letters.{letters-most}
 use Rattle.order.proofs.Lists.{keep-append}
 use Rattle.order.proofs.Order.{length-order, order-below, order-fewer, start-within}
-use Rattle.order.proofs.Places.{larger-follow, start-later}
+use Rattle.order.proofs.Places.{starts-looked-up, length-starts, larger-follow, start-later}
 
 -- after p of the masks xs the buffer begins with the `at` of them that pass, and goes on as it was
 pub record Kept (t : ℕ → Bool) (xs lent out : List ℕ) (at p : ℕ) : Type 0 where
@@ -98,54 +99,90 @@ module _ {t : ℕ → Bool} {xs lent : List ℕ} where
         none [] e = refl
         none (x ∷ l) e = absurd (omega arith)
 
--- ---- the masks below 2 ^ n of the order for ten letters
--- what the loop keeps, with 2 ^ n as the code has it
-pub record Walked (n size : ℕ) (lent out : List ℕ) (at p : ℕ) : Type 0 where
-  pub few : n ≤ 10
+-- ---- the masks below 2 ^ n of the order for o letters
+-- what the loop keeps, with 2 ^ n as the code has it, and what it asks of the tables
+pub record Walked (n o size : ℕ) (masks starts lent out : List ℕ) (at p : ℕ) : Type 0 where
+  pub few : n ≤ o
+  pub most : o ≤ 10
+  pub ordered : masks ≡ order o
+  pub placed : AreStarts o starts
   pub sized : size ≡ 2 ^ n
-  pub kept : Kept (λ m. ltb m size) (order 10) lent out at p
+  pub kept : Kept (λ m. ltb m size) (order o) lent out at p
 
-fewer : {n size : ℕ} → n ≤ 10 → size ≡ 2 ^ n → keep (λ m. ltb m size) (order 10) ≡ order n
-fewer {n} few e = rw e (order-fewer n 10 few)
+fewer : {n o size : ℕ} → n ≤ o → size ≡ 2 ^ n → keep (λ m. ltb m size) (order o) ≡ order n
+fewer {n} {o} few e = rw e (order-fewer n o few)
 
-fewer-count : {n size : ℕ} → n ≤ 10 → size ≡ 2 ^ n → length (keep (λ m. ltb m size) (order 10)) ≡ size
+fewer-count : {n o size : ℕ} → n ≤ o → size ≡ 2 ^ n → length (keep (λ m. ltb m size) (order o)) ≡ size
 fewer-count {n} few e = ap length (fewer few e) ∙ length-order n ∙ sym e
 
-pub walk-start : {n size : ℕ} {lent : List ℕ} → n ≤ 10 → size ≡ 2 ^ n → 2 ^ n ≤ length lent → Walked n size lent lent 0 0
-walk-start few e l = record { few = few; sized = e; kept = kept-start (omega (arith, fewer-count few e)) }
+pub walk-start : {n o size : ℕ} {masks starts lent : List ℕ} → n ≤ o → o ≤ 10 → masks ≡ order o → AreStarts o starts → size ≡ 2 ^ n
+    → 2 ^ n ≤ length lent → Walked n o size masks starts lent lent 0 0
+walk-start few most em es e l =
+    record { few = few; most = most; ordered = em; placed = es; sized = e; kept = kept-start (omega (arith, fewer-count few e)) }
 
-module _ {n size : ℕ} {lent out : List ℕ} {at p : ℕ} (w : Walked n size lent out at p) where
-  all : length (keep (λ m. ltb m size) (order 10)) ≡ size
+module _ {n o size : ℕ} {masks starts lent out : List ℕ} {at p : ℕ} (w : Walked n o size masks starts lent out at p) where
+  all : length (keep (λ m. ltb m size) (order o)) ≡ size
   all = fewer-count (w .few) (w .sized)
 
+  -- no table is longer than that of ten letters
+  pub walk-most : (size ≤ 2 ^ o) × (2 ^ o ≤ 1024)
+  walk-most = (rw (w .sized) (pow-mono (w .few)), pow-mono (w .most))
+
   module _ (h : at < size) where
-    pub walk-inside : p < 1024
-    walk-inside = rw (length-order 10) at (kept-left (w .kept) (rw all h))
+    pub walk-inside : p < 2 ^ o
+    walk-inside = rw (length-order o) at (kept-left (w .kept) (rw all h))
+
+    pub walk-read : p < length masks
+    walk-read = rw (w .ordered, length-order o) walk-inside
 
     pub walk-room : at < length out
     walk-room = omega (arith, all, w .kept .room, w .kept .same)
 
-    module _ {m : ℕ} (em : m ≡ getD (order 10) p 0) where
-      pub walk-mask : m < 1024
-      walk-mask = rw em (order-below 10 p walk-inside)
+    module _ {m : ℕ} (em : m ≡ getD masks p 0) where
+      mask : m ≡ getD (order o) p 0
+      mask = rw (w .ordered) at em
 
-      pub walk-put : m < size → Walked n size lent (set out at m) (at + 1) (p + 1)
-      walk-put l = record { few = w .few; sized = w .sized; kept = kept-put (w .kept) (rw all h) em (lt-ltb m size l) }
+      below : m < 2 ^ o
+      below = rw mask (order-below o p walk-inside)
+
+      pub walk-mask : m < 1024
+      walk-mask = omega (arith, below, walk-most)
+
+      pub walk-put : m < size → Walked n o size masks starts lent (set out at m) (at + 1) (p + 1)
+      walk-put l =
+          record {
+            few = w .few;
+            most = w .most;
+            ordered = w .ordered;
+            placed = w .placed;
+            sized = w .sized;
+            kept = kept-put (w .kept) (rw all h) mask (lt-ltb m size l);
+          }
+
+      -- the place to jump to stands in the table
+      pub walk-next : letters m + 1 < length starts
+      walk-next = rw (length-starts o starts (w .placed)) (omega (arith, letters-most o m below))
 
       -- the jump leads on, within the table, and passes only masks that are too large
-      pub walk-skip : size ≤ m → {q : ℕ} → q ≡ start 10 (letters m + 1) → (p < q) × (q ≤ 1024) × Walked n size lent out at q
+      pub walk-skip : size ≤ m → {q : ℕ} → q ≡ getD starts (letters m + 1) 0
+          → (p < q) × (q ≤ 2 ^ o) × Walked n o size masks starts lent out at q
       walk-skip l {q} eq =
-          let e : q ≡ start 10 (letters (getD (order 10) p 0) + 1) = rw (← em) eq in
-          let later : p < q = rw e (start-later 10 p walk-inside) in
-          let within : q ≤ 1024 = rw eq (start-within 10 (letters m + 1) (omega (arith, letters-most 10 m walk-mask))) in (
+          let most : letters m ≤ o = letters-most o m below in
+          let s : q ≡ start o (letters m + 1) = eq ∙ starts-looked-up o starts (w .placed) (letters m + 1) (omega arith) in
+          let e : q ≡ start o (letters (getD (order o) p 0) + 1) = rw (← mask) s in
+          let later : p < q = rw e (start-later o p walk-inside) in
+          let within : q ≤ 2 ^ o = rw s (start-within o (letters m + 1) (omega arith)) in (
             later,
             within,
             record {
               few = w .few;
+              most = w .most;
+              ordered = w .ordered;
+              placed = w .placed;
               sized = w .sized;
               kept =
-                  kept-jump (w .kept) q (omega arith) (rw (length-order 10) within)
-                  (λ i a b. le-ltb (getD (order 10) i 0) size (omega (arith, larger-follow 10 p i walk-inside a (rw e at b))));
+                  kept-jump (w .kept) q (omega arith) (rw (length-order o) within)
+                  (λ i a b. le-ltb (getD (order o) i 0) size (omega (arith, mask, larger-follow o p i walk-inside a (rw e at b))));
             },
           )
 

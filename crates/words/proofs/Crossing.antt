@@ -9,7 +9,7 @@ use native.Mathlib.Nat.{mod-lt, mul-comm, mul-one, sub-zero, div-one, pow-suc}
 use native.Mathlib.Omega.{arith}
 use lib.Dec.{eqb, ltb, leb}
 use lib.Bits.{bitAnd, bitXor, and-le-r, xor-lt}
-use lib.ListN.{length, getD, set, take, drop}
+use lib.ListN.{length, getD, set, take, drop, List·getD-eq-default}
 use lib.Pow.{pow-pos, pow-mono, pow-add}
 use lib.Seq.{getD-take, getD-drop}
 use borrow.Author.Tests.{eqb-true, ltb-true, le-leb, lt-leb}
@@ -17,7 +17,7 @@ use Rattle.ring.specs.Letters.{digit, bit, pointWhere}
 use Rattle.ring.specs.Lists.{listed}
 use Rattle.ring.specs.Polynomial.{_⊕_, everyBelow}
 use Rattle.ring.specs.Table.{present, AreBits, tabulate, table}
-use Rattle.ring.proofs.Bool.{same-bool}
+use Rattle.ring.proofs.Bool.{same-bool, digit-lt}
 use Rattle.ring.proofs.Bitwise.{and-bit, xor-bit}
 use Rattle.ring.proofs.Every.{every-all}
 use Rattle.ring.proofs.Lists.{tabulate-listed, listed-cong}
@@ -27,7 +27,7 @@ use Rattle.tables.proofs.Bits.{byte-digit}
 use Rattle.tables.proofs.Filled.{filled-read}
 use Rattle.words.specs.Inner.Words.{wordOf, wordsOf, bitAt, crossed, eightOf}
 use Rattle.words.proofs.Bits.{shl-bit, shr-bit, shl-none}
-use Rattle.words.proofs.Words.{word-is, word-cong, words-cong, size-words, bit-at, at-known}
+use Rattle.words.proofs.Words.{word-bit, word-is, word-cong, words-cong, size-words, bit-at, at-known}
 use Rattle.words.proofs.Packing.{small-size}
 use Rattle.words.proofs.Letters.{room}
 use Rattle.words.proofs.Holds.{word-holds, also-holds, wordsTo, words-more}
@@ -89,6 +89,94 @@ pub rows-word : (x : ℕ → Bool) (a b c d e f g h : ℕ) → a ≡ eightOf x 5
     → e ≡ eightOf x 24 → f ≡ eightOf x 16 → g ≡ eightOf x 8 → h ≡ eightOf x 0
     → ((((((a * 2 + b) * 2 + c) * 2 + d) * 2 + e) * 2 + f) * 2 + g) * 2 + h ≡ wordOf (λ i. x (crossed i))
 rows-word x a b c d e f g h ea eb ec ed ee ef eg eh = rw (ea, eb, ec, ed, ee, ef, eg, eh) (all-rows x)
+
+-- k such rows from row j on
+unfoldable pub rowsFrom : (ℕ → Bool) → ℕ → ℕ → ℕ
+rowsFrom x j zero = 0
+rowsFrom x j (suc k) = rowsFrom x (suc j) k * 2 + eightOf x (j * 8)
+
+eight-most : (x : ℕ → Bool) (p : ℕ) → eightOf x p ≤ 0x0101_0101_0101_0101
+unfolding eightOf
+eight-most x p =
+    omega (
+      arith,
+      digit-lt (x p),
+      digit-lt (x (p + 1)),
+      digit-lt (x (p + 2)),
+      digit-lt (x (p + 3)),
+      digit-lt (x (p + 4)),
+      digit-lt (x (p + 5)),
+      digit-lt (x (p + 6)),
+      digit-lt (x (p + 7)),
+    )
+
+rows-most : (x : ℕ → Bool) (j k : ℕ) → rowsFrom x j k + 0x0101_0101_0101_0101 ≤ 0x0101_0101_0101_0101 * 2 ^ k
+unfolding rowsFrom
+rows-most x j zero = omega arith
+rows-most x j (suc k) = omega (arith, eight-most x (j * 8), rows-most x (suc j) k, pow-suc 2 k)
+
+-- rows behind the last byte add nothing
+rows-none : (x : ℕ → Bool) (j k : ℕ) → ((p : ℕ) → j * 8 ≤ p → x p ≡ false) → rowsFrom x j k ≡ 0
+unfolding rowsFrom eightOf
+rows-none x j zero h = refl
+rows-none x j (suc k) h =
+    rw (
+      h (j * 8) (omega arith),
+      h (j * 8 + 1) (omega arith),
+      h (j * 8 + 2) (omega arith),
+      h (j * 8 + 3) (omega arith),
+      h (j * 8 + 4) (omega arith),
+      h (j * 8 + 5) (omega arith),
+      h (j * 8 + 6) (omega arith),
+      h (j * 8 + 7) (omega arith),
+      rows-none x (suc j) k (λ p l. h p (omega arith)),
+    )
+
+rows-enough : (x : ℕ → Bool) (j k m : ℕ) → k ≤ m → ((p : ℕ) → (j + k) * 8 ≤ p → x p ≡ false) → rowsFrom x j k ≡ rowsFrom x j m
+unfolding rowsFrom
+rows-enough x j zero m l h = sym (rows-none x j m (λ p b. h p (omega arith)))
+rows-enough x j (suc k) zero l h = absurd (omega arith)
+rows-enough x j (suc k) (suc m) l h =
+    ap (λ (r : ℕ). r * 2 + eightOf x (j * 8)) (rows-enough x (suc j) k m (omega arith) (λ p b. h p (omega arith)))
+
+rows-whole : (x : ℕ → Bool) → rowsFrom x 0 8 ≡ wordOf (λ i. x (crossed i))
+unfolding wordOf pointWhere crossed eightOf rowsFrom
+rows-whole x = omega arith
+
+-- one row after another, from the last on
+pub rows-start : (x : ℕ → Bool) (j k : ℕ) → j ≡ k → 0 ≡ rowsFrom x j (k - j)
+unfolding rowsFrom
+rows-start x j k e = let z : k - j ≡ 0 = omega arith in rw z refl
+
+module _ (x : ℕ → Bool) (k j v : ℕ) (e : v ≡ rowsFrom x j (k - j)) (pos : 0 < j) (few : k ≤ 8) where
+  -- a further row fits into the word
+  pub rows-bound : v * 2 + 0x0101_0101_0101_0101 < 2 ^ 64
+  rows-bound =
+      let few : k - j ≤ 7 = omega arith in
+      let most : 2 ^ (k - j) ≤ 2 ^ 7 = pow-mono few in
+      omega (arith, e, rows-most x j (k - j))
+
+  pub rows-next : (w : ℕ) → j ≤ k → w ≡ eightOf x ((j - 1) * 8) → v * 2 + w ≡ rowsFrom x (j - 1) (k - (j - 1))
+  unfolding rowsFrom
+  rows-next w l ew =
+      let s : k - (j - 1) ≡ suc (k - j) = omega arith in
+      let i : suc (j - 1) ≡ j = omega arith in
+      rw (s, i) (ap₂ (λ (a b : ℕ). a * 2 + b) e ew)
+
+pub rows-end : (t : List ℕ) (k j v : ℕ) → v ≡ rowsFrom (present t) j (k - j) → j ≡ 0 → k ≤ 8 → length t ≡ k * 8
+    → v ≡ wordOf (λ i. present t (crossed i))
+unfolding present
+rows-end t k j v e z few size =
+    let s : k - j ≡ k = omega arith in
+    e ∙ ap₂ (rowsFrom (present t)) z s
+    ∙ rows-enough (present t) 0 k 8 few (λ p l. ap (λ (y : ℕ). eqb y 1) (List·getD-eq-default t 0 (omega arith)))
+    ∙ rows-whole (present t)
+
+-- a crossed word crossed back
+pub word-back : (h : ℕ → Bool) (v w : ℕ) → v ≡ wordOf (λ i. h (crossed i)) → w ≡ wordOf (λ i. bit v (crossed i)) → w ≡ wordOf h
+word-back h v w e e′ =
+    e′ ∙ word-cong _ _ (λ i l.
+    ap (λ (y : ℕ). bit y (crossed i)) e ∙ word-bit _ (crossed i) (omega (arith, crossed-lt 1 i (omega arith))) ∙ ap h (crossed-twice i))
 
 pub part-crossed : (t : List ℕ) (start d w v : ℕ) → start ≡ 64 * w → d ≡ 64 → v ≡ wordOf (λ i. present (take d (drop start t)) (crossed i))
     → v ≡ wordOf (λ i. present t (crossed (64 * w + i)))

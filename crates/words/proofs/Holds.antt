@@ -23,7 +23,10 @@ pub record Holds (v : ℕ) (h : ℕ → Bool) : Type 0 where
   pub small : v < 2 ^ 64
   pub bits : (i : ℕ) → i < 64 → bit v i ≡ h i
 
--- a word that is known, and one that is read
+-- any word, one that is known, and one that is read
+pub own-holds : (v : ℕ) → v < 2 ^ 64 → Holds v (bit v)
+own-holds v l = record { small = l; bits = λ i _. refl }
+
 pub word-holds : (v : ℕ) (h : ℕ → Bool) → v ≡ wordOf h → Holds v h
 word-holds v h e = record { small = rw e (word-lt h); bits = λ i l. ap (λ (x : ℕ). bit x i) e ∙ word-bit h i l }
 

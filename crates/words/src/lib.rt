@@ -42,7 +42,7 @@ fn wide(byte: u8) -> u64
     byte as u64
 }
 
-// The word of at most 64 bytes, the last first.
+// The word of at most 64 bytes, the last first: for tables that are too short to take eight at a time.
 fn pack_word(t: &[u8]) -> u64
     requires { ⌜ (length (now t) ≤ 64) × AreBits (now t) ⌝ }
     ensures { λ r. ⌜ r ≡ wordOf (present (now (t .entry))) ⌝ }
@@ -74,6 +74,20 @@ fn gather(t: &[u8]) -> u64
 {
     let high = ((eight(t, 56) * 2 + eight(t, 48)) * 2 + eight(t, 40)) * 2 + eight(t, 32);
     (((high * 2 + eight(t, 24)) * 2 + eight(t, 16)) * 2 + eight(t, 8)) * 2 + eight(t, 0)
+}
+
+// The same of fewer bytes, eight times `eights`.
+fn gather_few(t: &[u8], eights: usize) -> u64
+    requires { ⌜ (eights ≤ 8) × (length (now t) ≡ eights * 8) × AreBits (now t) ⌝ }
+    ensures { λ r. ⌜ r ≡ wordOf (λ i. present (now (t .entry)) (crossed i)) ⌝ }
+{
+    let mut word = 0u64;
+    let mut j = eights;
+    while 0 < j {
+        j -= 1;
+        word = word * 2 + eight(t, j * 8);
+    }
+    word
 }
 
 // A word, crossed, for each 64 bytes.
@@ -114,8 +128,12 @@ pub fn pack(n: usize, t: &[u8], words: &mut [u64])
     requires { ⌜ (n ≤ 10) × IsTable n (now t) × (length (now words) ≡ 2 ^ (n - 6)) ⌝ }
     ensures { λ _. ⌜ now (words .exit) ≡ wordsOf (2 ^ (n - 6)) (present (now (t .entry))) ⌝ }
 {
-    if n < 6 {
+    if n < 3 {
         words[0] = pack_word(t);
+        return;
+    }
+    if n < 6 {
+        words[0] = cross(gather_few(t, tables::pow2(n - 3)));
         return;
     }
     gather_all(t, words);
@@ -308,13 +326,17 @@ fn pass(t: &mut [u64], c: usize)
     low_values(t);
 }
 
-// The same. Ten letters have a call of their own, so that its widths are literals.
+// The same. Ten letters have a call of their own, so that its widths are literals; up to six are one word, which needs no loop.
 pub fn to_values(t: &mut [u64], c: usize)
     requires { ⌜ (c ≤ 4) × (length (now t) ≡ 2 ^ c) ⌝ }
     ensures { λ _. ⌜ now (t .exit) ≡ wordsOf (2 ^ c) (value (6 + c) (bitAt (now (t .entry)))) ⌝ }
 {
     if c == 4 {
         pass(t, 4);
+        return;
+    }
+    if c == 0 {
+        t[0] = word_values(t[0]);
         return;
     }
     pass(t, c);
@@ -422,6 +444,14 @@ fn exchange(word: u64, mask: u64, width: usize) -> u64
     ((word & mask) >> width) | ((word << width) & mask)
 }
 
+// f with a letter below six turned over, in one word.
+fn turn_word(f: u64, x: usize) -> u64
+    requires { ⌜ x < 6 ⌝ }
+    ensures { λ r. ⌜ r ≡ wordOf (λ i. bit f (turned x i)) ⌝ }
+{
+    exchange(f, low_letter(x), tables::pow2(x))
+}
+
 // f with a letter below six turned over.
 fn turn_low(f: &[u64], x: usize, out: &mut [u64])
     requires { ⌜ (x < 6) × (length (now f) ≡ length (now out)) ⌝ }
@@ -517,6 +547,14 @@ pub fn both_cases(f: &[u64], x: usize, c: usize, out: &mut [u64])
     multiply_into(out, f);
 }
 
+// The same of a letter below six, in one word.
+pub fn both_word(f: u64, x: usize) -> u64
+    requires { ⌜ x < 6 ⌝ }
+    ensures { λ r. ⌜ r ≡ wordOf (λ i. bit f (assign i x true) && bit f (assign i x false)) ⌝ }
+{
+    turn_word(f, x) & f
+}
+
 // f with the values a put for letter x.
 pub fn replace(f: &[u64], x: usize, a: &[u64], c: usize, out: &mut [u64])
     requires { ⌜ (x < 6 + c) × (c ≤ 4) × (length (now f) ≡ 2 ^ c) × (length (now a) ≡ 2 ^ c) × (length (now out) ≡ 2 ^ c) ⌝ }
@@ -527,6 +565,14 @@ pub fn replace(f: &[u64], x: usize, a: &[u64], c: usize, out: &mut [u64])
         let own = f[i];
         out[i] = own ^ ((a[i] ^ letter_word(x, i)) & (own ^ out[i]));
     }
+}
+
+// The same of a letter below six, in one word.
+pub fn replace_word(f: u64, x: usize, a: u64) -> u64
+    requires { ⌜ x < 6 ⌝ }
+    ensures { λ r. ⌜ r ≡ wordOf (λ i. bit f (assign i x (bit a i))) ⌝ }
+{
+    f ^ ((a ^ low_letter(x)) & (f ^ turn_word(f, x)))
 }
 
 fn replace_with(a: &mut [u64], x: usize, slot: &[u64], c: usize, old: &mut [u64])

@@ -6,12 +6,12 @@ use mathlib.Core.Bool.{Bool, true, not, _&&_, cond}
 use mathlib.Core.List.{List, [], _∷_, _++_}
 use Prim.Native.Nat.{ℕ, suc, _+_, _*_, _/_, _%_, _<_}
 use lib.Dec.{eqb}
-use lib.ListN.{getD, drop}
+use lib.ListN.{getD, drop, set}
 use Rattle.ring.specs.Letters.{bit, assign}
 use Rattle.ring.specs.Lists.{has}
 use Rattle.ring.specs.Polynomial.{_⊕_}
 use Rattle.solution.specs.Inner.ByPoints.{bothCases, answeredThrough, zeroChoice}
-use Rattle.words.specs.Inner.Words.{wordsOf, bitAt}
+use Rattle.words.specs.Inner.Words.{wordOf, wordsOf, bitAt}
 
 -- the letters of a list are below n
 abbrev pub InLetters : ℕ → List ℕ → Type 0
@@ -58,3 +58,14 @@ placeOf (y ∷ order) x = cond (eqb x y) 0 (suc (placeOf order x))
 -- word w of the answers by unknown, k words to an unknown, from those in the order's slots
 unfoldable pub slotWord : ℕ → List ℕ → List ℕ → ℕ → ℕ
 slotWord k order slots w = getD slots (placeOf order (w / k) * k + w % k) 0
+
+-- ---- one word to an answer, as up to six letters have it
+-- the answers of the order's unknowns, each in the place of its unknown; the other places as they were
+unfoldable pub answeredWords : (ℕ → Bool) → List ℕ → List ℕ → List ℕ
+answeredWords f [] answers = answers
+answeredWords f (x ∷ order) answers = set (answeredWords (bothCases f x) order answers) x (wordOf (answerAt f x order))
+
+-- a with the values in the places of the order's letters put for them, the last one first
+unfoldable pub putPlaced : List ℕ → List ℕ → (ℕ → Bool) → ℕ → Bool
+putPlaced answers [] a p = a p
+putPlaced answers (x ∷ order) a p = putPlaced answers order a (assign p x (bit (getD answers x 0) p))

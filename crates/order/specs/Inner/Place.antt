@@ -11,6 +11,10 @@ use Rattle.order.specs.Order.{letters, groups}
 unfoldable pub start : ℕ → ℕ → ℕ
 start n k = length (groups n k)
 
+-- a table of these places for o letters; behind the last, the end
+abbrev pub AreStarts : ℕ → List ℕ → Type 0
+AreStarts o t = t ≡ listed (o + 2) (start o)
+
 -- a table of the numbers of letters of the masks below 32
 abbrev pub AreLetters : List ℕ → Type 0
 AreLetters t = t ≡ listed 32 letters
