@@ -4,7 +4,7 @@
 use mathlib.Core.Path.{_≡_, refl, sym, ap, ap₂, _∙_}
 use mathlib.Core.List.{List, [], _++_, append-assoc, append-nil}
 use Prim.Native.Nat.{ℕ, zero, suc, _+_, _-_, _*_, _^_, _≤_, _<_}
-use native.Mathlib.Nat.{add-zero, suc-mul, add-mul, one-mul, mul-le-mul, mul-le-mul-right}
+use native.Mathlib.Nat.{add-zero, suc-mul, add-mul, mul-one, one-mul, mul-le-mul, mul-le-mul-right}
 use native.Mathlib.Numerals.{add-one}
 use native.Mathlib.Omega.{arith}
 use lib.ListN.{length, take, drop, length-append}
@@ -135,6 +135,20 @@ module _ (k n : ℕ) (l : List ℕ) (e : k ≡ 2 ^ (n - 6)) (h : n ≤ 10) where
 
   pub answers-size : (u : ℕ) → u ≤ 6 → length l ≡ 96 → length (take (u * k) l) ≡ u * 2 ^ (n - 6)
   answers-size u hu s = sym (answers-part u hu s) ∙ ap (λ (x : ℕ). u * x) e
+
+-- up to six letters have one word to a polynomial
+module _ (n : ℕ) (l : List ℕ) (h : n ≤ 6) where
+  one : 1 ≡ 2 ^ (n - 6)
+  one = let z : 0 ≡ n - 6 = omega arith in ap (λ (x : ℕ). 2 ^ x) z
+
+  pub few-size : length l ≡ 1 → length l ≡ 2 ^ (n - 6)
+  few-size s = s ∙ one
+
+  pub few-answers-part : (u : ℕ) → u ≤ 6 → length l ≡ 6 → u ≡ length (take u l)
+  few-answers-part u hu s = sym (length-take-le u l (omega arith))
+
+  pub few-answers-size : (u : ℕ) → u ≤ 6 → length l ≡ 6 → length (take u l) ≡ u * 2 ^ (n - 6)
+  few-answers-size u hu s = sym (few-answers-part u hu s) ∙ sym (mul-one u) ∙ ap (λ (x : ℕ). u * x) one
 
 -- ---- a table, packed
 module _ (n : ℕ) (t ws : List ℕ) (is : IsTable n t) (e : ws ≡ wordsOf (2 ^ (n - 6)) (present t)) where

@@ -1,7 +1,7 @@
 -- The parts of a listed entry, put one behind another: its start, its monomials, 'none', its end. Each part asks for just the room that its
 -- bytes take.
 -- Assumes nothing.
-use mathlib.Core.Path.{_≡_, sym, ap, _∙_}
+use mathlib.Core.Path.{_≡_, refl, sym, ap, _∙_}
 use mathlib.Core.Bool.{Bool, true, false}
 use mathlib.Core.List.{List, [], _∷_, _++_, map, append-nil, append-assoc}
 use Prim.Native.Nat.{ℕ, _+_, _-_, _*_, _/_, _%_, _^_, _≤_, _<_}
@@ -36,6 +36,24 @@ module _ (code : ℕ) where
   pub answer-put : {at r : ℕ} {old new : List ℕ} → (code / 1024 ≡ 0 → ⊥)
       → Put old at (3 ∷ (code / 1024 - 1) ∷ code % 1024 % 256 ∷ code % 1024 / 256 ∷ []) r new → Put old at (listedRecord code) r new
   answer-put n p = put-same p (sym (answer-listed code n))
+
+  -- the same as the four bytes of one number
+  pub answer-bytes : {at r : ℕ} {old new : List ℕ} {x : ℕ} → code < 65536 → (code / 1024 ≡ 0 → ⊥)
+      → x ≡ 3 + 256 * (code / 1024 - 1) + 65536 * (code % 1024)
+      → Put old at (x % 256 ∷ x / 256 % 256 ∷ x / 65536 % 256 ∷ x / 16777216 % 256 ∷ []) r new → Put old at (listedRecord code) r new
+  answer-bytes {x = x} small n e p =
+      let i : ℕ = code / 1024 - 1 in
+      let m : ℕ = code % 1024 in
+      let i-lt : i < 63 = omega arith in
+      let m-lt : m < 1024 = omega arith in
+      let kind : x % 256 ≡ 3 = omega (arith, e) in
+      let rest : x / 256 ≡ i + 256 * m = omega (arith, e) in
+      let mask : x / 65536 ≡ m = omega (arith, e) in
+      let top : x / 16777216 ≡ m / 256 = omega (arith, e) in
+      let unknown : x / 256 % 256 ≡ i = rw rest (omega arith) in
+      let low : x / 65536 % 256 ≡ m % 256 = rw mask refl in
+      let high : x / 16777216 % 256 ≡ m / 256 = rw top (omega arith) in
+      answer-put n (put-same p (rw (kind, unknown, low, high) refl))
 
 -- ---- the loop over the monomials
 abbrev pub Writing : List ℕ → List ℕ → ℕ → ℕ → ℕ → List ℕ → Type 0

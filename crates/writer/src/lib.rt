@@ -7,7 +7,7 @@ use tables::Question;
 ghost use mathlib.Core.Path.{_≡_};
 ghost use mathlib.Core.Bool.{true};
 ghost use mathlib.Core.List.{[], _∷_, _++_, map};
-ghost use Prim.Native.Nat.{_+_, _-_, _*_, _^_, _≤_, _<_};
+ghost use Prim.Native.Nat.{_+_, _-_, _*_, _/_, _%_, _^_, _≤_, _<_};
 ghost use lib.ListN.{length, take};
 ghost use Rattle.ring.specs.Polynomial.{value};
 ghost use Rattle.ring.specs.Table.{table};
@@ -64,6 +64,27 @@ fn put4(out: &mut [u8], at: usize, a: u8, b: u8, c: u8, d: u8) -> usize
     at + 4
 }
 
+fn low_byte(x: usize) -> u8
+    ensures { λ r. ⌜ r ≡ x % 256 ⌝ }
+{
+    (x & 255) as u8
+}
+
+// The four bytes of a number, the lowest first. In one function by itself, so that it is one store.
+fn put_bytes(x: usize, out: &mut [u8], at: usize) -> usize
+    requires { ⌜ at + 4 ≤ length (now out) ⌝ }
+    ensures { λ r. ⌜ Put (now (out .entry)) at (x % 256 ∷ x / 256 % 256 ∷ x / 65536 % 256 ∷ x / 16777216 % 256 ∷ []) r (now (out .exit)) ⌝ }
+{
+    put4(
+        out,
+        at,
+        low_byte(x),
+        low_byte(x >> 8),
+        low_byte(x >> 16),
+        low_byte(x >> 24),
+    )
+}
+
 fn wide(x: u16) -> usize
     ensures { λ r. ⌜ r ≡ x ⌝ }
 {
@@ -98,25 +119,7 @@ fn list_values(
     order::list_monomials(n, tag, own, masks, codes, from)
 }
 
-// The monomials of the answer for unknown j.
-fn list_answer(
-    j: usize,
-    n: usize,
-    values: &[u64],
-    masks: &[u16],
-    codes: &mut [u16],
-    from: usize,
-) -> usize
-    requires { ⌜ (j < 6) × (n ≤ 10) × (length (now values) ≡ 2 ^ (n - 6)) × (now masks ≡ writtenOrder n)
-        × (from + 2 ^ n ≤ length (now codes)) ⌝ }
-    ensures { λ r. ⌜ Listed (now (codes .entry)) from (tagged (1024 * (j + 1)) (monomials n (value n (bitAt (now (values .entry))))))
-        r (now (codes .exit)) ⌝ }
-{
-    let k = words::word_count(n);
-    let mut own = [0u64; 16];
-    list_values(n, 1024 * (j + 1), values, masks, codes, from, &mut own[..k])
-}
-
+// The monomials of the answers, unknown 0 first; `own` is room for the coefficients of one.
 fn list_answers(
     u: usize,
     n: usize,
@@ -124,9 +127,10 @@ fn list_answers(
     masks: &[u16],
     codes: &mut [u16],
     from: usize,
+    own: &mut [u64],
 ) -> usize
     requires { ⌜ (u ≤ 6) × (n ≤ 10) × (length (now answers) ≡ u * 2 ^ (n - 6)) × (now masks ≡ writtenOrder n)
-        × (from + u * 2 ^ n ≤ length (now codes)) ⌝ }
+        × (from + u * 2 ^ n ≤ length (now codes)) × (length (now own) ≡ 2 ^ (n - 6)) ⌝ }
     ensures { λ r. ⌜ Listed (now (codes .entry)) from (answerCodes u n (now (answers .entry))) r (now (codes .exit)) ⌝ }
 {
     let k = words::word_count(n);
@@ -134,12 +138,20 @@ fn list_answers(
     for j in 0..u {
         let start = j * k;
         let end = start + k;
-        at = list_answer(j, n, &answers[start..end], masks, codes, at);
+        at = list_values(
+            n,
+            1024 * (j + 1),
+            &answers[start..end],
+            masks,
+            codes,
+            at,
+            own,
+        );
     }
     at
 }
 
-// Uses up the values; `answers` is room for those of the answers.
+// Uses up the values; `answers` is room for those of the answers, `own` for the coefficients of one.
 fn list_with(
     u: usize,
     g: usize,
@@ -149,15 +161,16 @@ fn list_with(
     masks: &[u16],
     codes: &mut [u16],
     answers: &mut [u64],
+    own: &mut [u64],
 ) -> Listing
     requires { ⌜ Listable u g (now coefficients) (now values) (now masks) × ((u + 1) * 2 ^ (u + g) ≤ length (now codes))
-        × (orderFits u order ≡ true) × (length (now answers) ≡ u * 2 ^ (u + g - 6)) ⌝ }
+        × (orderFits u order ≡ true) × (length (now answers) ≡ u * 2 ^ (u + g - 6)) × (length (now own) ≡ 2 ^ (u + g - 6)) ⌝ }
     ensures { λ r. ⌜ Lists (ordered u g (take u order) (table (u + g) (bitAt (now (coefficients .entry))))) r (now (codes .exit)) ⌝ }
 {
     let told = order::list_monomials(u + g, 0, coefficients, masks, codes, 0);
     match solver::solve_values(u, g, order, values, answers) {
         Verdict::Solved => {
-            let all = list_answers(u, u + g, answers, masks, codes, told);
+            let all = list_answers(u, u + g, answers, masks, codes, told, own);
             Listing::Solved(told, all)
         }
         Verdict::None(state) => Listing::None(told, state.0 as u8),
@@ -179,8 +192,26 @@ pub fn list_entry(
         × (orderFits u order ≡ true) ⌝ }
     ensures { λ r. ⌜ Lists (ordered u g (take u order) (table (u + g) (bitAt (now (coefficients .entry))))) r (now (codes .exit)) ⌝ }
 {
-    let size = u * words::word_count(u + g);
+    // Up to six letters have one word to a polynomial: clearing room for more would take longer than to solve.
+    if u + g <= 6 {
+        let mut answers = [0u64; 6];
+        let mut own = [0u64; 1];
+        return list_with(
+            u,
+            g,
+            order,
+            coefficients,
+            values,
+            masks,
+            codes,
+            &mut answers[..u],
+            &mut own,
+        );
+    }
+    let k = words::word_count(u + g);
+    let size = u * k;
     let mut answers = [0u64; 96];
+    let mut own = [0u64; 16];
     list_with(
         u,
         g,
@@ -190,6 +221,7 @@ pub fn list_entry(
         masks,
         codes,
         &mut answers[..size],
+        &mut own[..k],
     )
 }
 
@@ -200,12 +232,12 @@ fn put_monomial(code: usize, out: &mut [u8], at: usize) -> usize
 {
     let i = code / 1024;
     let m = code % 1024;
-    let low = (m % 256) as u8;
-    let high = (m / 256) as u8;
     if i == 0 {
+        let low = (m % 256) as u8;
+        let high = (m / 256) as u8;
         return put3(out, at, 2, low, high);
     }
-    put4(out, at, 3, (i - 1) as u8, low, high)
+    put_bytes(3 + 256 * (i - 1) + 65536 * m, out, at)
 }
 
 fn put_monomials(codes: &[u16], out: &mut [u8], from: usize) -> usize
@@ -424,7 +456,7 @@ pub fn write_entry(
         return Written::Refused(refusal);
     }
     let k = tables::pow2(u + g);
-    // Up to six letters need so much less room that clearing all of it would take as long as much of the work.
+    // Up to six letters need a sixteenth of the room, which is cleared before it is lent.
     if k <= 64 {
         let mut masks = [0u16; 64];
         let mut codes = [0u16; 448];
