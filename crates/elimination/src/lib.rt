@@ -1,5 +1,5 @@
 // Boole's elimination on truth values, 64 points to a word, in any order of the unknowns: each stage's values are kept, and the way back
-// goes from the last, the later answers put in one letter at a time.
+// goes from the last, the later answers put in one letter at a time. Up to six letters are one word, and have functions of their own.
 // `solver` asks the questions first; nothing here is a public call of the library.
 // The contracts cite the method at points (`solution/specs/Inner/ByPoints.antt`), which the laws of `solution` tie to the polynomials.
 ghost use mathlib.Core.Path.{_≡_};

@@ -192,7 +192,7 @@ pub fn list_entry(
         × (orderFits u order ≡ true) ⌝ }
     ensures { λ r. ⌜ Lists (ordered u g (take u order) (table (u + g) (bitAt (now (coefficients .entry))))) r (now (codes .exit)) ⌝ }
 {
-    // Up to six letters have one word to a polynomial: clearing room for more would take longer than to solve.
+    // Up to six letters have one word to a polynomial: clearing room for sixteen would take as long as to solve.
     if u + g <= 6 {
         let mut answers = [0u64; 6];
         let mut own = [0u64; 1];
