@@ -17,7 +17,7 @@ use lib.Pow.{pow-mono, pow-add, pow-pos}
 use borrow.Author.Tests.{le-ltb}
 use Rattle.ring.specs.Letters.{digit, bit, pointWhere}
 use Rattle.ring.specs.Lists.{listed}
-use Rattle.ring.specs.Polynomial.{_⊕_, value, substitute}
+use Rattle.ring.specs.Polynomial.{Polynomial, _⊕_, value, substitute}
 use Rattle.ring.specs.Table.{present, table, held, forUnknowns}
 use Rattle.ring.proofs.Bool.{xor-false, digit-lt}
 use Rattle.ring.proofs.Lists.{getD-listed}
@@ -259,14 +259,14 @@ replaced-point n u p h hu hn hp keep =
     go j l (no a) (yes b) = high j (omega (arith, a)) ∙ sym (keep j (omega (arith, a))) ∙ sym (bit-pointWhere n h j b)
     go j l (no a) (no b) = absurd (omega (arith, a, b))
 
-pub substitute-done : (u n k : ℕ) (condition handed f parts f′ out : List ℕ) → u ≤ 6 → u ≤ n → k ≡ 2 ^ (n - 6)
-    → f ≡ wordsOf (2 ^ (n - 6)) (value n (present condition)) → parts ≡ answerWords 6 (2 ^ (n - 6)) (putFor u n handed)
+-- the values after the look-up are those of the polynomial with the handed ones put in
+pub handed-put : (u n k : ℕ) (handed f parts f′ : List ℕ) → u ≤ 6 → u ≤ n → k ≡ 2 ^ (n - 6)
+    → parts ≡ answerWords 6 (2 ^ (n - 6)) (putFor u n handed)
     → f′ ≡ wordsOf k (λ p. bitAt f (64 * (p / 64) + pointWhere 6 (λ j. bitAt parts (j * (64 * k) + p))))
-    → out ≡ table n (value n (bitAt f′))
-    → out ≡ table n (substitute n n (present condition) (forUnknowns u (held n handed)))
+    → (F : Polynomial) → f ≡ wordsOf (2 ^ (n - 6)) (value n F) → (p : ℕ) → p < 2 ^ n
+    → bitAt f′ p ≡ value n (substitute n n F (forUnknowns u (held n handed))) p
 unfolding putFor
-substitute-done u n k condition handed f parts f′ out hu hn ek ef ep e′ eo =
-    eo ∙ table-back n (substitute n n (present condition) (forUnknowns u (held n handed))) f′ (λ p l.
+handed-put u n k handed f parts f′ hu hn ek ep e′ F ef p l =
     let m : p < 64 * 2 ^ (n - 6) = omega (arith, room n) in
     let q : 64 * (p / 64) + pointWhere 6 (λ j. bitAt parts (j * (64 * 2 ^ (n - 6)) + p)) ≡ pointWhere n (λ j. putFor u n handed j p) =
     ap (λ (x : ℕ). 64 * (p / 64) + x) (pointWhere-cong 6 _ _ (λ j i. answer-at 6 (2 ^ (n - 6)) j p (putFor u n handed) parts ep i m))
@@ -276,7 +276,16 @@ substitute-done u n k condition handed f parts f′ out hu hn ek ef ep e′ eo =
     (e′ ∙ ap (λ (x : ℕ). wordsOf x (λ p. bitAt f (64 * (p / 64) + pointWhere 6 (λ j. bitAt parts (j * (64 * x) + p))))) ek) p m
     ∙ ap (bitAt f) q
     ∙ at-known (2 ^ (n - 6)) _ f ef _ (omega (arith, room n, pointWhere-lt n (λ j. putFor u n handed j p)))
-    ∙ sym (value-forUnknowns n u (present condition) (held n handed) p))
+    ∙ sym (value-forUnknowns n u F (held n handed) p)
+
+-- .. and its table is what they make
+pub substitute-done : (u n : ℕ) (condition handed f f′ out : List ℕ)
+    → ((F : Polynomial) → f ≡ wordsOf (2 ^ (n - 6)) (value n F) → (p : ℕ) → p < 2 ^ n
+    → bitAt f′ p ≡ value n (substitute n n F (forUnknowns u (held n handed))) p)
+    → f ≡ wordsOf (2 ^ (n - 6)) (value n (present condition)) → out ≡ table n (value n (bitAt f′))
+    → out ≡ table n (substitute n n (present condition) (forUnknowns u (held n handed)))
+substitute-done u n condition handed f f′ out put ef eo =
+    eo ∙ table-back n (substitute n n (present condition) (forUnknowns u (held n handed))) f′ (put (present condition) ef)
 
 -- ---- the loops
 pub choose-more : (b half p : ℕ) (t₀ t : List ℕ) → t ≡ filled p (λ p. chosen b (getD t₀ p 0) (getD t₀ (p + half) 0)) t₀ → p < half

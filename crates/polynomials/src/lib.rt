@@ -4,11 +4,11 @@
 // and then lend slices of exactly the length that is needed. All but the sum go to values in words, and come back.
 ghost use mathlib.Core.Path.{_≡_};
 ghost use mathlib.Core.List.{_++_};
-ghost use Prim.Native.Nat.{_+_, _-_, _*_, _/_, _%_, _^_, _≤_, _<_};
+ghost use Prim.Native.Nat.{ℕ, _+_, _-_, _*_, _/_, _%_, _^_, _≤_, _<_};
 ghost use lib.ListN.{length, getD, drop};
 ghost use Rattle.ring.specs.Letters.{bit, pointWhere};
 ghost use Rattle.ring.specs.Lists.{listed};
-ghost use Rattle.ring.specs.Polynomial.{sum, product, substitute};
+ghost use Rattle.ring.specs.Polynomial.{Polynomial, value, sum, product, substitute};
 ghost use Rattle.ring.specs.Join.{join};
 ghost use Rattle.ring.specs.Derivative.{derivative};
 ghost use Rattle.ring.specs.Table.{AreBits, IsTable, present, table, held, forUnknowns};
@@ -204,6 +204,22 @@ fn take_parts(u: usize, n: usize, handed: &[u8], parts: &mut [u64])
     }
 }
 
+// Handed polynomials put for the unknowns, all at once, into a condition that stands by its values; the givens stay. `parts` is left with the
+// values of what was put for each of the six lowest letters: the handed polynomials first.
+pub fn put_handed(u: usize, n: usize, handed: &[u8], f: &mut [u64], parts: &mut [u64])
+    requires { ⌜ (u ≤ 6) × (u ≤ n) × (n ≤ 10) × (length (now handed) ≡ u * 2 ^ n) × AreBits (now handed) × (length (now f) ≡ 2 ^ (n - 6))
+        × (length (now parts) ≡ 6 * 2 ^ (n - 6)) ⌝ }
+    ensures { λ _. ⌜ ((F : Polynomial) → now (f .entry) ≡ wordsOf (2 ^ (n - 6)) (value n F) → (p : ℕ) → p < 2 ^ n
+        → bitAt (now (f .exit)) p ≡ value n (substitute n n F (forUnknowns u (held n (now (handed .entry))))) p)
+        × (length (now (f .exit)) ≡ 2 ^ (n - 6))
+        × (now (parts .exit) ≡ answerWords 6 (2 ^ (n - 6)) (putFor u n (now (handed .entry)))) ⌝ }
+{
+    let mut t = [0u64; 16];
+    let mut s = [0u64; 16];
+    take_parts(u, n, handed, parts);
+    look_up(f, parts, &mut t, &mut s);
+}
+
 fn substitute_with(
     u: usize,
     g: usize,
@@ -212,21 +228,16 @@ fn substitute_with(
     out: &mut [u8],
     f: &mut [u64],
     parts: &mut [u64],
-    t: &mut [u64],
-    s: &mut [u64],
 )
     requires { ⌜ (u ≤ 6) × (u + g ≤ 10) × IsTable (u + g) (now condition) × (length (now handed) ≡ u * 2 ^ (u + g)) × AreBits (now handed)
         × (length (now out) ≡ 2 ^ (u + g)) ⌝ }
-    requires { ⌜ (length (now f) ≡ 2 ^ (u + g - 6)) × (length (now parts) ≡ 6 * 2 ^ (u + g - 6)) × (length (now t) ≡ 16)
-        × (length (now s) ≡ 16) ⌝ }
+    requires { ⌜ (length (now f) ≡ 2 ^ (u + g - 6)) × (length (now parts) ≡ 6 * 2 ^ (u + g - 6)) ⌝ }
     ensures { λ _. ⌜ now (out .exit)
         ≡ table (u + g) (substitute (u + g) (u + g) (present (now (condition .entry))) (forUnknowns u (held (u + g) (now (handed .entry))))) ⌝ }
 {
-    let n = u + g;
-    words::take_values(n, condition, f);
-    take_parts(u, n, handed, parts);
-    look_up(f, parts, t, s);
-    words::put_table(n, f, out);
+    words::take_values(u + g, condition, f);
+    put_handed(u, u + g, handed, f, parts);
+    words::put_table(u + g, f, out);
 }
 
 // Handed polynomials put for the unknowns of a condition, all at once; the givens stay. The scratch words live here.
@@ -240,17 +251,5 @@ pub fn substitute(u: usize, g: usize, condition: &[u8], handed: &[u8], out: &mut
     let all = 6 * k;
     let mut f = [0u64; 16];
     let mut parts = [0u64; 96];
-    let mut t = [0u64; 16];
-    let mut s = [0u64; 16];
-    substitute_with(
-        u,
-        g,
-        condition,
-        handed,
-        out,
-        &mut f[..k],
-        &mut parts[..all],
-        &mut t,
-        &mut s,
-    );
+    substitute_with(u, g, condition, handed, out, &mut f[..k], &mut parts[..all]);
 }
