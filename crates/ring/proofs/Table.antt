@@ -11,7 +11,7 @@ use lib.Dec.{eqb}
 use lib.Arith.{digits-lt}
 use lib.Pow.{high, low}
 use lib.ListN.{length, getD, take, replicate}
-use lib.Seq.{ext-getD, getD-take}
+use lib.Seq.{ext-getD, getD-take, take-at}
 use borrow.Author.Tests.{eqb-true, eqb-false}
 use Rattle.ring.specs.Letters.{digit}
 use Rattle.ring.specs.Polynomial.{Polynomial, value}
@@ -136,6 +136,14 @@ held-answerTable count n a j m hj hm =
 pub length-answerTable : (count n : ℕ) (a : ℕ → Polynomial) → length (answerTable count n a) ≡ count * 2 ^ n
 unfolding answerTable
 length-answerTable count n a = length-tabulate (count * 2 ^ n) _
+
+-- the same at the front of a buffer
+pub held-front : (count n : ℕ) (a : ℕ → Polynomial) (rest : List ℕ) (j m : ℕ) → j < count → m < 2 ^ n
+    → held n (answerTable count n a ++ rest) j m ≡ a j m
+held-front count n a rest j m hj hm =
+    sym (held-take n count (answerTable count n a ++ rest) j m hj hm)
+    ∙ ap (λ (t : List ℕ). held n t j m) (take-at (answerTable count n a) rest (count * 2 ^ n) (length-answerTable count n a))
+    ∙ held-answerTable count n a j m hj hm
 
 -- 'U such tables one after another, unknown 0 first'
 pub answerTable-none : (n : ℕ) (a : ℕ → Polynomial) → answerTable 0 n a ≡ []

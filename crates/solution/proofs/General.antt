@@ -8,14 +8,16 @@ use mathlib.Core.List.{List}
 use Prim.Native.Nat.{ℕ, _+_, _^_, _<_}
 use native.Mathlib.Omega.{arith}
 use lib.Dec.{ltb}
+use lib.ListN.{length}
 use borrow.Author.Tests.{ltb-true}
 use Rattle.ring.specs.Letters.{bit, pointWhere}
 use Rattle.ring.specs.Polynomial.{Polynomial, _⊕_, value, constant}
 use Rattle.ring.specs.Lists.{has}
 use Rattle.ring.proofs.Bool.{xor-false}
 use Rattle.ring.proofs.Value.{value-cong}
+use Rattle.ring.proofs.Substitute.{substitute-cong}
 use Rattle.ring.proofs.Points.{pointWhere-cong, bit-pointWhere, pointWhere-lt, pointWhere-bits}
-use Rattle.solution.specs.Letters.{Letter, HoldsGivens, Valuation, valueOver}
+use Rattle.solution.specs.Letters.{Letter, HoldsGivens, Valuation, pointOf, valueOver}
 use Rattle.solution.specs.Substitution.{Substitution, letterAt, ownLetters, putIn, MakesZero, InstanceOf}
 use Rattle.solution.specs.Condition.{IsOrder}
 use Rattle.solution.specs.Elimination.{booleAnswers, remains, lowenheim, particular}
@@ -102,6 +104,23 @@ module _ (U G : ℕ) (f : Polynomial) (a : Substitution) where
   pub zero-at : MakesZero U G f (ownLetters U G) a → (p : ℕ) → p < 2 ^ n → value n f (led U G a p) ≡ false
   zero-at z p h =
       ap (λ (q : ℕ). value n f (led U G a q)) (sym (ownPoint-valuation U G p h)) ∙ sym (own-led (valuation U p)) ∙ z (valuation U p)
+
+-- what makes a condition zero turns on its monomials in n letters alone ..
+makes-zero-same : (U G : ℕ) (f g : Polynomial) → ((m : ℕ) → m < 2 ^ (U + G) → g m ≡ f m) → (L : List Letter) (σ : Substitution)
+    → MakesZero U G f L σ → MakesZero U G g L σ
+unfolding valueOver putIn
+makes-zero-same U G f g same L σ z v =
+    value-cong (length L) _ _ (pointOf L v) (λ m _. substitute-cong (U + G) (length L) g f _ _ same (λ j _ i _. refl) m) ∙ z v
+
+-- .. and so does what is a general solution of it
+pub general-same : (U G : ℕ) (f g : Polynomial) → ((m : ℕ) → m < 2 ^ (U + G) → g m ≡ f m) → (a : Substitution) → General U G f a
+    → General U G g a
+general-same U G f g same a h =
+    record {
+      makes-zero = makes-zero-same U G f g same (ownLetters U G) a (h .makes-zero);
+      each-makes-zero = λ L holds τ. makes-zero-same U G f g same L (λ j. putIn U G L (a j) τ) (h .each-makes-zero L holds τ);
+      every-instance = λ L holds σ z. h .every-instance L holds σ (makes-zero-same U G g f (λ m l. sym (same m l)) L σ z);
+    }
 
 -- two general solutions are instances of each other
 pub each-other : (U G : ℕ) (f : Polynomial) (a b : Substitution) → General U G f a → General U G f b → InstancesOfEachOther U G a b

@@ -9,6 +9,7 @@ pub mod OrderAsked
 pub mod Verdict
 pub mod Join
 pub mod Theorems
+pub mod Handed
 pub mod Written
 pub mod ByPoints
 pub mod Rows

@@ -8,15 +8,15 @@ use native.Mathlib.Omega.{arith}
 use lib.Dec.{ltb}
 use Rattle.ring.specs.declared.State.{State}
 use Rattle.ring.specs.Letters.{bit, point, pointWhere}
-use Rattle.ring.specs.Polynomial.{count, odd, within, value, constant, letter, product, monomial, substitute}
+use Rattle.ring.specs.Polynomial.{count, odd, within, value, constant, letter, sum, product, monomial, substitute}
 use Rattle.ring.specs.Table.{present, held}
 use Rattle.ring.specs.Lists.{listed}
 use Rattle.ring.proofs.Substitute.{value-letter}
 use Rattle.solution.specs.Letters.{Letter, unknown, given, other, holds, HoldsGivens, place, Valuation, pointOf, valueOver}
 use Rattle.solution.specs.Substitution.{Substitution, letterAt, ownLetters, putIn, MakesZero, InstanceOf}
 use Rattle.solution.specs.Condition.{conditionOf}
-use Rattle.solution.specs.Elimination.{Verdict, solved, none}
-use Rattle.solution.specs.General.{RightVerdict}
+use Rattle.solution.specs.Elimination.{lowenheim, Verdict, solved, none}
+use Rattle.solution.specs.General.{General, RightVerdict}
 use Rattle.solution.proofs.Letters.{replacedValue, value-putIn, bit-place}
 
 -- a right verdict on the condition with the table t, in the order 0, 1, 2, ..
@@ -83,6 +83,11 @@ open-state-refuted h = true≢false (sym (h .state _ refl .blocked (record { 0 =
 pub later-state-refuted : Right 0 1 (1 ∷ 0 ∷ []) (none (record { 0 = 1 })) → ⊥
 unfolding value odd count within present point
 later-state-refuted h = h .state _ refl .smallest (record { 0 = 0 }) (omega arith) (λ choice l. refl)
+
+-- a handed polynomial that does not solve, taken by the formula: 1 for the condition u leaves u = u, which is no general solution
+pub unsolving-refuted : General 1 0 (present (0 ∷ 1 ∷ [])) (lowenheim 1 (present (0 ∷ 1 ∷ [])) (held 1 (1 ∷ 0 ∷ []))) → ⊥
+unfolding valueOver putIn substitute monomial product odd count value within constant letter place letterAt bit pointOf present ownLetters listed held lowenheim sum
+unsolving-refuted h = true≢false (h .makes-zero (λ l. true))
 
 -- u + a over a list in another order, with a foreign letter and a repeat
 abbrev ua : List ℕ

@@ -8,7 +8,7 @@ use lib.Dec.{eqb}
 use Rattle.ring.specs.declared.State.{State}
 use Rattle.ring.specs.Letters.{point}
 use Rattle.ring.specs.Polynomial.{Polynomial, value, constant, letter, sum, product, restrict, substitute, everyBelow}
-use Rattle.ring.specs.Table.{answerTable}
+use Rattle.ring.specs.Table.{answerTable, forUnknowns}
 use Rattle.solution.specs.Substitution.{Substitution, ownLetters, putIn}
 use Rattle.solution.specs.Condition.{Condition, width, polynomial}
 
@@ -63,6 +63,11 @@ smallestBlocked U G f = record { 0 = smallestBelow (2 ^ G) (λ s. blocked U G f 
 -- has f no monomial?
 unfoldable pub isZero : ℕ → Polynomial → Bool
 isZero n f = everyBelow (2 ^ n) (λ m. not (f m))
+
+-- 21: 'does the handed substitution make the condition zero' (document 02, C-15)? With it put for the unknowns, all at once, f has no
+-- monomial. 'Handed polynomials may mention unknowns'
+unfoldable pub handedSolves : ℕ → ℕ → Polynomial → Substitution → Bool
+handedSolves U G f b = isZero (U + G) (substitute (U + G) (U + G) f (forUnknowns U b))
 
 -- 'When every unknown has gone, a polynomial in the givens remains': is it 0?
 unfoldable pub solvable : ℕ → Polynomial → List ℕ → Bool
