@@ -1,5 +1,5 @@
 -- Walks over the volume of document 01's sample sheet, whole, from other places and damaged, and over entries with an order, right and
--- wrong; and which question comes first; by computation.
+-- wrong; which question comes first; and what the handed form answers; by computation.
 -- Assumes nothing.
 use mathlib.Core.Path.{_≡_, refl}
 use mathlib.Core.Bool.{false}
@@ -7,15 +7,15 @@ use mathlib.Core.List.{List, [], _∷_, _++_}
 use Prim.Native.Nat.{ℕ}
 use Rattle.ring.specs.Letters.{bit, point}
 use Rattle.ring.specs.Polynomial.{count, odd, within, value, constant, letter, sum, product, restrict, monomial, substitute, everyBelow}
-use Rattle.ring.specs.Table.{present, tabulate, table, answerTable}
+use Rattle.ring.specs.Table.{present, tabulate, table, held, answerTable, forUnknowns}
 use Rattle.ring.specs.Lists.{listed, has, times}
 use Rattle.tables.specs.Questions.{firstNo, lettersFit, hasRoom, areBits, holdsBits, roomQuestions, bitQuestions, bufferQuestions, inRange}
-use Rattle.tables.specs.Answered.{Reply, accepted, refused}
+use Rattle.tables.specs.Answered.{Reply, accepted, refused, reply, after, answered, call}
 use Rattle.order.specs.Order.{letters, before}
 use Rattle.solution.specs.Condition.{defaultOrder}
 use Rattle.solution.specs.Order.{orderBytes, orderFits}
-use Rattle.solution.specs.Elimination.{nextCondition, remains, answerFrom, booleAnswers, smallestBelow, blocked, smallestBlocked, isZero}
-use Rattle.solution.specs.Elimination.{solvable, booleTable, solve}
+use Rattle.solution.specs.Elimination.{nextCondition, remains, answerFrom, booleAnswers, lowenheim, smallestBelow, blocked, smallestBlocked, isZero}
+use Rattle.solution.specs.Elimination.{handedSolves, solvable, booleTable, solve}
 use Rattle.entry.specs.Record.{fields, widths, size, kind, fromLowFirst, bytes, among, valueIn, valueOf, bodyFits, sameBytes}
 use Rattle.entry.specs.Record.{isDefault, isNeeded, inBounds}
 use Rattle.entry.specs.Held.{next, untilEnd, firstRecords, records, hasMonomial, conditionIn, answersIn, unlessNone, heldCondition}
@@ -23,7 +23,8 @@ use Rattle.entry.specs.Held.{orderIn, heldVerdict}
 use Rattle.entry.specs.Questions.{routeFits, hasEnd, mayFollow, kindsFollow, kindsFit, allInBounds, standsBefore, inOrder, allInOrder}
 use Rattle.entry.specs.Questions.{numbersFit, answersHold}
 use Rattle.calls.specs.Questions.{valueQuestions, sessionQuestions, addQuestions, isName, markQuestions, returnQuestions, maskDeclared, derivativeQuestions}
-use Rattle.calls.specs.Questions.{solvingQuestions, writeQuestions, entryQuestions, auditQuestions, routeRises, walkQuestions}
+use Rattle.calls.specs.Questions.{solvingQuestions, handedQuestions, writeQuestions, entryQuestions, auditQuestions, routeRises, walkQuestions}
+use Rattle.calls.specs.Solving.{handedTable, handedCall}
 use Rattle.calls.specs.Walk.{walkAtMost, walkBehind, walkReply}
 
 -- `u+v` with u = v and v = v, but for its end
@@ -120,6 +121,39 @@ pub solution-asked : (firstNo (solvingQuestions 1 0 (0 ∷ 255 ∷ 255 ∷ 255 �
     × (firstNo (solvingQuestions 1 0 (0 ∷ 255 ∷ 255 ∷ 255 ∷ 255 ∷ 255 ∷ []) (1 ∷ 0 ∷ []) 2) ≡ 9)
 unfolding firstNo solvingQuestions lettersFit orderFits times everyBelow bufferQuestions roomQuestions bitQuestions hasRoom holdsBits areBits solvable isZero remains nextCondition product restrict odd count bit present
 solution-asked = (refl, refl)
+
+-- the handed form over one unknown, of the condition u: 1 before 4, which goes to all buffers before 8 goes to both tables, and 21 last; 1 does
+-- not make u zero, and 0 does
+pub handed-asked : (firstNo (handedQuestions 7 0 [] [] 0) ≡ 1)
+    × (firstNo (handedQuestions 1 0 (0 ∷ 2 ∷ []) (1 ∷ 0 ∷ []) 1) ≡ 4)
+    × (firstNo (handedQuestions 1 0 (0 ∷ 2 ∷ []) (1 ∷ 0 ∷ []) 2) ≡ 8)
+    × (firstNo (handedQuestions 1 0 (0 ∷ 1 ∷ []) (1 ∷ 2 ∷ []) 2) ≡ 8)
+    × (firstNo (handedQuestions 1 0 (0 ∷ 1 ∷ []) (1 ∷ 0 ∷ []) 2) ≡ 21)
+    × (firstNo (handedQuestions 1 0 (0 ∷ 1 ∷ []) (0 ∷ 0 ∷ []) 2) ≡ 0)
+unfolding firstNo handedQuestions handedSolves isZero everyBelow substitute monomial product odd count constant letter bit present held forUnknowns
+    lettersFit bufferQuestions roomQuestions bitQuestions hasRoom holdsBits areBits
+handed-asked = (refl, refl, refl, refl, refl, refl)
+
+-- what the handed form answers and leaves in a buffer of sevens, by masks 1, u, a, u*a or 1, u, v, u*v
+pub handed-answered :
+    -- `u+a`: a gives u = a, and the byte behind the answers stays; 0, which solves in state 0 only, is refused, and changes nothing
+    (handedCall 1 1 (0 ∷ 1 ∷ 1 ∷ 0 ∷ []) (0 ∷ 0 ∷ 1 ∷ 0 ∷ []) (7 ∷ 7 ∷ 7 ∷ 7 ∷ 7 ∷ [])
+    ≡ answered (accepted []) ((0 ∷ 0 ∷ 1 ∷ 0 ∷ 7 ∷ []) ∷ []))
+    × (handedCall 1 1 (0 ∷ 1 ∷ 1 ∷ 0 ∷ []) (0 ∷ 0 ∷ 0 ∷ 0 ∷ []) (7 ∷ 7 ∷ 7 ∷ 7 ∷ 7 ∷ [])
+    ≡ answered (refused 21 []) ((7 ∷ 7 ∷ 7 ∷ 7 ∷ 7 ∷ []) ∷ []))
+    -- `u+v`: v for both gives u = v, v = v; 1 for both gives u + v + u*v for both
+    × (handedCall 2 0 (0 ∷ 1 ∷ 1 ∷ 0 ∷ []) (0 ∷ 0 ∷ 1 ∷ 0 ∷ 0 ∷ 0 ∷ 1 ∷ 0 ∷ []) (7 ∷ 7 ∷ 7 ∷ 7 ∷ 7 ∷ 7 ∷ 7 ∷ 7 ∷ [])
+    ≡ answered (accepted []) ((0 ∷ 0 ∷ 1 ∷ 0 ∷ 0 ∷ 0 ∷ 1 ∷ 0 ∷ []) ∷ []))
+    × (handedCall 2 0 (0 ∷ 1 ∷ 1 ∷ 0 ∷ []) (1 ∷ 0 ∷ 0 ∷ 0 ∷ 1 ∷ 0 ∷ 0 ∷ 0 ∷ []) (7 ∷ 7 ∷ 7 ∷ 7 ∷ 7 ∷ 7 ∷ 7 ∷ 7 ∷ [])
+    ≡ answered (accepted []) ((0 ∷ 1 ∷ 1 ∷ 1 ∷ 0 ∷ 1 ∷ 1 ∷ 1 ∷ []) ∷ []))
+    -- `a` is 'none'
+    × (handedCall 1 1 (0 ∷ 0 ∷ 1 ∷ 0 ∷ []) (0 ∷ 0 ∷ 1 ∷ 0 ∷ []) (7 ∷ 7 ∷ 7 ∷ 7 ∷ []) ≡ answered (refused 21 []) ((7 ∷ 7 ∷ 7 ∷ 7 ∷ []) ∷ []))
+    -- without letters: `0` and `1`
+    × (handedCall 0 0 (0 ∷ []) [] (7 ∷ []) ≡ answered (accepted []) ((7 ∷ []) ∷ []))
+    × (handedCall 0 0 (1 ∷ []) [] (7 ∷ []) ≡ answered (refused 21 []) ((7 ∷ []) ∷ []))
+unfolding call reply after handedTable lowenheim sum answerTable tabulate firstNo handedQuestions handedSolves isZero everyBelow substitute monomial
+    product odd count constant letter bit present held forUnknowns lettersFit bufferQuestions roomQuestions bitQuestions hasRoom holdsBits areBits
+handed-answered = (refl, refl, refl, refl, refl, refl, refl)
 
 -- sessions over one unknown: 1 before the session's own 8, that before 4 of an added table and before 18, and 18 before 19
 pub session-asked : (firstNo (addQuestions 7 0 ((2 ∷ 0 ∷ []) ∷ []) []) ≡ 1)

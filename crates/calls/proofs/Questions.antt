@@ -1,26 +1,28 @@
 -- What it tells that a call is not refused, each of its questions being answered yes; and what is enough for it.
 -- Assumes nothing.
 use mathlib.Core.Path.{_≡_, refl, sym, ap, _∙_}
-use mathlib.Core.Bool.{true}
+use mathlib.Core.Bool.{Bool, true, false}
 use mathlib.Core.List.{List, [], _∷_}
 use mathlib.Core.Logic.{_↔_}
 use Prim.Native.Nat.{ℕ, _+_, _*_, _^_, _≤_}
+use native.Mathlib.Omega.{arith}
 use lib.ListN.{length, take}
 use borrow.Author.Tests.{le-leb, leb-true}
-use Rattle.tables.specs.declared.Question.the-variants.{Afresh, Rising}
-use Rattle.tables.specs.Questions.{asks, firstNo, lettersFit, hasRoom, holdsBits, writes, roomQuestions, bitQuestions, bufferQuestions}
+use Rattle.tables.specs.declared.Question.the-variants.{Letters, Room, Bits, Solution, Afresh, Rising, Order}
+use Rattle.tables.specs.Questions.{asks, asksGiving, firstNo, lettersFit, hasRoom, holdsBits, writes, roomQuestions, bitQuestions, bufferQuestions}
 use Rattle.tables.proofs.Bits.{bits-are}
 use Rattle.tables.proofs.FirstNo.{EachYes, each-yes, none-no, asked-before, asked-behind, then-further}
 use Rattle.tables.proofs.Questions.{lent-table, unknowns-small}
-use Rattle.solution.specs.Condition.{Condition, width, ListsEach}
+use Rattle.solution.specs.Condition.{Condition, width, polynomial, ListsEach}
 use Rattle.solution.specs.Order.{orderBytes, orderFits, lentCondition}
+use Rattle.solution.specs.Elimination.{solvable}
 use Rattle.solution.proofs.Order.{fits-each, take-orderBytes, bytes-fit}
 use Rattle.entry.specs.Record.{Record}
 use Rattle.entry.specs.Held.{routeOf, unknownsOf, givensOf}
 use Rattle.entry.specs.Entry.{entry, Archivable}
 use Rattle.entry.specs.Questions.{routeFits, answersHold}
 use Rattle.calls.specs.Text.{Accepted}
-use Rattle.calls.specs.Questions.{textQuestions, outputFits, writeQuestions, entryQuestions, readQuestions}
+use Rattle.calls.specs.Questions.{textQuestions, solvingQuestions, outputFits, writeQuestions, entryQuestions, readQuestions}
 use Rattle.calls.specs.Questions.{auditQuestions, routeRises, walkQuestions}
 use Rattle.entry.proofs.Passes.{Passes}
 
@@ -37,6 +39,54 @@ module _ (U G : ℕ) (text : List ℕ) (room : ℕ) where
 
   pub done-exactly : (firstNo (textQuestions U G text room) ≡ 0) ↔ (Accepted U G text × (2 ^ (U + G) ≤ room))
   done-exactly = (λ z. text-yes (each-yes (textQuestions U G text room) z), λ a. none-no (textQuestions U G text room) (yes-text a))
+
+-- ---- solving: what its questions before 9 ask
+pub record Posed (U G : ℕ) (order condition : List ℕ) (room : ℕ) : Type 0 where
+  pub letters : lettersFit U G ≡ true
+  pub of-order : orderFits U order ≡ true
+  pub long : hasRoom (2 ^ (U + G)) (length condition) ≡ true
+  pub answers-long : hasRoom (U * 2 ^ (U + G)) room ≡ true
+  pub bits : holdsBits (2 ^ (U + G)) condition ≡ true
+
+-- a no to 9 is one to the last question alone
+last-no : (letters order long room bits solution : Bool) (given : List ℕ)
+    → firstNo (asks Letters letters ∷ asks Order order ∷ asks Room long ∷ asks Room room ∷ asks Bits bits ∷ asksGiving Solution solution given ∷ [])
+    ≡ 9
+    → (letters ≡ true) × (order ≡ true) × (long ≡ true) × (room ≡ true) × (bits ≡ true) × (solution ≡ false)
+unfolding firstNo
+last-no true true true true true false given z = (refl, refl, refl, refl, refl, refl)
+last-no true true true true true true given z = absurd (omega (arith, z))
+last-no true true true true false solution given z = absurd (omega (arith, z))
+last-no true true true false bits solution given z = absurd (omega (arith, z))
+last-no true true false room bits solution given z = absurd (omega (arith, z))
+last-no true false long room bits solution given z = absurd (omega (arith, z))
+last-no false order long room bits solution given z = absurd (omega (arith, z))
+
+module _ (U G : ℕ) (order condition : List ℕ) (room : ℕ) where
+  -- has the condition a solution?
+  abbrev has-solution : Bool
+  has-solution = solvable (U + G) (polynomial (lentCondition U G order condition)) (take U order)
+
+  -- it is solved exactly if these are answered yes and it has a solution ..
+  pub solved-exactly : (firstNo (solvingQuestions U G order condition room) ≡ 0)
+      ↔ (Posed U G order condition room × (solvable (U + G) (polynomial (lentCondition U G order condition)) (take U order) ≡ true))
+  unfolding solvingQuestions bufferQuestions roomQuestions bitQuestions
+  solved-exactly = (
+    λ z. let y = each-yes (solvingQuestions U G order condition room) z in (
+      record { letters = y .0; of-order = y .1 .0; long = y .1 .1 .0; answers-long = y .1 .1 .1 .0; bits = y .1 .1 .1 .1 .0 },
+      y .1 .1 .1 .1 .1 .0,
+    ),
+    λ (p, s). none-no (solvingQuestions U G order condition room)
+        (p .letters, (p .of-order, (p .long, (p .answers-long, (p .bits, (s, tt)))))),
+  )
+
+  -- .. and refused under 9 only if it has none
+  pub none-said : firstNo (solvingQuestions U G order condition room) ≡ 9
+      → Posed U G order condition room × (solvable (U + G) (polynomial (lentCondition U G order condition)) (take U order) ≡ false)
+  unfolding solvingQuestions bufferQuestions roomQuestions bitQuestions
+  none-said z =
+      let y = last-no _ _ _ _ _ has-solution _ z in
+      (record { letters = y .0; of-order = y .1; long = y .2; answers-long = y .3; bits = y .4 }, y .5)
 
 -- ---- writing: what its questions ask
 pub record Writable (route U G : ℕ) (order condition : List ℕ) (room : ℕ) : Type 0 where

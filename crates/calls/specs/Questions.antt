@@ -1,4 +1,4 @@
--- The questions that each call puts, in their order (document 01, 'The questions, and the number if the answer is no'; document 02, C-11 to C-13):
+-- The questions that each call puts, in their order (document 01, 'The questions, and the number if the answer is no'; document 02, C-11 to C-15):
 -- 'The first no counts'. U unknowns and G givens, n = U + G; a table has 2 ^ n bytes, an answer or handed buffer U of them. A buffer that
 -- is only written comes as its number of bytes.
 -- Assumes nothing.
@@ -9,14 +9,15 @@ use lib.Dec.{eqb, leb, ltb}
 use lib.ListN.{length}
 use Rattle.ring.specs.declared.State.{State}
 use Rattle.ring.specs.declared.Choice.{Choice}
+use Rattle.ring.specs.Table.{present, held}
 use Rattle.tables.specs.declared.Question.the-variants.{Letters, Route, TextLength, Signs, Declared, Grammar, Solution, Records, Kinds}
-use Rattle.tables.specs.declared.Question.the-variants.{Numbers, Afresh, Output, Rising, Range, Order, Name, Marked, Mask}
-use Rattle.tables.specs.Questions.{Asked, asks, asksGiving, lettersFit, reads, writes, bitQuestions, bufferQuestions, inRange}
+use Rattle.tables.specs.declared.Question.the-variants.{Numbers, Afresh, Output, Rising, Range, Order, Name, Marked, Mask, Handed}
+use Rattle.tables.specs.Questions.{Asked, asks, asksGiving, lettersFit, Lent, reads, writes, bitQuestions, bufferQuestions, inRange}
 use Rattle.grammar.specs.Symbols.{allSigns, allDeclared}
 use Rattle.grammar.specs.Reader.{grammarReads}
 use Rattle.solution.specs.Condition.{Condition, width, polynomial}
 use Rattle.solution.specs.Order.{orderFits, lentCondition}
-use Rattle.solution.specs.Elimination.{solvable, smallestBlocked}
+use Rattle.solution.specs.Elimination.{handedSolves, solvable, smallestBlocked}
 use Rattle.entry.specs.Record.{Record}
 use Rattle.entry.specs.Held.{routeOf, unknownsOf, givensOf, orderIn}
 use Rattle.entry.specs.Entry.{entry}
@@ -77,11 +78,21 @@ solvingQuestions U G order condition room =
     ∷ (bufferQuestions (reads (2 ^ (U + G)) condition ∷ writes (U * 2 ^ (U + G)) room ∷ [])
     ++ (asksSolution (lentCondition U G order condition) ∷ []))
 
--- 'Handed Löwenheim: 1, 4, 8, the result going to an answer buffer of its own'
+-- 21: 'does the handed substitution make the condition zero', of the polynomials in the lent buffers
+abbrev pub asksHanded : ℕ → ℕ → List ℕ → List ℕ → Asked
+asksHanded U G condition handed = asks Handed (handedSolves U G (present condition) (held (U + G) handed))
+
+-- what the handed form is lent, 'the result going to an answer buffer of its own'
+abbrev pub handedBuffers : ℕ → ℕ → List ℕ → List ℕ → ℕ → List Lent
+handedBuffers U G condition handed room =
+    reads (2 ^ (U + G)) condition ∷ reads (U * 2 ^ (U + G)) handed ∷ writes (U * 2 ^ (U + G)) room ∷ []
+
+-- 'Handed Löwenheim: 1, 4, 8', and '21 .. last for the handed form'
 unfoldable pub handedQuestions : ℕ → ℕ → List ℕ → List ℕ → ℕ → List Asked
 handedQuestions U G condition handed room =
     asks Letters (lettersFit U G)
-    ∷ bufferQuestions (reads (2 ^ (U + G)) condition ∷ reads (U * 2 ^ (U + G)) handed ∷ writes (U * 2 ^ (U + G)) room ∷ [])
+    ∷ (bufferQuestions (handedBuffers U G condition handed room)
+    ++ (asksHanded U G condition handed ∷ []))
 
 -- 14: 'Is the output at least as long as what is to be written?'
 unfoldable pub outputFits : List ℕ → ℕ → Bool

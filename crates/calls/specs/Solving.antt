@@ -34,7 +34,7 @@ particularCall = solvingCall particularTable
 abbrev pub lowenheimCall : ℕ → ℕ → List ℕ → List ℕ → List ℕ → Answered Reply
 lowenheimCall = solvingCall lowenheimTable
 
--- x + f*(x + b of x) for each unknown x, 'without a test that they solve f'
+-- x + f*(x + b of x) for each unknown x, from handed polynomials that question 21 has tested
 unfoldable pub handedTable : ℕ → ℕ → List ℕ → List ℕ → List ℕ
 handedTable U G condition handed = answerTable U (U + G) (lowenheim (U + G) (present condition) (held (U + G) handed))
 

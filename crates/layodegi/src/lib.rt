@@ -235,7 +235,7 @@ pub extern "C" fn layodegi_lowenheim(
     solving_code(solver::lowenheim(u, g, *order, condition, answers))
 }
 
-// Löwenheim's formula on handed polynomials.
+// Löwenheim's formula on handed polynomials that solve the condition.
 #[no_mangle]
 pub extern "C" fn layodegi_lowenheim_handed(
     u: usize,

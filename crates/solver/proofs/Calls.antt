@@ -1,30 +1,28 @@
 -- The questions that the calls ask first, and what a call does that has passed them, from what it does on the front of its buffer.
 -- Assumes nothing.
-use mathlib.Core.Path.{_≡_, refl, sym, ap, _∙_}
+use mathlib.Core.Path.{_≡_, refl, sym, _∙_}
 use mathlib.Core.Bool.{Bool, true, false, not}
-use mathlib.Core.List.{List, [], _∷_, _++_, append-nil}
-use Prim.Native.Nat.{ℕ, zero, suc, _+_, _*_, _^_, _≤_}
-use native.Mathlib.Omega.{arith}
+use mathlib.Core.List.{List, [], _∷_, _++_}
+use Prim.Native.Nat.{ℕ, _+_, _*_, _^_, _≤_}
 use native.Mathlib.Nat.{mul-le-mul}
-use lib.ListN.{length, take, drop, take-append-drop}
-use lib.Seq.{length-take-le, drop-length}
-use Rattle.ring.specs.Table.{AreBits, IsTable}
+use lib.ListN.{length, take, drop}
+use lib.Seq.{length-take-le}
+use Rattle.ring.specs.Table.{IsTable}
 use Rattle.tables.specs.declared.Question.the-variants.{Letters, Room, Bits, Order}
-use Rattle.tables.specs.Questions.{Asked, asks, firstNo, lettersFit, hasRoom, holdsBits, roomQuestions, bitQuestions, bufferQuestions}
-use Rattle.tables.specs.Answered.{Reply, accepted, refused, after, answered, Buffer, _into_, call}
+use Rattle.tables.specs.Questions.{asks, firstNo, lettersFit, hasRoom, holdsBits, roomQuestions, bitQuestions, bufferQuestions}
+use Rattle.tables.specs.Answered.{Reply, refused, answered, _into_}
 use Rattle.tables.specs.Inner.Asking.{also}
-use Rattle.tables.proofs.FirstNo.{no-to, yes-counts, each-yes, then-further, also-none, also-also}
+use Rattle.tables.proofs.FirstNo.{no-to, yes-counts, each-yes, also-none, also-also}
 use Rattle.tables.proofs.Questions.{failed, passed as yes-said, letters-small, unknowns-small, pow-small}
-use Rattle.tables.proofs.Questions.{room-enough, held-bits, lent-table}
-use Rattle.tables.proofs.Answered.{call-stops, call-refused, call-done, call-behind, call-front}
+use Rattle.tables.proofs.Questions.{room-enough, lent-table}
+use Rattle.tables.proofs.Answered.{call-stops, call-behind, call-front}
 use Rattle.solution.specs.Condition.{ordered}
 use Rattle.solution.specs.Order.{orderFits, lentCondition}
-use Rattle.calls.specs.Questions.{asksSolution, solvingQuestions, handedQuestions}
-use Rattle.calls.specs.Solving.{solvingCall, handedTable, handedCall}
+use Rattle.calls.specs.Questions.{asksSolution, solvingQuestions}
+use Rattle.calls.specs.Solving.{solvingCall}
 use Rattle.solver.specs.declared.Method.{Method}
 use Rattle.solver.specs.Inner.Methods.{tableQuestions, tableBy, solveBy}
 use Rattle.solver.proofs.OnWords.{length-tableBy}
-use Rattle.solver.proofs.Written.{handed-front, length-handed}
 
 -- ---- 1, 17, 4 and 8 of a call that solves, as the code asks them
 module _ (u g : ℕ) (order t : List ℕ) (room : ℕ) where
@@ -101,64 +99,3 @@ module _ (method : Method) (u g : ℕ) (order t lent : List ℕ) (q : ℕ)
       (call-front (asksSolution (lentCondition u g order t) ∷ []) [] (tableBy method (lentCondition u g order t)) lent _ (u * 2 ^ (u + g))
       (length-tableBy method (lentCondition u g order t)) (passed u g order t lent found z refl .answer-room) (rw e at done)
       ∙ call-behind (tableQuestions u g order t (length lent)) (asksSolution (lentCondition u g order t) ∷ []) [] _ yes-all)
-
--- ---- handed polynomials
-module _ (u g : ℕ) (t handed : List ℕ) (room : ℕ) where
-  pub handed-letters-refused : {r : ℕ} {fits : Bool} → r ≡ 1 → fits ≡ lettersFit u g → not fits ≡ true
-      → r ≡ firstNo (handedQuestions u g t handed room)
-  unfolding handedQuestions
-  handed-letters-refused e f n = e ∙ sym (no-to Letters (lettersFit u g) [] _ (failed f n))
-
-  pub handed-asked : {k first second third fourth r : ℕ} {fits room1 room2 room3 bits1 bits2 : Bool}
-      → r ≡ also fourth (asks Bits bits2 ∷ []) → bits2 ≡ holdsBits (u * k) handed
-      → fourth ≡ also third (asks Bits bits1 ∷ []) → bits1 ≡ holdsBits k t
-      → third ≡ also second (asks Room room3 ∷ []) → room3 ≡ hasRoom (u * k) room
-      → second ≡ also first (asks Room room2 ∷ []) → room2 ≡ hasRoom (u * k) (length handed)
-      → first ≡ also 0 (asks Room room1 ∷ []) → room1 ≡ hasRoom k (length t)
-      → k ≡ 2 ^ (u + g) → fits ≡ lettersFit u g → not fits ≡ false → r ≡ firstNo (handedQuestions u g t handed room)
-  unfolding handedQuestions bufferQuestions roomQuestions bitQuestions
-  handed-asked er eb2 e4 eb1 e3 er3 e2 er2 e1 er1 ek ef n =
-      rw (er, eb2, e4, eb1, e3, er3, e2, er2, e1, er1, ek)
-      (simp also-also (sym (also-none _) ∙ sym (yes-counts Letters (lettersFit u g) [] _ (yes-said ef n))))
-
-module _ (u g : ℕ) (t handed lent : List ℕ) where
-  pub record HandedPassed (k : ℕ) : Type 0 where
-    pub unknowns : u ≤ 6
-    pub small : u + g ≤ 10
-    pub condition-room : k ≤ length t
-    pub handed-room : u * k ≤ length handed
-    pub answer-room : u * k ≤ length lent
-    pub table : IsTable (u + g) (take k t)
-    pub polynomials : length (take (u * k) handed) ≡ u * 2 ^ (u + g)
-    pub bits : AreBits (take (u * k) handed)
-    pub answers : length (take (u * k) lent) ≡ u * 2 ^ (u + g)
-
-  pub handed-passed : {q k : ℕ} → q ≡ firstNo (handedQuestions u g t handed (length lent)) → q ≡ 0 → k ≡ 2 ^ (u + g) → HandedPassed k
-  unfolding handedQuestions bufferQuestions roomQuestions bitQuestions
-  handed-passed found z e =
-      let yes-all = each-yes _ (sym found ∙ z) in
-      let handed-room = room-enough _ _ (yes-all .1 .1 .0) in
-      let room = room-enough _ _ (yes-all .1 .1 .1 .0) in
-      rw e
-      (record {
-        unknowns = unknowns-small u g (yes-all .0);
-        small = letters-small u g (yes-all .0);
-        condition-room = room-enough _ _ (yes-all .1 .0);
-        handed-room = handed-room;
-        answer-room = room;
-        table = lent-table (u + g) _ t refl (yes-all .1 .0) (yes-all .1 .1 .1 .1 .0);
-        polynomials = length-take-le _ _ handed-room;
-        bits = held-bits _ _ (yes-all .1 .1 .1 .1 .1 .0);
-        answers = length-take-le _ _ room;
-      })
-
-module _ (u g : ℕ) (t handed lent : List ℕ) (q : ℕ) (found : q ≡ firstNo (handedQuestions u g t handed (length lent))) where
-  pub handed-refused : (q ≡ 0 → ⊥) → answered (refused q []) (lent ∷ []) ≡ handedCall u g t handed lent
-  unfolding handedQuestions bufferQuestions roomQuestions bitQuestions
-  handed-refused n = call-refused (handedQuestions u g t handed (length lent)) [] (handedTable u g t handed into lent ∷ []) q refl found n
-
-  pub handed-done : q ≡ 0 → (k : ℕ) → k ≡ 2 ^ (u + g) → {front : List ℕ} → front ≡ handedTable u g (take k t) (take (u * k) handed)
-      → answered (accepted []) ((front ++ drop (u * k) lent) ∷ []) ≡ handedCall u g t handed lent
-  handed-done z k e {front} done =
-      call-done (handedQuestions u g t handed (length lent)) [] (handedTable u g t handed) lent front (u * k) (sym found ∙ z)
-      (done ∙ handed-front u g k t handed e) (length-handed u g k t handed e)

@@ -1,4 +1,5 @@
 pub mod Tables
 pub mod OnWords
 pub mod Written
+pub mod Handed
 pub mod Calls

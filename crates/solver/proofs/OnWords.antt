@@ -2,22 +2,20 @@
 -- Assumes nothing.
 use mathlib.Core.Path.{_≡_, refl, sym, ap, _∙_}
 use mathlib.Core.Bool.{Bool, true, false, cond}
-use mathlib.Core.List.{List, [], _∷_, _++_, append-nil}
+use mathlib.Core.List.{List, [], _∷_}
 use Prim.Native.Nat.{ℕ, _+_, _-_, _*_, _^_, _≤_, _<_}
 use native.Mathlib.Omega.{arith}
 use lib.Pow.{pow-pos}
-use lib.ListN.{length, drop}
-use lib.Seq.{drop-length}
+use lib.ListN.{length}
 use Rattle.ring.specs.declared.State.{State}
 use Rattle.ring.specs.Letters.{bit}
-use Rattle.ring.specs.Lists.{has}
 use Rattle.ring.specs.Polynomial.{Polynomial, value}
 use Rattle.ring.proofs.Table.{length-answerTable}
 use Rattle.tables.specs.declared.Question.the-variants.{Solution}
 use Rattle.tables.specs.Questions.{firstNo}
 use Rattle.tables.specs.Answered.{answered, _into_}
-use Rattle.tables.proofs.Answered.{call-last-no, call-done}
-use Rattle.words.specs.Inner.Words.{wordsOf, bitAt, answerWords}
+use Rattle.tables.proofs.Answered.{call-last-no, call-whole}
+use Rattle.words.specs.Inner.Words.{bitAt, answerWords}
 use Rattle.words.proofs.Letters.{room, points}
 use Rattle.words.proofs.Words.{at-known}
 use Rattle.solution.specs.Condition.{Condition, width, polynomial, IsOrder}
@@ -160,7 +158,5 @@ module _ (method : Method) (c : Condition) (v : Verdict) (ws lent : List ℕ) {v
   unfolding solveBy firstNo
   solved-by {answers} told written size =
       let r = solved-is c ws (rw told at (said (copied ∙ taken))) in
-      let all : answers ++ drop (length lent) lent ≡ answers = rw drop-length (append-nil answers) in
-      rw all at
-      (call-done (asksSolution c ∷ []) [] (tableBy method c) lent answers (length lent) (rw (r .0)) (written taken (r .1))
-      (size ∙ sym (length-tableBy method c)))
+      call-whole (asksSolution c ∷ []) [] (tableBy method c) lent answers (rw (r .0)) (written taken (r .1))
+      (size ∙ sym (length-tableBy method c))

@@ -1,4 +1,4 @@
--- Tables one after another, written from words and read into them: `filled` says which of them are done.
+-- Tables one after another, written from words: `filled` says which of them are done.
 -- Assumes nothing.
 use mathlib.Core.Path.{_≡_, sym, ap, ap₂, _∙_}
 use mathlib.Core.Bool.{Bool, _&&_}
@@ -6,23 +6,20 @@ use mathlib.Core.List.{List}
 use Prim.Native.Nat.{ℕ, _+_, _-_, _*_, _/_, _%_, _^_, _≤_, _<_}
 use native.Mathlib.Nat.{mul-le-mul}
 use native.Mathlib.Omega.{arith}
-use lib.Arith.{digits-div, digits-mod}
-use lib.Pow.{high, low, pow-pos}
+use lib.Pow.{high, low}
 use lib.ListN.{length, getD, take, drop}
 use lib.Seq.{getD-take, getD-drop}
 use borrow.Rule.Slice.PartMut.{putMid}
 use Rattle.ring.specs.Letters.{digit, bit}
 use Rattle.ring.specs.Polynomial.{Polynomial, _⊕_, value}
-use Rattle.ring.specs.Table.{AreBits, IsTable, present, table, held, answerTable}
+use Rattle.ring.specs.Table.{table, answerTable}
 use Rattle.ring.proofs.Lists.{listed-cong, tabulate-listed}
 use Rattle.ring.proofs.Value.{value-cong}
-use Rattle.tables.proofs.Bits.{bits-take, bits-drop}
 use Rattle.tables.proofs.Filled.{filled}
-use Rattle.tables.proofs.Parts.{held-part}
-use Rattle.words.specs.Inner.Words.{wordOf, wordsOf, bitAt, answerWords}
+use Rattle.words.specs.Inner.Words.{wordsOf, bitAt}
 use Rattle.words.proofs.Letters.{room}
-use Rattle.words.proofs.Words.{word-cong, at-known}
-use Rattle.words.proofs.Parts.{points-in, parts-more, parts-end, part-length, words-parts}
+use Rattle.words.proofs.Words.{at-known}
+use Rattle.words.proofs.Parts.{points-in, parts-more, parts-end}
 use Rattle.solver.specs.Inner.Words.{partValue, mixedValue}
 
 -- ---- words into tables
@@ -74,40 +71,6 @@ mixed-table n k x size values b own ek es e m l =
     value-cong n _ _ m (λ p h.
     at-known size _ own e p (omega (arith, room n, es))
     ∙ ap (λ (y : Bool). bit p x ⊕ (bitAt values p && (bit p x ⊕ y))) (part-value n k x b ek p h))
-
--- ---- tables into words
-pub part-is-table : (n j k : ℕ) (t : List ℕ) → k ≡ 2 ^ n → j * k + k ≤ length t → AreBits t
-    → IsTable n (take (j * k + k - j * k) (drop (j * k) t))
-part-is-table n j k t ek fits bits =
-    record { size = part-length j k t fits ∙ ek; bits = bits-take (j * k + k - j * k) (drop (j * k) t) (bits-drop (j * k) t bits) }
-
--- word w of the values of the tables t
-pub valueWord : ℕ → List ℕ → ℕ → ℕ
-valueWord n t w = wordOf (λ i. value n (held n t (w / 2 ^ (n - 6))) (64 * (w % 2 ^ (n - 6)) + i))
-
-value-word : (n x w : ℕ) (t : List ℕ) → w < 2 ^ (n - 6)
-    → valueWord n t (x * 2 ^ (n - 6) + w) ≡ wordOf (λ i. value n (held n t x) (64 * w + i))
-unfolding valueWord
-value-word n x w t l = word-cong _ _ (λ i m. ap₂ (λ (y z : ℕ). value n (held n t y) (64 * z + i)) (digits-div x l) (digits-mod x l))
-
-pub values-more : (n x k size : ℕ) (t ws₀ ws ys : List ℕ) → k ≡ 2 ^ (n - 6) → size ≡ 2 ^ n → ws ≡ filled (x * k) (valueWord n t) ws₀
-    → ys ≡ wordsOf (2 ^ (n - 6)) (value n (present (take (x * size + size - x * size) (drop (x * size) t))))
-    → putMid (x * k) (x * k + k - x * k) ws ys ≡ filled ((x + 1) * k) (valueWord n t) ws₀
-unfolding wordsOf
-values-more n x k size t ws₀ ws ys ek es e ey =
-    let count : x * size + size - x * size ≡ size = omega arith in
-    parts-more x k (valueWord n t) ws₀ ws ys e (ey ∙ rw ek (listed-cong (2 ^ (n - 6)) _ _ (λ w l.
-    word-cong _ _ (λ i m. value-cong n _ _ (64 * w + i) (λ m h.
-    ap (λ (y : ℕ). present (take y (drop (x * size) t)) m) count ∙ ap (λ (y : ℕ). present (take y (drop (x * y) t)) m) es
-    ∙ held-part n x t m h))
-    ∙ sym (value-word n x w t l))))
-
-pub values-done : (n u j k : ℕ) (t ws₀ ws : List ℕ) → k ≡ 2 ^ (n - 6) → j ≡ u → length ws₀ ≡ u * 2 ^ (n - 6)
-    → ws ≡ filled (j * k) (valueWord n t) ws₀
-    → ws ≡ answerWords u (2 ^ (n - 6)) (λ x. value n (held n t x))
-values-done n u j k t ws₀ ws ek ej size e =
-    parts-end u (2 ^ (n - 6)) j k (valueWord n t) ws₀ ws ek ej size e
-    ∙ words-parts u (2 ^ (n - 6)) (valueWord n t) _ (pow-pos (n - 6)) (λ x w l m. value-word n x w t m)
 
 -- six polynomials, as many as there are unknowns, take no more words than this
 pub words-fit : (u k : ℕ) → u ≤ 6 → k ≤ 16 → u * k ≤ 96

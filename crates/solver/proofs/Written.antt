@@ -1,4 +1,4 @@
--- The tables of each method's answers, from the values of Boole's; and Löwenheim's from handed polynomials.
+-- The tables of each method's answers, from the values of Boole's.
 -- Assumes nothing.
 use mathlib.Core.Path.{_≡_, refl, sym, ap, ap₂, _∙_}
 use mathlib.Core.Bool.{Bool, true, false, _&&_}
@@ -8,23 +8,20 @@ use native.Mathlib.Nat.{add-zero, mul-assoc, mul-comm, pow-suc}
 use native.Mathlib.Numerals.{add-one}
 use native.Mathlib.Omega.{arith}
 use lib.Pow.{split}
-use lib.ListN.{length, take}
+use lib.ListN.{length}
 use Rattle.ring.specs.Letters.{bit, assign}
-use Rattle.ring.specs.Polynomial.{Polynomial, _⊕_, value, letter, sum}
-use Rattle.ring.specs.Table.{present, held, answerTable}
+use Rattle.ring.specs.Polynomial.{Polynomial, _⊕_, value}
+use Rattle.ring.specs.Table.{answerTable}
 use Rattle.ring.proofs.Points.{assign-above, assign-bit, assign-clear}
-use Rattle.ring.proofs.Table.{values-back, present-take, held-take, answerTable-cong, length-answerTable}
-use Rattle.ring.proofs.Value.{product-cong}
-use Rattle.words.specs.Inner.Words.{wordsOf, bitAt, IsWords, answerWords}
+use Rattle.ring.proofs.Table.{values-back}
+use Rattle.words.specs.Inner.Words.{wordsOf, bitAt, IsWords}
 use Rattle.words.proofs.Letters.{room}
 use Rattle.words.proofs.Words.{at-known, size-words, words-cong}
 use Rattle.solution.specs.Condition.{Condition, width, polynomial}
-use Rattle.solution.specs.Elimination.{booleAnswers, lowenheim, booleTable, particularTable, lowenheimTable}
+use Rattle.solution.specs.Elimination.{booleAnswers, booleTable, particularTable, lowenheimTable}
 use Rattle.solution.specs.Inner.ByPoints.{zeroChoice}
 use Rattle.solution.proofs.ByPoints.{value-particular, value-own-lowenheim}
-use Rattle.solution.proofs.Values.{value-lowenheim}
 use Rattle.words.proofs.Parts.{points-in, answer-at, part-fits}
-use Rattle.calls.specs.Solving.{handedTable}
 use Rattle.solver.specs.declared.Method.{Method}
 use Rattle.solver.specs.declared.Method.the-variants.{Boole, Particular, Lowenheim}
 use Rattle.solver.specs.Inner.Methods.{tableBy, valueWords, booleWords}
@@ -144,35 +141,3 @@ module _ (c : Condition) {method : Method} {values found answers : List ℕ} whe
         (λ j. value (width c) (mixedValue (bitAt values) (partValue (2 ^ (width c - 6)) zeros j) j))
         → c .U ≤ 6 → values ≡ valueWords c → found ≡ booleWords c → answers ≡ tableBy method c
     lowenheim-by e ea few ev ef = rw e (ea ∙ lowenheim-written c values found few ev ef zeros size es ez)
-
--- Löwenheim's answers from handed polynomials ..
-handed-written : (U G : ℕ) (t handed values ws : List ℕ) → values ≡ wordsOf (2 ^ (U + G - 6)) (value (U + G) (present t))
-    → ws ≡ answerWords U (2 ^ (U + G - 6)) (λ j. value (U + G) (held (U + G) handed j))
-    → answerTable U (U + G) (λ j. value (U + G) (mixedValue (bitAt values) (partValue (2 ^ (U + G - 6)) ws j) j)) ≡ handedTable U G t handed
-unfolding handedTable mixedValue partValue
-handed-written U G t handed values ws ev ew =
-    values-back U (U + G) _ (λ j. mixedValue (bitAt values) (partValue (2 ^ (U + G - 6)) ws j) j) (λ j p hj hp.
-    let m : p < 64 * 2 ^ (U + G - 6) = omega (arith, room (U + G)) in
-    ap₂ (λ (x y : Bool). bit p j ⊕ (x && (bit p j ⊕ y))) (at-known (2 ^ (U + G - 6)) _ values ev p m)
-    (answer-at U (2 ^ (U + G - 6)) j p _ ws ew hj m)
-    ∙ sym (value-lowenheim (U + G) (present t) (held (U + G) handed) j p (omega arith)))
-
--- .. as the code comes to them ..
-pub handed-mixed : (U G : ℕ) (t handed : List ℕ) {answers values ws : List ℕ}
-    → answers ≡ answerTable U (U + G) (λ j. value (U + G) (mixedValue (bitAt values) (partValue (2 ^ (U + G - 6)) ws j) j))
-    → values ≡ wordsOf (2 ^ (U + G - 6)) (value (U + G) (present t))
-    → ws ≡ answerWords U (2 ^ (U + G - 6)) (λ j. value (U + G) (held (U + G) handed j)) → answers ≡ handedTable U G t handed
-handed-mixed U G t handed {answers} {values} {ws} e ev ew = e ∙ handed-written U G t handed values ws ev ew
-
--- .. turn on the bytes that count alone
-pub handed-front : (u g k : ℕ) (t handed : List ℕ) → k ≡ 2 ^ (u + g)
-    → handedTable u g (take k t) (take (u * k) handed) ≡ handedTable u g t handed
-unfolding handedTable lowenheim sum
-handed-front u g k t handed e =
-    rw e (answerTable-cong u (u + g) _ _ (λ j m hj hm.
-    ap (λ (b : Bool). letter j m ⊕ b) (product-cong (u + g) _ _ _ _ (present-take (2 ^ (u + g)) t)
-    (λ i l. ap (λ (b : Bool). letter j i ⊕ b) (held-take (u + g) u handed j i hj l)) m)))
-
-pub length-handed : (u g k : ℕ) (t handed : List ℕ) → k ≡ 2 ^ (u + g) → u * k ≡ length (handedTable u g t handed)
-unfolding handedTable
-length-handed u g k t handed e = ap (λ (m : ℕ). u * m) e ∙ sym (length-answerTable u (u + g) _)

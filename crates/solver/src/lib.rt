@@ -1,4 +1,4 @@
-// Solving a condition: Boole's answers, the particular solution, Löwenheim's formula on that solution or on handed polynomials.
+// Solving a condition: Boole's answers, the particular solution, Löwenheim's formula on that solution or on handed polynomials that solve it.
 // Public calls, none with a `requires`: `boole`, `particular`, `lowenheim`, `lowenheim_handed`. `solve_values` is Boole's method for the
 // crates above, which ask the questions first; the other functions are theirs alone.
 // An order comes as six bytes, first eliminated first, with 255 behind its unknowns; the handed form needs none.
@@ -15,18 +15,18 @@ ghost use mathlib.Core.List.{List, [], _∷_};
 ghost use Prim.Native.Nat.{ℕ, _+_, _-_, _*_, _^_, _≤_, _<_};
 ghost use lib.ListN.{length, take};
 ghost use Rattle.ring.specs.Polynomial.{value};
-ghost use Rattle.ring.specs.Table.{IsTable, AreBits, held, answerTable};
+ghost use Rattle.ring.specs.Table.{IsTable, AreBits, answerTable};
 ghost use Rattle.tables.specs.Questions.{firstNo};
 ghost use Rattle.tables.specs.Answered.{answered};
-ghost use Rattle.words.specs.Inner.Words.{wordsOf, bitAt, answerWords};
+ghost use Rattle.words.specs.Inner.Words.{wordsOf, bitAt};
 ghost use Rattle.solution.specs.Condition.{ordered};
 ghost use Rattle.solution.specs.Order.{orderFits};
 ghost use Rattle.solution.specs.Inner.ByPoints.{zeroChoice};
 ghost use Rattle.calls.specs.declared.Solving.the-variants.{Said};
-ghost use Rattle.calls.specs.Questions.{handedQuestions};
 ghost use Rattle.calls.specs.Operations.{outcome};
-ghost use Rattle.calls.specs.Solving.{solving, solvingCall, booleCall, particularCall, lowenheimCall, handedTable, handedCall};
+ghost use Rattle.calls.specs.Solving.{solving, solvingCall, booleCall, particularCall, lowenheimCall, handedCall};
 ghost use Rattle.solver.specs.Inner.Methods.{tableQuestions, tableBy, solveBy, valueWords, booleWords, solveWords, verdict};
+ghost use Rattle.solver.specs.Inner.Handed.{handedTableQuestions, handedBy};
 ghost use Rattle.solver.specs.Inner.Words.{partValue, mixedValue};
 
 // Which answers are asked for.
@@ -288,7 +288,7 @@ fn write_mixed(u: usize, n: usize, values: &[u64], b: &[u64], own: &mut [u64], a
 
 // Questions 1, 4 and 8 of handed polynomials: the first no, or 0.
 fn handed_refusal(u: usize, g: usize, condition: &[u8], handed: &[u8], room: usize) -> u8
-    ensures { λ r. ⌜ r ≡ firstNo (handedQuestions u g (now (condition .entry)) (now (handed .entry)) room) ⌝ }
+    ensures { λ r. ⌜ r ≡ firstNo (handedTableQuestions u g (now (condition .entry)) (now (handed .entry)) room) ⌝ }
 {
     if !tables::letters_fit(u, g) {
         return tables::number(Question::Letters);
@@ -302,7 +302,7 @@ fn handed_refusal(u: usize, g: usize, condition: &[u8], handed: &[u8], room: usi
     tables::ask(fourth, Question::Bits, tables::holds_bits(all, handed))
 }
 
-// Löwenheim's answers from handed polynomials, whether or not they solve the condition.
+// Löwenheim's answers from handed polynomials that solve the condition; others are refused.
 pub fn lowenheim_handed(
     u: usize,
     g: usize,
@@ -319,22 +319,22 @@ pub fn lowenheim_handed(
     }
     let k = tables::pow2(u + g);
     let all = u * k;
-    mix_handed(u, g, &condition[..k], &handed[..all], &mut answers[..all]);
-    Outcome::Done
+    test_and_mix(u, g, &condition[..k], &handed[..all], &mut answers[..all])
 }
 
-// The scratch words live here.
-fn mix_handed(u: usize, g: usize, condition: &[u8], handed: &[u8], answers: &mut [u8])
+// Question 21, and the answers if it is answered yes. The scratch words live here.
+fn test_and_mix(u: usize, g: usize, condition: &[u8], handed: &[u8], answers: &mut [u8]) -> Outcome
     requires { ⌜ (u ≤ 6) × (u + g ≤ 10) × IsTable (u + g) (now condition)
         × (length (now handed) ≡ u * 2 ^ (u + g)) × AreBits (now handed) × (length (now answers) ≡ u * 2 ^ (u + g)) ⌝ }
-    ensures { λ _. ⌜ now (answers .exit) ≡ handedTable u g (now (condition .entry)) (now (handed .entry)) ⌝ }
+    ensures { λ r. ⌜ answered (outcome r) (now (answers .exit) ∷ [])
+        ≡ handedBy u g (now (condition .entry)) (now (handed .entry)) (now (answers .entry)) ⌝ }
 {
     let k = words::word_count(u + g);
-    let all = u * k;
+    let all = 6 * k;
     let mut values = [0u64; 16];
     let mut own = [0u64; 16];
-    let mut b = [0u64; 96];
-    mix_handed_with(
+    let mut parts = [0u64; 96];
+    test_and_mix_with(
         u,
         g,
         condition,
@@ -342,11 +342,12 @@ fn mix_handed(u: usize, g: usize, condition: &[u8], handed: &[u8], answers: &mut
         answers,
         &mut values[..k],
         &mut own[..k],
-        &mut b[..all],
-    );
+        &mut parts[..all],
+    )
 }
 
-fn mix_handed_with(
+// The handed polynomials' values serve the test and then the formula.
+fn test_and_mix_with(
     u: usize,
     g: usize,
     condition: &[u8],
@@ -354,31 +355,22 @@ fn mix_handed_with(
     answers: &mut [u8],
     values: &mut [u64],
     own: &mut [u64],
-    b: &mut [u64],
-)
+    parts: &mut [u64],
+) -> Outcome
     requires { ⌜ (u ≤ 6) × (u + g ≤ 10) × IsTable (u + g) (now condition)
         × (length (now handed) ≡ u * 2 ^ (u + g)) × AreBits (now handed) × (length (now answers) ≡ u * 2 ^ (u + g)) ⌝ }
     requires { ⌜ (length (now values) ≡ 2 ^ (u + g - 6)) × (length (now own) ≡ 2 ^ (u + g - 6))
-        × (length (now b) ≡ u * 2 ^ (u + g - 6)) ⌝ }
-    ensures { λ _. ⌜ now (answers .exit) ≡ handedTable u g (now (condition .entry)) (now (handed .entry)) ⌝ }
+        × (length (now parts) ≡ 6 * 2 ^ (u + g - 6)) ⌝ }
+    ensures { λ r. ⌜ answered (outcome r) (now (answers .exit) ∷ [])
+        ≡ handedBy u g (now (condition .entry)) (now (handed .entry)) (now (answers .entry)) ⌝ }
 {
     words::take_values(u + g, condition, values);
-    take_all(u, u + g, handed, b);
-    write_mixed(u, u + g, values, b, own, answers);
-}
-
-// The values of u tables, one after another.
-fn take_all(u: usize, n: usize, t: &[u8], words: &mut [u64])
-    requires { ⌜ (u ≤ 6) × (n ≤ 10) × (length (now t) ≡ u * 2 ^ n) × AreBits (now t) × (length (now words) ≡ u * 2 ^ (n - 6)) ⌝ }
-    ensures { λ _. ⌜ now (words .exit) ≡ answerWords u (2 ^ (n - 6)) (λ j. value n (held n (now (t .entry)) j)) ⌝ }
-{
-    let k = words::word_count(n);
-    let size = tables::pow2(n);
-    for x in 0..u {
-        let start = x * k;
-        let end = start + k;
-        let from = x * size;
-        let to = from + size;
-        words::take_values(n, &t[from..to], &mut words[start..end]);
+    words::copy(own, values);
+    polynomials::put_handed(u, u + g, handed, own, parts);
+    if words::first_one(own) < tables::pow2(u + g) {
+        return Outcome::Refused(tables::number(Question::Handed));
     }
+    let all = u * words::word_count(u + g);
+    write_mixed(u, u + g, values, &parts[..all], own, answers);
+    Outcome::Done
 }

@@ -116,6 +116,13 @@ pub call-done : (questions : List Asked) (values answer lent front : List ℕ) (
 unfolding call after
 call-done questions values answer lent front k z ef ek = rw (reply-accepted questions values z, z, ef, ek)
 
+-- the same of a buffer that is filled to its end
+pub call-whole : (questions : List Asked) (values answer lent front : List ℕ) → firstNo questions ≡ 0 → front ≡ answer
+    → length lent ≡ length answer → answered (accepted values) (front ∷ []) ≡ call questions values (answer into lent ∷ [])
+call-whole questions values answer lent front z ef size =
+    let all : front ++ drop (length lent) lent ≡ front = rw drop-length (append-nil front) in
+    rw all at (call-done questions values answer lent front (length lent) z ef size)
+
 -- one buffer more, as it is afterwards
 pub call-also : (questions : List Asked) (values answer lent now : List ℕ) (buffers : List Buffer) {gives : Reply} {rest : List (List ℕ)}
     → firstNo questions ≡ 0 → now ≡ answer ++ drop (length answer) lent → answered gives rest ≡ call questions values buffers

@@ -7,7 +7,7 @@ use Prim.Native.Nat.{ℕ, zero, suc, _<_}
 use native.Mathlib.Omega.{arith}
 use Rattle.tables.specs.declared.Question.{Question}
 use Rattle.tables.specs.declared.Question.the-variants.{Letters, Route, TextLength, Room, Signs, Declared, Grammar, Bits, Solution}
-use Rattle.tables.specs.declared.Question.the-variants.{Records, Kinds, Numbers, Afresh, Output, Rising, Range, Order, Name, Marked, Mask}
+use Rattle.tables.specs.declared.Question.the-variants.{Records, Kinds, Numbers, Afresh, Output, Rising, Range, Order, Name, Marked, Mask, Handed}
 use Rattle.tables.specs.Questions.{Asked, asks, asksGiving, number, firstNo}
 use Rattle.tables.specs.Inner.Asking.{also}
 
@@ -33,6 +33,7 @@ number-within Order = (omega arith, omega arith)
 number-within Name = (omega arith, omega arith)
 number-within Marked = (omega arith, omega arith)
 number-within Mask = (omega arith, omega arith)
+number-within Handed = (omega arith, omega arith)
 
 pub number-some : (question : Question) → number question ≡ 0 → ⊥
 number-some question e = omega (arith, number-within question .0)

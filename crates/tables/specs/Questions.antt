@@ -11,7 +11,7 @@ use Rattle.ring.specs.declared.State.{State}
 use Rattle.ring.specs.declared.Choice.{Choice}
 use Rattle.tables.specs.declared.Question.{Question}
 use Rattle.tables.specs.declared.Question.the-variants.{Letters, Route, TextLength, Room, Signs, Declared, Grammar, Bits, Solution}
-use Rattle.tables.specs.declared.Question.the-variants.{Records, Kinds, Numbers, Afresh, Output, Rising, Range, Order, Name, Marked, Mask}
+use Rattle.tables.specs.declared.Question.the-variants.{Records, Kinds, Numbers, Afresh, Output, Rising, Range, Order, Name, Marked, Mask, Handed}
 
 -- the number of each question, 1 to 16 document 01's
 abbrev pub number : Question → ℕ
@@ -56,6 +56,8 @@ number Name = 18
 number Marked = 19
 -- 'has S only declared letters' (document 02, C-13)
 number Mask = 20
+-- 'does the handed substitution make the condition zero' (document 02, C-15)
+number Handed = 21
 
 -- a question as it is put: whether the answer is yes, and what a no gives with its number
 pub data Asked : Type 0 where

@@ -32,6 +32,7 @@ pub enum Question {
     Name, // Is the name a byte `A` to `D`?
     Marked, // When returning, is it marked?
     Mask, // Has the set S only declared letters?
+    Handed, // Does the handed substitution make the condition zero?
 }
 
 // The number of a question.
@@ -59,6 +60,7 @@ pub fn number(question: Question) -> u8
         Question::Name => 18,
         Question::Marked => 19,
         Question::Mask => 20,
+        Question::Handed => 21,
     }
 }
 

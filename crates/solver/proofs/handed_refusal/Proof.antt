@@ -2,7 +2,8 @@
 -- Assumes nothing.
 use native.Mathlib.Omega.{arith}
 use borrow.Author.Needs.{needs}
-use Rattle.solver.proofs.Calls.{handed-letters-refused, handed-asked, small, all-fit}
+use Rattle.solver.proofs.Calls.{small, all-fit}
+use Rattle.solver.proofs.Handed.{handed-letters-refused, handed-asked}
 use Rattle.solver.proofs.handed_refusal.Statement.{statement}
 use Rattle.solver.proofs.handed_refusal.Tie as tie
 

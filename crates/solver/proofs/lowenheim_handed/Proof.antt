@@ -5,7 +5,8 @@ use Prim.Native.Nat.{_+_, _≤_}
 use native.Mathlib.Omega.{arith}
 use borrow.Author.Needs.{needs}
 use lib.Seq.{length-take-le}
-use Rattle.solver.proofs.Calls.{HandedPassed, handed-passed, all-small, handed-refused, handed-done}
+use Rattle.solver.proofs.Calls.{all-small}
+use Rattle.solver.proofs.Handed.{HandedPassed, handed-passed, handed-refused, handed-done}
 use Rattle.solver.proofs.lowenheim_handed.Statement.{statement}
 use Rattle.solver.proofs.lowenheim_handed.Tie as tie
 
@@ -21,8 +22,8 @@ known : (c : tie.After-pow2)
     (c .pow2 .result)
 known c = handed-passed _ _ _ _ _ (c .before .before .handed-refusal .ensures) (c .before .if1 .left) (c .pow2 .ensures)
 
-mix-handed-requires : tie.Need-mix-handed-requires
-mix-handed-requires c κs =
+test-and-mix-requires : tie.Need-test-and-mix-requires
+test-and-mix-requires c κs =
     let all-yes = known (c .before .before .before) in
     (all-yes .unknowns, all-yes .small, all-yes .table, all-yes .polynomials, all-yes .bits, all-yes .answers)
 
@@ -39,6 +40,6 @@ lowenheim-handed-spec =
     (λ c. sym (length-take-le _ _ (known (c .before .before) .handed-room)))
     (λ c. known (c .before .before) .answer-room)
     (λ c. sym (length-take-le _ _ (known (c .before .before .before) .answer-room)))
-    mix-handed-requires
+    test-and-mix-requires
     (λ c. search needs)
     (λ c. search handed-done))
