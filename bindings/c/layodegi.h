@@ -86,7 +86,8 @@ enum layodegi_question {
     LAYODEGI_ORDER = 17,      /* Does the order hold each unknown once and then only 255? */
     LAYODEGI_NAME = 18,       /* Is the name a byte `A` to `D`? */
     LAYODEGI_MARKED = 19,     /* When returning, is the name marked? */
-    LAYODEGI_MASK = 20        /* Has S only declared letters? */
+    LAYODEGI_MASK = 20,       /* Has S only declared letters? */
+    LAYODEGI_HANDED = 21      /* Does the handed substitution make the condition zero? */
 };
 
 /*
@@ -167,9 +168,18 @@ uint64_t layodegi_lowenheim(size_t u, size_t g, const uint8_t order[6],
                             uint8_t *answers, size_t answers_length);
 
 /*
- * Loewenheim's formula on handed polynomials, whether or not they solve the condition; it needs no order.
- * Questions 1, 4, 8.
+ * Loewenheim's formula on handed polynomials that make the condition zero; it needs no order. Questions 1, 4, 8, 21.
  * condition: 2^n bytes; handed: U * 2^n bytes; answers, written: U * 2^n bytes.
+ *
+ * Question 21 puts the handed polynomials for the unknowns, all at once, as layodegi_substitute does: what comes out
+ * must be the empty table. They may mention givens, and unknowns too. Where U is 0 nothing is handed, and the condition
+ * itself must be empty. An accepted one gives a general solution, each unknown itself being the parameter: every
+ * solution is an instance of it, and it and Boole's answers are instances of each other.
+ *
+ *     uint8_t condition[4] = {0, 1, 1, 0}, answers[4];  // u + a
+ *     uint8_t same[4] = {0, 0, 1, 0}, never[4] = {0};   // a, and 0
+ *     layodegi_lowenheim_handed(1, 1, condition, 4, same, 4, answers, 4);   // 0: u = a
+ *     layodegi_lowenheim_handed(1, 1, condition, 4, never, 4, answers, 4);  // LAYODEGI_HANDED: solves where a is 0
  */
 uint64_t layodegi_lowenheim_handed(size_t u, size_t g,
                                    const uint8_t *condition, size_t condition_length,
@@ -368,6 +378,8 @@ static inline const char *layodegi_question_words(unsigned question)
         return "When returning, is the name marked?";
     case LAYODEGI_MASK:
         return "Has S only declared letters?";
+    case LAYODEGI_HANDED:
+        return "Does the handed substitution make the condition zero?";
     default:
         return "no question of the paper";
     }

@@ -117,17 +117,53 @@ static void check_solving(void)
     CHECK(holds(answers, "\0\0\0\0\0\0\0\0", 8));
     CHECK(layodegi_lowenheim(2, 0, V_FIRST, U_PLUS_V, 4, answers, 8) == 0);
     CHECK(holds(answers, "\0\0\0\1\0\0\0\1", 8));
-    /* u + (u + v)*(u + v) = v, v + (u + v)*(v + v) = v */
-    CHECK(layodegi_lowenheim_handed(2, 0, U_PLUS_V, 4, SAME, 8, answers, 8) == 0);
-    CHECK(holds(answers, SAME, 8));
     CHECK(layodegi_boole(2, 0, V_TWICE, U_PLUS_V, 4, answers, 8) == LAYODEGI_ORDER);
     CHECK(layodegi_particular(2, 0, U_ALONE, U_PLUS_V, 3, answers, 8) == LAYODEGI_ORDER);
     CHECK(layodegi_lowenheim(1, 0, U_FIRST, U_PLUS_V, 4, answers, 8) == LAYODEGI_ORDER);
     CHECK(layodegi_boole(7, 0, V_TWICE, U_PLUS_V, 4, answers, 8) == LAYODEGI_LETTERS);
-    CHECK(holds(answers, SAME, 8));
+    CHECK(holds(answers, "\0\0\0\1\0\0\0\1", 8));
     uint64_t none = layodegi_boole(1, 1, U_ALONE, A, 4, answers, 4);
     CHECK(layodegi_code_question(none) == LAYODEGI_SOLUTION && layodegi_code_number(none) == 1);
+    CHECK(holds(answers, "\0\0\0\1\0\0\0\1", 8));
+}
+
+static void check_handed(void)
+{
+    static const uint8_t U_PLUS_A[5] = {0, 1, 1, 0, 9}; /* and a byte behind it */
+    static const uint8_t ONES[8] = {1, 0, 0, 0, 1, 0, 0, 0};
+    static const uint8_t EXCHANGED[8] = {0, 0, 1, 0, 0, 1, 0, 0}; /* u = v, v = u */
+    static const uint8_t U_NOT_V[4] = {0, 1, 0, 1};               /* u*(1 + v) */
+    static const uint8_t NO_BITS[4] = {0, 1, 1, 2};
+    uint8_t answers[9];
+    memset(answers, OLD, sizeof answers);
+    CHECK(layodegi_lowenheim_handed(1, 1, U_PLUS_A, 5, A, 4, answers, 9) == 0);
+    CHECK(holds(answers, A, 4));
+    /* u + (u + v)*(u + v) = v, v + (u + v)*(v + v) = v */
+    CHECK(layodegi_lowenheim_handed(2, 0, U_PLUS_V, 4, SAME, 8, answers, 8) == 0);
     CHECK(holds(answers, SAME, 8));
+    CHECK(layodegi_lowenheim_handed(2, 0, U_PLUS_V, 4, ONES, 8, answers, 8) == 0);
+    CHECK(holds(answers, "\0\1\1\1\0\1\1\1", 8)); /* u or v, for both */
+
+    /* 1, 4, 8, 21 */
+    CHECK(layodegi_lowenheim_handed(7, 0, NO_BITS, 3, EMPTY, 4, answers, 3) == LAYODEGI_LETTERS);
+    CHECK(layodegi_lowenheim_handed(1, 1, NO_BITS, 3, EMPTY, 4, answers, 4) == LAYODEGI_ROOM);
+    CHECK(layodegi_lowenheim_handed(1, 1, NO_BITS, 4, EMPTY, 3, answers, 4) == LAYODEGI_ROOM);
+    CHECK(layodegi_lowenheim_handed(1, 1, NO_BITS, 4, EMPTY, 4, answers, 3) == LAYODEGI_ROOM);
+    CHECK(layodegi_lowenheim_handed(1, 1, NO_BITS, 4, EMPTY, 4, answers, 4) == LAYODEGI_BITS);
+    CHECK(layodegi_lowenheim_handed(1, 1, U_PLUS_A, 4, NO_BITS, 4, answers, 4) == LAYODEGI_BITS);
+    CHECK(layodegi_lowenheim_handed(1, 1, U_PLUS_A, 4, EMPTY, 4, answers, 4) == LAYODEGI_HANDED); /* in state 0 only */
+    CHECK(layodegi_lowenheim_handed(1, 1, U_PLUS_A, 5, EMPTY, 4, answers, 9) == LAYODEGI_HANDED);
+    CHECK(layodegi_lowenheim_handed(1, 1, A, 4, A, 4, answers, 4) == LAYODEGI_HANDED); /* no solution at all */
+    CHECK(layodegi_lowenheim_handed(2, 0, U_TIMES_V, 4, SAME, 8, answers, 8) == LAYODEGI_HANDED);
+    /* v*(1 + u), all at once: one after the other it would be 0 */
+    CHECK(layodegi_lowenheim_handed(2, 0, U_NOT_V, 4, EXCHANGED, 8, answers, 8) == LAYODEGI_HANDED);
+    CHECK(holds(answers, "\0\1\1\1\0\1\1\1", 8));
+
+    /* nothing to hand: is the condition itself zero? */
+    CHECK(layodegi_lowenheim_handed(0, 1, A, 2, A, 0, answers, 0) == 0);
+    CHECK(layodegi_lowenheim_handed(0, 1, A + 1, 2, A, 0, answers, 0) == LAYODEGI_HANDED);
+    CHECK(holds(answers, "\0\1\1\1\0\1\1\1", 8));
+    CHECK(strcmp(layodegi_question_words(21), "Does the handed substitution make the condition zero?") == 0);
 }
 
 static void check_entries(void)
@@ -277,6 +313,7 @@ int main(void)
     check_tables();
     check_derivatives();
     check_solving();
+    check_handed();
     check_entries();
     check_orders();
     check_sessions();

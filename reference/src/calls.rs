@@ -5,8 +5,8 @@
 
 use crate::polynomial::Polynomial;
 use crate::questions::{
-    ask, ask_bytes, ask_length, ask_letters, ask_mask, ask_order, ask_text_length, Choice, Letters,
-    Order, Refusal, State,
+    ask, ask_bytes, ask_length, ask_letters, ask_makes_zero, ask_mask, ask_order, ask_text_length,
+    Choice, Letters, Order, Refusal, State,
 };
 use crate::solution::{formula, solve_boole, solve_lowenheim, solve_particular, Solution, Solved};
 use crate::text::read_tree;
@@ -106,7 +106,8 @@ pub fn lowenheim(
     solve(u, g, order, condition, answers, solve_lowenheim)
 }
 
-/// Löwenheim's formula with handed polynomials. Questions 1, 4, 8.
+/// Löwenheim's formula with handed polynomials that make the condition zero: a general solution. They
+/// may mention unknowns. Questions 1, 4, 8, 21.
 pub fn lowenheim_handed(
     u: u64,
     g: u64,
@@ -117,8 +118,9 @@ pub fn lowenheim_handed(
     let letters = ask_letters(u, g)?;
     ask_length(answers, letters.answer_length())?;
     ask_handed(letters, condition, handed)?;
-    let b = lent_answers(handed, letters);
-    fill(answers, letters, &formula(letters, &lent(condition, letters), &b));
+    let (f, b) = (lent(condition, letters), lent_answers(handed, letters));
+    ask_makes_zero(&f, &b)?;
+    fill(answers, letters, &formula(letters, &f, &b));
     Ok(())
 }
 

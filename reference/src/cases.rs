@@ -1,11 +1,14 @@
-//! What test cases are made from: random numbers, tables, bounds, orders, sessions and bench rows.
+//! What test cases are made from: random numbers, tables, bounds, orders, handed polynomials, sessions
+//! and bench rows.
 
 pub mod entries;
+pub mod handed;
 pub mod orders;
 pub mod sessions;
 pub mod texts;
 
 use crate::plain::transform;
+use crate::questions::{Choice, State};
 
 /// A small xorshift.
 pub struct Random(u64);
@@ -102,6 +105,31 @@ impl Random {
             _ => exact,
         }
     }
+}
+
+/// Every table of so many bytes.
+pub fn every_table(length: usize) -> impl Iterator<Item = Vec<u8>> {
+    (0..1usize << length).map(move |bits| (0..length).map(|m| (bits >> m & 1) as u8).collect())
+}
+
+/// The tables of texts one after another.
+pub fn tables_of(u: u64, g: u64, texts: &[&str]) -> Vec<u8> {
+    let table = |text: &&str| {
+        let mut table = vec![0; 1 << (u + g)];
+        crate::read_text(u, g, text.as_bytes(), &mut table).expect("a text of the grammar");
+        table
+    };
+    texts.iter().flat_map(table).collect()
+}
+
+/// The value of a table at each point, one call for each. The low U bits of a point are a choice,
+/// those above a state.
+pub fn values_of(u: u64, g: u64, table: &[u8]) -> Vec<u8> {
+    let at = |point: u64| {
+        let (state, choice) = (State(point >> u), Choice(point & ((1 << u) - 1)));
+        crate::value(u, g, table, state, choice).expect("a value")
+    };
+    (0..1 << (u + g)).map(at).collect()
 }
 
 /// Every (U, G) for which question 1 is answered yes, with n in the range.

@@ -1,6 +1,8 @@
 //! The questions of documents 01 and 02 that more than one call asks, their numbers,
 //! and the letters, states, choices and orders that they speak of.
 
+use crate::polynomial::Polynomial;
+
 /// U counts the unknowns, 0 to 6.
 pub const MOST_UNKNOWNS: u64 = 6;
 /// G counts the givens, 0 to 8.
@@ -160,4 +162,9 @@ pub fn ask_name(name: u64) -> Result<usize, Refusal> {
 pub fn ask_mask(letters: Letters, s: u64) -> Result<u16, Refusal> {
     ask(20, s >> letters.count() == 0)?;
     Ok(s as u16)
+}
+
+/// 21. Does the handed substitution make the condition zero?
+pub fn ask_makes_zero(condition: &Polynomial, handed: &[Polynomial]) -> Result<(), Refusal> {
+    ask(21, condition.substitute(handed).is_zero())
 }

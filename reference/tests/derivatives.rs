@@ -1,7 +1,7 @@
 //! The vectorial derivative against the values before and after the flip, point by point; the laws
 //! of request C-13; rows by hand; and refusals.
 
-use reference::cases::{pairs, Random, TOO_LARGE, UNDECLARED};
+use reference::cases::{every_table, pairs, tables_of, values_of, Random, TOO_LARGE, UNDECLARED};
 use reference::plain::{self, transform, Block, Bytes};
 use reference::*;
 
@@ -17,22 +17,9 @@ fn sum_of(u: u64, g: u64, a: &[u8], b: &[u8]) -> Vec<u8> {
     result
 }
 
-/// The value at each point. The low U bits of a point are a choice, those above a state.
-fn values(u: u64, g: u64, table: &[u8]) -> Vec<u8> {
-    let at = |point: u64| {
-        let (state, choice) = (State(point >> u), Choice(point & ((1 << u) - 1)));
-        value(u, g, table, state, choice).expect("a value")
-    };
-    (0..1 << (u + g)).map(at).collect()
-}
-
 /// At each point, whether flipping the letters of S there changes the value.
 fn changes(values: &[u8], s: u64) -> Vec<u8> {
     (0..values.len()).map(|point| values[point] ^ values[point ^ s as usize]).collect()
-}
-
-fn every_table(length: usize) -> impl Iterator<Item = Vec<u8>> {
-    (0..1usize << length).map(move |bits| (0..length).map(|m| (bits >> m & 1) as u8).collect())
 }
 
 /// Every table over at most three letters, by every S: the values are those of the flip, it is empty
@@ -42,11 +29,11 @@ fn every_small_table() {
     let (mut empty, mut other) = (0, 0);
     for (u, g) in pairs(0, 3) {
         for table in every_table(1 << (u + g)) {
-            let before = values(u, g, &table);
+            let before = values_of(u, g, &table);
             for s in 0..1 << (u + g) {
                 let found = derivative_of(u, g, &table, s);
                 let changes = changes(&before, s);
-                assert_eq!(values(u, g, &found), changes, "{u} {g} {table:?} {s}");
+                assert_eq!(values_of(u, g, &found), changes, "{u} {g} {table:?} {s}");
                 let is_empty = found.iter().all(|&byte| byte == 0);
                 assert_eq!(is_empty, changes.iter().all(|&change| change == 0));
                 assert!(is_empty || s != 0);
@@ -126,11 +113,6 @@ fn one_value_is_seen() {
 /// Polynomials worked out by hand. Bit j of S is unknown j, bit U + i is given i.
 #[test]
 fn derivatives_by_hand() {
-    let table = |u: u64, g: u64, text: &str| {
-        let mut table = vec![7; 1 << (u + g)];
-        assert_eq!(read_text(u, g, text.as_bytes(), &mut table), Ok(()));
-        table
-    };
     for (u, g, text, s, expected) in [
         (0, 0, "1", 0, "0"),
         (1, 0, "u", 1, "1"),
@@ -150,8 +132,8 @@ fn derivatives_by_hand() {
         (1, 3, "u*(a+b)*c", 0b0110, "0"),
         (1, 3, "u*(a+b)*c", 0b1010, "u*(1+a+b+c)"),
     ] {
-        let found = derivative_of(u, g, &table(u, g, text), s);
-        assert_eq!(found, table(u, g, expected), "{text} by {s:b}");
+        let found = derivative_of(u, g, &tables_of(u, g, &[text]), s);
+        assert_eq!(found, tables_of(u, g, &[expected]), "{text} by {s:b}");
     }
 }
 

@@ -1,8 +1,12 @@
 //! The demands on small random conditions, by brute force.
 
+#[path = "common/accepted.rs"]
+mod accepted;
 mod common;
 
+use accepted::accepted;
 use common::{all_letters, Random};
+use reference::cases::handed::{NEARLY, SOLVING};
 use reference::cases::orders::{every_order, reverse_order};
 use reference::*;
 use std::collections::HashSet;
@@ -62,11 +66,14 @@ fn put(letters: Letters, answers: &[u8], substitution: &[usize]) -> Vec<usize> {
     substitution.iter().enumerate().map(at).collect()
 }
 
-/// In every order: 'none' exactly where no substitution solves; every answer solves; every
-/// substitution that solves is an instance.
+/// In every order, and from handed polynomials that are accepted: 'none' exactly where no substitution
+/// solves, where nothing is accepted either; every answer solves; every substitution that solves is an
+/// instance.
 #[test]
 fn every_solution_is_an_instance() {
     let mut random = Random(0x1234_5678_9abc_def1);
+    let for_handed = &mut cases::Random::new('L');
+    let mut refused = 0;
     for (unknowns, givens, list) in [
         (0, 1, 1),
         (0, 2, 3),
@@ -88,21 +95,30 @@ fn every_solution_is_an_instance() {
                 if round % 3 == 0 { random.table(length) } else { random.solvable(letters) };
             let solutions: Vec<_> =
                 all.iter().filter(|s| makes_zero(letters, &condition, s)).collect();
+            let mut answers = Vec::new();
             for order in every_order(unknowns as u64) {
                 for method in [boole as Method, lowenheim] {
-                    match solved(letters, order, &condition, method) {
-                        Err(_) => assert!(solutions.is_empty()),
-                        Ok(answers) => {
-                            let instances: HashSet<_> =
-                                all.iter().map(|s| put(letters, &answers, s)).collect();
-                            assert!(solutions.iter().all(|s| instances.contains(*s)));
-                            assert!(instances.iter().all(|s| makes_zero(letters, &condition, s)));
-                        }
-                    }
+                    let found = solved(letters, order, &condition, method);
+                    assert_eq!(found.is_err(), solutions.is_empty());
+                    answers.extend(found);
                 }
+            }
+            for kind in SOLVING.into_iter().chain(NEARLY) {
+                let (u, g) = (unknowns as u64, givens as u64);
+                let handed = for_handed.handed(kind, u, g, &condition);
+                let found = accepted(u, g, &condition, &handed);
+                assert!(found.is_none() || !solutions.is_empty());
+                refused += (found.is_none() && !solutions.is_empty()) as usize;
+                answers.extend(found);
+            }
+            for answers in answers {
+                let instances: HashSet<_> = all.iter().map(|s| put(letters, &answers, s)).collect();
+                assert!(solutions.iter().all(|s| instances.contains(*s)));
+                assert!(instances.iter().all(|s| makes_zero(letters, &condition, s)));
             }
         }
     }
+    assert!(refused > 100, "{refused}");
 }
 
 /// The smallest state in which every choice has the value 1, and only where there is one,
@@ -127,11 +143,13 @@ fn none_names_the_smallest_state() {
 }
 
 /// An answer put into the condition, or into itself, and Boole's and Löwenheim's in any two
-/// orders put into each other: each keeps its values. So general solutions under any two orders are
-/// instances of each other.
+/// orders, and those to handed polynomials, put into each other: each keeps its values. So general
+/// solutions under any two orders, and those from handed polynomials, are instances of each other. One
+/// that is handed over again is accepted and comes back.
 #[test]
 fn answers_are_reproductive() {
     let mut random = Random(4242);
+    let for_handed = &mut cases::Random::new('R');
     for letters in all_letters(6) {
         let condition = random.solvable(letters);
         let length = letters.table_length();
@@ -152,8 +170,13 @@ fn answers_are_reproductive() {
             answers.push(solved(letters, order, &condition, boole).expect("a solution"));
             answers.push(solved(letters, order, &condition, lowenheim).expect("a solution"));
         }
+        for kind in SOLVING {
+            let handed = for_handed.handed(kind, u, g, &condition);
+            answers.push(accepted(u, g, &condition, &handed).expect("accepted"));
+        }
         for inner in &answers {
             assert_eq!(put_into(&condition, inner), vec![0; length]);
+            assert_eq!(accepted(u, g, &condition, inner).as_ref(), Some(inner));
             for outer in &answers {
                 let again: Vec<u8> =
                     outer.chunks(length).flat_map(|table| put_into(table, inner)).collect();

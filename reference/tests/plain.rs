@@ -4,6 +4,7 @@
 mod common;
 
 use common::{all_letters, Random};
+use reference::cases::handed::{NEARLY, SOLVING};
 use reference::cases::orders::wrong_orders;
 use reference::plain::{self, Block, Bytes};
 use reference::*;
@@ -187,6 +188,70 @@ fn calls_agree_as<E: Block>() {
     }
 }
 
+/// Handed polynomials that solve and that nearly do, most of which mention unknowns, as they are and
+/// damaged.
+#[test]
+fn handed_agree() {
+    handed_agree_as::<Bytes>();
+    handed_agree_as::<u64>();
+}
+
+fn handed_agree_as<E: Block>() {
+    let random = &mut cases::Random::new('P');
+    let mut counts = [0; 22];
+    for (u, g) in cases::pairs(0, 10) {
+        let state = random.below(1 << g);
+        let conditions = [random.solvable(u, g), random.blocked(u, g, state)];
+        for kind in SOLVING.into_iter().chain(NEARLY) {
+            for condition in &conditions {
+                let handed = random.handed(kind, u, g, condition);
+                let number = assert_handed_agrees::<E>(u, g, condition.clone(), handed, random);
+                counts[number as usize] += 1;
+            }
+        }
+        let handed = random.simple(u, g);
+        let condition = random.made_zero_by(u, g, &handed);
+        let number = assert_handed_agrees::<E>(u, g, condition, handed, random);
+        counts[number as usize] += 1;
+    }
+    for number in [0, 4, 8, 21] {
+        assert!(counts[number] > 50, "{number}: {}", counts[number]);
+    }
+}
+
+/// Answers the number of the first no, 0 if there is none.
+fn assert_handed_agrees<E: Block>(
+    u: u64,
+    g: u64,
+    mut condition: Vec<u8>,
+    mut handed: Vec<u8>,
+    random: &mut cases::Random,
+) -> u8 {
+    let (first, second) = (condition.len(), handed.len());
+    let mut size = second;
+    match random.below(8) {
+        0 => random.spoil(&mut condition, first),
+        1 => random.spoil(&mut handed, second),
+        2 => {
+            random.fit(&mut condition);
+            random.fit(&mut handed);
+            size = random.size(size);
+        }
+        _ => {}
+    }
+    let mut number = 0;
+    assert_agree(
+        size,
+        |out| {
+            let answer = lowenheim_handed(u, g, &condition, &handed, out);
+            number = answer.map_or_else(|refusal| refusal.0, |()| 0);
+            answer
+        },
+        |out| plain::lowenheim_handed::<E>(u, g, &condition, &handed, out),
+    );
+    number
+}
+
 #[test]
 fn too_many_letters_agree() {
     too_many_letters_agree_as::<Bytes>();
@@ -200,6 +265,8 @@ fn too_many_letters_agree_as<E: Block>() {
         assert_eq!(plain::read_text::<E>(u, g, b"u", &mut buffer), Err(Refusal(1)));
         assert_eq!(plain::sum::<E>(u, g, &table, &table, &mut buffer), Err(Refusal(1)));
         assert_eq!(plain::derivative::<E>(u, g, &table, 4096, &mut buffer), Err(Refusal(1)));
+        let handed = plain::lowenheim_handed::<E>(u, g, &table, &table, &mut buffer);
+        assert_eq!(handed, Err(Refusal(1)));
         let order = Order([7; 6]);
         assert_eq!(plain::boole::<E>(u, g, order, &table, &mut buffer), Err(Refusal(1)));
         assert_eq!(plain::write_entry::<E>(0, u, g, order, &table, &mut buffer), Err(Refusal(1)));

@@ -11,7 +11,8 @@
 //! mask 0 is the monomial 1. An **answer table** is U tables one after another, unknown 0 first.
 //!
 //! The unknowns are eliminated in an [`Order`] that the designer picks: [`Order::default_for`] gives
-//! 0, 1, 2 and so on. General solutions in any two orders are instances of each other.
+//! 0, 1, 2 and so on. General solutions in any two orders are instances of each other, and of the one
+//! that [`lowenheim_handed`] makes out of a solution that the designer hands over.
 //!
 //! A [`Session`] keeps the conditions that a designer adds one by one, as one table, and states of it
 //! to return to. The [`derivative`] tells a maintainer whether flipping some contacts together can
@@ -347,15 +348,30 @@ pub fn lowenheim(
     Code(code).answer()
 }
 
-/// Löwenheim's formula on handed polynomials (an answer table), whether or not they solve the
-/// condition. Questions 1, 4, 8.
+/// Löwenheim's formula on handed polynomials (an answer table) that make the condition zero.
+/// Questions 1, 4, 8, 21.
+///
+/// They may mention unknowns, as long as putting them for the unknowns, all at once, makes the
+/// condition zero; without unknowns, the condition itself has to be zero. An accepted one gives a
+/// general solution: it and Boole's answers are instances of each other.
 ///
 /// ```
-/// # use layodegi::{lowenheim_handed, Letters};
-/// let letters = Letters { unknowns: 1, givens: 1 };
-/// let mut answers = [7; 4];
-/// lowenheim_handed(letters, &[0, 1, 1, 0], &[0, 0, 1, 0], &mut answers)?; // u + a; a
-/// assert_eq!(answers, [0, 0, 1, 0]); // u = a
+/// # use layodegi::{lowenheim_handed, Letters, Question};
+/// let letters = Letters { unknowns: 2, givens: 0 };
+/// let u_plus_v = [0, 1, 1, 0];
+/// let mut answers = [7; 8];
+/// let ones = [1, 0, 0, 0, 1, 0, 0, 0]; // u = 1, v = 1: a favourite, and one of two solutions
+/// lowenheim_handed(letters, &u_plus_v, &ones, &mut answers)?;
+/// assert_eq!(answers, [0, 1, 1, 1, 0, 1, 1, 1]); // u | v for both: every solution
+///
+/// let both_v = [0, 0, 1, 0, 0, 0, 1, 0]; // u = v, v = v mentions an unknown
+/// lowenheim_handed(letters, &u_plus_v, &both_v, &mut answers)?;
+/// assert_eq!(answers, both_v);
+///
+/// let one_and_v = [1, 0, 0, 0, 0, 0, 1, 0]; // u = 1, v = v solves where v is 1 only
+/// let refused = lowenheim_handed(letters, &u_plus_v, &one_and_v, &mut answers);
+/// assert_eq!(refused, Err(Question::Handed.into()));
+/// assert_eq!(answers, both_v); // as they were
 /// # Ok::<(), layodegi::Refusal>(())
 /// ```
 pub fn lowenheim_handed(

@@ -11,7 +11,7 @@ use std::fmt;
 /// assert_eq!(Question::Grammar.number(), 7);
 /// assert_eq!(Question::Grammar.to_string(), "Does the grammar read the whole text?");
 /// assert_eq!(Question::with_number(7), Some(Question::Grammar));
-/// assert_eq!(Question::with_number(21), None);
+/// assert_eq!(Question::with_number(22), None);
 /// ```
 #[derive(Clone, Copy, Debug, PartialEq, Eq, Hash)]
 #[repr(u8)]
@@ -59,11 +59,13 @@ pub enum Question {
     Marked = 19,
     /// Has S only declared letters?
     Mask = 20,
+    /// Does the handed substitution make the condition zero?
+    Handed = 21,
 }
 
 impl Question {
     /// Every question, by number.
-    pub const ALL: [Question; 20] = [
+    pub const ALL: [Question; 21] = [
         Question::Letters,
         Question::Route,
         Question::TextLength,
@@ -84,6 +86,7 @@ impl Question {
         Question::Name,
         Question::Marked,
         Question::Mask,
+        Question::Handed,
     ];
 
     /// The question with a number, if there is one.
@@ -130,6 +133,7 @@ impl Question {
             Question::Name => "Is the name a byte `A` to `D`?",
             Question::Marked => "When returning, is the name marked?",
             Question::Mask => "Has S only declared letters?",
+            Question::Handed => "Does the handed substitution make the condition zero?",
         }
     }
 }

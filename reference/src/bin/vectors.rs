@@ -4,6 +4,8 @@
 
 #[path = "vectors/entry.rs"]
 mod entry;
+#[path = "vectors/handed.rs"]
+mod handed;
 #[path = "vectors/lines.rs"]
 mod lines;
 #[path = "vectors/operations.rs"]
@@ -20,8 +22,9 @@ mod volume;
 use lines::Lines;
 use std::process::ExitCode;
 
-/// No file of a group is longer.
-const LONGEST_FILE: usize = 250_000;
+/// No file of a group is longer; the test programs have room for 262,144 bytes of input.
+const LONGEST_INPUT: usize = 250_000;
+const LONGEST_OUTPUT: usize = 300_000;
 
 fn main() -> ExitCode {
     let arguments: Vec<String> = std::env::args().collect();
@@ -37,8 +40,10 @@ fn main() -> ExitCode {
         }
     }
     println!("{}: {} lines", lines.report(), lines.count());
-    if lines.input.len().max(lines.output.len()) > LONGEST_FILE {
-        eprintln!("a file is longer than {LONGEST_FILE} bytes: ask for fewer calls");
+    if lines.input.len() > LONGEST_INPUT || lines.output.len() > LONGEST_OUTPUT {
+        eprintln!(
+            "more than {LONGEST_INPUT} bytes in or {LONGEST_OUTPUT} out: ask for fewer calls"
+        );
         return ExitCode::FAILURE;
     }
     let written = std::fs::write(input, &lines.input).and(std::fs::write(output, &lines.output));
@@ -57,7 +62,7 @@ fn add_cases(call: char, lines: &mut Lines) -> bool {
         'd' => operations::add_derivatives(lines),
         't' => text::add_texts(lines),
         'b' | 'p' | 'l' => solving::add_solutions(lines, call),
-        'h' => solving::add_handed(lines),
+        'h' => handed::add_handed(lines),
         'w' => entry::add_writings(lines),
         'r' => entry::add_readings(lines),
         'a' => volume::add_audits(lines),

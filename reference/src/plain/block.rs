@@ -2,6 +2,7 @@
 //! lowest letters lie within a block, the others between blocks. A table of fewer than six letters
 //! fills its block over and over with values, and has no coefficient behind its end.
 
+use super::table::Table;
 use std::ops::{BitAnd, BitOr, BitXor};
 
 /// The letters that lie within a block.
@@ -37,8 +38,17 @@ pub trait Block:
     fn set(&mut self, point: usize);
     /// Bit i is the value at point i.
     fn bits(self) -> u64;
-    /// The values of `whole` at each point, its lowest letters having the values of `parts` there.
-    fn look_up<const K: usize>(whole: &[Self; K], parts: &[[Self; K]]) -> [Self; K];
+    /// The values of `whole` at each point of block k, its lowest letters having the values of `parts`
+    /// there.
+    fn look_up<const K: usize>(whole: &Table<Self, K>, parts: &[Table<Self, K>], k: usize) -> Self;
+    /// Whether all of these are 0.
+    fn is_zero_there<const K: usize>(
+        whole: &Table<Self, K>,
+        parts: &[Table<Self, K>],
+        k: usize,
+    ) -> bool {
+        Self::look_up(whole, parts, k) == Self::ZERO
+    }
     /// The table of f plus f with every letter of a mask inverted. On coefficients: per letter, the
     /// half with it is added to the half without it.
     fn derivative<const K: usize>(table: &[u8], mask: usize, result: &mut [u8]);

@@ -81,6 +81,20 @@ fn add(bytes: &mut [u8], other: &[u8]) {
     bytes.iter_mut().zip(other).for_each(|(byte, other)| *byte ^= other);
 }
 
+/// For each point of block k, the point with the values of `parts` as its lowest letters.
+#[inline(always)]
+fn points_led_to<const K: usize>(parts: &[Table<Bytes, K>], k: usize) -> [u8; POINTS] {
+    let mut choices = Bytes::ZERO;
+    for (j, part) in parts.iter().enumerate() {
+        choices = choices.each(|e, choice| choice | part.0[k].0[e] << j);
+    }
+    let mut points = choices.to_bytes();
+    for (point, byte) in points.iter_mut().enumerate() {
+        *byte |= (point >> parts.len() << parts.len()) as u8;
+    }
+    points
+}
+
 static OPERANDS: Operands<Bytes> = operands!(Bytes);
 
 impl Block for Bytes {
@@ -148,20 +162,24 @@ impl Block for Bytes {
     }
 
     /// Point by point.
-    fn look_up<const K: usize>(whole: &[Bytes; K], parts: &[[Bytes; K]]) -> [Bytes; K] {
-        let mut result = [Bytes::ZERO; K];
-        for (k, (block, whole)) in result.iter_mut().zip(whole).enumerate() {
-            let mut choices = Bytes::ZERO;
-            for (j, part) in parts.iter().enumerate() {
-                choices = choices.each(|e, choice| choice | part[k].0[e] << j);
-            }
-            let (whole, mut bytes) = (whole.to_bytes(), choices.to_bytes());
-            for (point, byte) in bytes.iter_mut().enumerate() {
-                *byte = whole[(point >> parts.len() << parts.len() | *byte as usize) % POINTS];
-            }
-            *block = Bytes::pack(&bytes);
-        }
-        result
+    fn look_up<const K: usize>(
+        whole: &Table<Bytes, K>,
+        parts: &[Table<Bytes, K>],
+        k: usize,
+    ) -> Bytes {
+        let whole = whole.0[k].to_bytes();
+        Bytes::pack(&points_led_to(parts, k).map(|point| whole[point as usize % POINTS]))
+    }
+
+    /// Nothing is put together but the union of the values.
+    fn is_zero_there<const K: usize>(
+        whole: &Table<Bytes, K>,
+        parts: &[Table<Bytes, K>],
+        k: usize,
+    ) -> bool {
+        let whole = whole.0[k].to_bytes();
+        let points = points_led_to(parts, k);
+        points.iter().fold(0, |any, &point| any | whole[point as usize % POINTS]) == 0
     }
 
     /// In the bytes of the result.

@@ -131,12 +131,18 @@ fn put_substituted<B: Block, const K: usize>(
     handed: &[u8],
     result: &mut [u8],
 ) {
-    let whole = Table::<B, K>::from_bytes(condition).transformed();
-    let mut parts = [[B::ZERO; K]; MOST_UNKNOWNS as usize];
-    for (part, bytes) in parts.iter_mut().zip(handed.chunks_exact(letters.table_length())) {
-        *part = Table::<B, K>::from_bytes(bytes).transformed().0;
+    let f = Table::<B, K>::from_bytes(condition).transformed();
+    let b = handed_values(letters, handed);
+    f.put_for_lowest(&b[..letters.unknowns]).transformed().put(result);
+}
+
+/// The values of handed polynomials; zeros behind the last unknown.
+fn handed_values<B: Block, const K: usize>(letters: Letters, handed: &[u8]) -> Answers<B, K> {
+    let mut values = [Table::ZERO; MOST_UNKNOWNS as usize];
+    for (b, bytes) in values.iter_mut().zip(handed.chunks_exact(letters.table_length())) {
+        *b = Table::from_bytes(bytes).transformed();
     }
-    Table(B::look_up(&whole.0, &parts[..letters.unknowns])).transformed().put(result);
+    values
 }
 
 /// The vectorial derivative of a table by a set S of letters, a mask. Questions 1, 4, 8, 20.
@@ -255,17 +261,24 @@ fn put_answers<B: Block, const K: usize>(
     match solved {
         Err(state) => Solved::None(state),
         Ok(values) => {
-            for (answer, bytes) in
-                values.iter().zip(answers.chunks_exact_mut(letters.table_length()))
-            {
-                answer.transformed().put(bytes);
-            }
+            put_tables(letters, &values, answers);
             Solved::Done
         }
     }
 }
 
-/// Löwenheim's formula with handed polynomials. Questions 1, 4, 8.
+/// The tables of the answers, from their values.
+fn put_tables<B: Block, const K: usize>(
+    letters: Letters,
+    values: &Answers<B, K>,
+    answers: &mut [u8],
+) {
+    for (answer, bytes) in values.iter().zip(answers.chunks_exact_mut(letters.table_length())) {
+        answer.transformed().put(bytes);
+    }
+}
+
+/// Löwenheim's formula with handed polynomials that make the condition zero. Questions 1, 4, 8, 21.
 pub fn lowenheim_handed<B: Block>(
     u: u64,
     g: u64,
@@ -277,24 +290,23 @@ pub fn lowenheim_handed<B: Block>(
     ask_length(answers, letters.answer_length())?;
     let (condition, handed) = ask_handed(letters, condition, handed)?;
     let answers = &mut answers[..letters.answer_length()];
-    for_blocks!(B, letters.count(), put_formula(letters, condition, handed, answers));
-    Ok(())
+    for_blocks!(B, letters.count(), put_formula(letters, condition, handed, answers))
 }
 
+/// Question 21 on values, so that nothing goes back to coefficients before it is answered; the
+/// formula takes the same values.
 fn put_formula<B: Block, const K: usize>(
     letters: Letters,
     condition: &[u8],
     handed: &[u8],
     answers: &mut [u8],
-) {
+) -> Result<(), Refusal> {
     let f = Table::<B, K>::from_bytes(condition).transformed();
-    let length = letters.table_length();
-    let tables = handed.chunks_exact(length).zip(answers.chunks_exact_mut(length));
-    for (j, (handed, answer)) in tables.enumerate() {
-        let mut b = Table::<B, K>::from_bytes(handed).transformed();
-        solving::formula(j, &f, &mut b);
-        b.transformed().put(answer);
-    }
+    let mut b = handed_values(letters, handed);
+    ask(21, f.is_made_zero_by(&b[..letters.unknowns]))?;
+    solving::formula(&f, &mut b[..letters.unknowns]);
+    put_tables(letters, &b, answers);
+    Ok(())
 }
 
 /// Questions 4 and 8 of a condition and handed polynomials, each cut to its length.

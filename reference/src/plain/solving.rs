@@ -75,17 +75,17 @@ pub fn lowenheim<B: Block, const K: usize>(
     f: Table<B, K>,
 ) -> Result<Answers<B, K>, State> {
     let mut answers = particular(order, f)?;
-    for (j, answer) in answers[..order.len()].iter_mut().enumerate() {
-        formula(j, &f, answer);
-    }
+    formula(&f, &mut answers[..order.len()]);
     Ok(answers)
 }
 
-/// x + f*(x + b), in the place of b.
-pub fn formula<B: Block, const K: usize>(j: usize, f: &Table<B, K>, b: &mut Table<B, K>) {
-    b.add_letter(j);
-    b.multiply(f);
-    b.add_letter(j);
+/// x + f*(x + b) for each unknown x, in the place of its b.
+pub fn formula<B: Block, const K: usize>(f: &Table<B, K>, handed: &mut [Table<B, K>]) {
+    for (j, b) in handed.iter_mut().enumerate() {
+        b.add_letter(j);
+        b.multiply(f);
+        b.add_letter(j);
+    }
 }
 
 /// The values before each unknown goes, or the smallest state in which something remains.

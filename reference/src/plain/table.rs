@@ -1,6 +1,7 @@
 //! Tables of a number of blocks that the compiler knows, in either form.
 
 use super::block::{Block, LOW_LETTERS, POINTS};
+use std::array;
 
 /// Values at all points, or coefficients of all masks.
 #[derive(Clone, Copy, PartialEq)]
@@ -86,6 +87,16 @@ impl<B: Block, const K: usize> Table<B, K> {
         self.with_turned(j, |block, turned, k| {
             block ^ ((values.0[k] ^ letter[k]) & (block ^ turned))
         })
+    }
+
+    /// With the values of `parts` put for the lowest letters, all at once.
+    pub fn put_for_lowest(&self, parts: &[Self]) -> Self {
+        Table(array::from_fn(|k| B::look_up(self, parts, k)))
+    }
+
+    /// Whether that is zero at every point; looks no further than the first block where it is not.
+    pub fn is_made_zero_by(&self, parts: &[Self]) -> bool {
+        (0..K).all(|k| B::is_zero_there(self, parts, k))
     }
 
     /// Each block changed by itself and by the block at the points with letter j turned over. A

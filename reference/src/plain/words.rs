@@ -3,6 +3,7 @@
 use std::array;
 
 use super::block::{operands, Block, Operands, LOW_LETTERS, MOST_BLOCKS, OPERAND_ONE, POINTS};
+use super::table::Table;
 
 static OPERANDS: Operands<u64> = operands!(u64);
 
@@ -87,27 +88,24 @@ impl Block for u64 {
         self
     }
 
-    /// By choices, word by word: the two lowest letters at once, by what stands for each four bits, then
-    /// the others from the last on, halving the words.
-    fn look_up<const K: usize>(whole: &[u64; K], parts: &[[u64; K]]) -> [u64; K] {
-        array::from_fn(|k| {
-            // the unknowns are among the letters within a word; every other stands for itself
-            let put = |j: usize| parts.get(j).map_or(Self::LOW[j], |part| part[k]);
-            let (first, second) = (put(0), put(1));
-            let fours: [u64; 16] = array::from_fn(|bits| {
-                let full = |place: usize| (bits as u64 >> place & 1).wrapping_neg();
-                pick(second, pick(first, full(0), full(1)), pick(first, full(2), full(3)))
-            });
-            let mut words: [u64; 16] =
-                array::from_fn(|q| fours[(whole[k] >> (4 * q) & 15) as usize]);
-            for (j, half) in [(5, 8), (4, 4), (3, 2), (2, 1)] {
-                let (chooses, (zero, one)) = (put(j), words.split_at_mut(half));
-                for (zero, &one) in zero.iter_mut().zip(&*one) {
-                    *zero = pick(chooses, *zero, one);
-                }
+    /// By choices: the two lowest letters at once, by what stands for each four bits, then the others
+    /// from the last on, halving the words.
+    fn look_up<const K: usize>(whole: &Table<u64, K>, parts: &[Table<u64, K>], k: usize) -> u64 {
+        // the unknowns are among the letters within a word; every other stands for itself
+        let put = |j: usize| parts.get(j).map_or(Self::LOW[j], |part| part.0[k]);
+        let (first, second) = (put(0), put(1));
+        let fours: [u64; 16] = array::from_fn(|bits| {
+            let full = |place: usize| (bits as u64 >> place & 1).wrapping_neg();
+            pick(second, pick(first, full(0), full(1)), pick(first, full(2), full(3)))
+        });
+        let mut words: [u64; 16] = array::from_fn(|q| fours[(whole.0[k] >> (4 * q) & 15) as usize]);
+        for (j, half) in [(5, 8), (4, 4), (3, 2), (2, 1)] {
+            let (chooses, (zero, one)) = (put(j), words.split_at_mut(half));
+            for (zero, &one) in zero.iter_mut().zip(&*one) {
+                *zero = pick(chooses, *zero, one);
             }
-            words[0]
-        })
+        }
+        words[0]
     }
 
     /// The words stay crossed: that only names the letters within them anew.

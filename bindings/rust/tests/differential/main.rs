@@ -4,6 +4,7 @@
 
 mod calls;
 mod entries;
+mod handed;
 mod lent;
 mod making;
 mod sessions;
@@ -24,11 +25,11 @@ fn main() -> ExitCode {
         tables::run_sums,
         tables::run_products,
         tables::run_substitutions,
-        tables::run_handed,
         tables::run_derivatives,
         solving::run_boole,
         solving::run_particular,
         solving::run_lowenheim,
+        handed::run,
         entries::run_writing,
         entries::run_reading,
         entries::run_audits,

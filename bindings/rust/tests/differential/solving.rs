@@ -3,7 +3,7 @@
 use crate::calls::{Calls, SolvingCall, BOOLE, LOWENHEIM, PARTICULAR};
 use crate::making::{condition, damage, garbage, order, result, wrong_letters};
 use reference::cases::orders::{every_order, wrong_orders};
-use reference::cases::{bench_tables, pairs, Random};
+use reference::cases::{bench_tables, every_table, pairs, Random};
 
 pub fn run_boole() -> Calls {
     run(BOOLE)
@@ -66,10 +66,8 @@ fn run(call: SolvingCall) -> Calls {
 fn every_condition(calls: &mut Calls, call: SolvingCall, random: &mut Random) {
     for (u, g) in pairs(0, 3) {
         let length = 1 << (u + g);
-        for bits in 0..1 << length {
-            let table: Vec<u8> = (0..length).map(|mask| (bits >> mask & 1) as u8).collect();
-            let orders = every_order(u);
-            let order = orders[bits % orders.len()];
+        let orders = every_order(u);
+        for (table, &order) in every_table(length).zip(orders.iter().cycle()) {
             calls.solve(call, (u, g, order), &table, &garbage(random, u as usize * length));
         }
     }

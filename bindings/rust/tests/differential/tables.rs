@@ -1,9 +1,8 @@
-//! Cases for value, sum, product, substitution, the formula on handed
-//! polynomials, and the derivative.
+//! Cases for value, sum, product, substitution and the derivative.
 
-use crate::calls::{Calls, PairCall, LOWENHEIM_HANDED, PRODUCT, SUBSTITUTE, SUM};
+use crate::calls::{Calls, PairCall, PRODUCT, SUBSTITUTE, SUM};
 use crate::making::{condition, damage, garbage, large, result, wrong_letters};
-use reference::cases::{bench_tables, pairs, Random, UNDECLARED};
+use reference::cases::{bench_tables, every_table, pairs, Random, UNDECLARED};
 
 pub fn run_values() -> Calls {
     let mut calls = Calls::new('V');
@@ -42,23 +41,27 @@ fn around(random: &mut Random, bound: usize) -> u64 {
 }
 
 pub fn run_sums() -> Calls {
-    run_pairs(SUM, 120)
+    run_pairs(SUM, 120, any_second)
 }
 
 pub fn run_products() -> Calls {
-    run_pairs(PRODUCT, 90)
+    run_pairs(PRODUCT, 90, any_second)
 }
 
 pub fn run_substitutions() -> Calls {
-    run_pairs(SUBSTITUTE, 80)
+    run_pairs(SUBSTITUTE, 80, any_second)
 }
 
-pub fn run_handed() -> Calls {
-    run_pairs(LOWENHEIM_HANDED, 80)
+/// Makes the second table of a pair, of a length, for U, G and the first table.
+type Second = fn(&mut Random, (u64, u64), &[u8], usize) -> Vec<u8>;
+
+/// Whatever the first table is.
+fn any_second(random: &mut Random, _: (u64, u64), _: &[u8], length: usize) -> Vec<u8> {
+    random.any_table(length)
 }
 
 /// Cases for a call on two tables, of which the second and the result may be answer tables.
-fn run_pairs(call: PairCall, many: usize) -> Calls {
+pub fn run_pairs(call: PairCall, many: usize, make: Second) -> Calls {
     let mut calls = Calls::new('P');
     let random = &mut Random::new(call.name.as_bytes()[0] as char);
     let length =
@@ -70,18 +73,20 @@ fn run_pairs(call: PairCall, many: usize) -> Calls {
         calls.pair(call, u, g, &[7], &[], &[]);
     }
     for (u, g, table) in bench_tables() {
-        let other = random.table(second(u, g), 2);
+        let other = make(random, (u, g), &table, second(u, g));
         calls.pair(call, u, g, &table, &other, &result(random, third(u, g)));
     }
     for (u, g) in pairs(0, 10) {
         for _ in 0..many {
             let mut a = condition(random, u, g);
-            let mut b = random.any_table(second(u, g));
+            let mut b = make(random, (u, g), &a, second(u, g));
             damage(random, &mut a);
             damage(random, &mut b);
             calls.pair(call, u, g, &a, &b, &result(random, third(u, g)));
         }
-        one_short(&mut calls, call, random, (u, g), second(u, g), third(u, g));
+        let a = condition(random, u, g);
+        let b = make(random, (u, g), &a, second(u, g));
+        one_short(&mut calls, call, (u, g), &a, &b, &garbage(random, third(u, g)));
     }
     calls
 }
@@ -90,13 +95,11 @@ fn run_pairs(call: PairCall, many: usize) -> Calls {
 fn one_short(
     calls: &mut Calls,
     call: PairCall,
-    random: &mut Random,
     (u, g): (u64, u64),
-    second: usize,
-    third: usize,
+    a: &[u8],
+    b: &[u8],
+    out: &[u8],
 ) {
-    let (a, b) = (condition(random, u, g), random.table(second, 2));
-    let out = garbage(random, third);
     let spoiled = |table: &[u8]| {
         let mut table = table.to_vec();
         if let Some(last) = table.last_mut() {
@@ -104,12 +107,12 @@ fn one_short(
         }
         table
     };
-    calls.pair(call, u, g, &a[1..], &b, &out);
-    calls.pair(call, u, g, &a, &b[second.min(1)..], &out);
-    calls.pair(call, u, g, &a, &b, &out[third.min(1)..]);
-    calls.pair(call, u, g, &spoiled(&a), &b, &out);
-    calls.pair(call, u, g, &a, &spoiled(&b), &out);
-    calls.pair(call, u, g, &a, &a, &out);
+    calls.pair(call, u, g, &a[1..], b, out);
+    calls.pair(call, u, g, a, &b[b.len().min(1)..], out);
+    calls.pair(call, u, g, a, b, &out[out.len().min(1)..]);
+    calls.pair(call, u, g, &spoiled(a), b, out);
+    calls.pair(call, u, g, a, &spoiled(b), out);
+    calls.pair(call, u, g, a, a, out);
 }
 
 pub fn run_derivatives() -> Calls {
@@ -143,8 +146,7 @@ pub fn run_derivatives() -> Calls {
 fn every_small_derivative(calls: &mut Calls, random: &mut Random) {
     for (u, g) in pairs(0, 3) {
         let length = 1 << (u + g);
-        for bits in 0..1usize << length {
-            let table: Vec<u8> = (0..length).map(|mask| (bits >> mask & 1) as u8).collect();
+        for table in every_table(length) {
             for s in 0..=length as u64 {
                 calls.derivative(u, g, &table, s, &garbage(random, length));
             }

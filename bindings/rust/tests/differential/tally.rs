@@ -17,7 +17,7 @@ pub const QUESTIONS: [(&str, &[u8]); 18] = [
     ("boole", &[1, 17, 4, 8, 9]),
     ("particular", &[1, 17, 4, 8, 9]),
     ("lowenheim", &[1, 17, 4, 8, 9]),
-    ("lowenheim_handed", &[1, 4, 8]),
+    ("lowenheim_handed", &[1, 4, 8, 21]),
     ("write_entry", &[1, 2, 17, 4, 8, 14]),
     ("read_entry", &[10, 11, 1, 2, 12, 17, 4]),
     ("audit", &[10, 11, 1, 2, 12, 17, 13]),

@@ -2,7 +2,7 @@
 
 use crate::lines::Lines;
 use reference::cases::orders::default_order;
-use reference::cases::{bench_tables, pairs, Random, TOO_LARGE, UNDECLARED};
+use reference::cases::{bench_tables, every_table, pairs, Random, TOO_LARGE, UNDECLARED};
 
 pub fn add_values(lines: &mut Lines) {
     let random = &mut Random::new('v');
@@ -82,9 +82,12 @@ pub fn add_two_tables(lines: &mut Lines, call: char) {
     }
     add_every_pair_of_tables(lines, call);
     for (u, g) in pairs(0, 4) {
-        add_wrong_tables(lines, call, random, u, g, 1 << (u + g));
+        let length = 1 << (u + g);
+        let (a, b) = (random.any_table(length), random.any_table(length));
+        add_wrong_tables(lines, call, random, (u, g), &a, &b);
         for _ in 0..25 {
-            add_any_tables(lines, call, random, u, g, 1 << (u + g));
+            let (a, b) = (random.any_table(length), random.any_table(length));
+            add_any_tables(lines, call, random, (u, g), a, b);
         }
     }
     for (u, g) in pairs(5, 10) {
@@ -102,59 +105,55 @@ pub fn add_two_tables(lines: &mut Lines, call: char) {
 fn add_every_pair_of_tables(lines: &mut Lines, call: char) {
     for (u, g) in pairs(0, 1) {
         let length = 1 << (u + g);
-        let table =
-            |bits: usize| -> Vec<u8> { (0..length).map(|m| (bits >> m & 1) as u8).collect() };
-        for a in 0..1 << length {
-            for b in 0..1 << length {
-                lines.tables(call, u, g, &table(a), &table(b), length);
+        for a in every_table(length) {
+            for b in every_table(length) {
+                lines.tables(call, u, g, &a, &b, length);
             }
         }
     }
 }
 
-/// For two tables or a condition and handed ones: each wrong thing by itself, then two.
+/// Two tables, or a condition and handed ones: as they are, with each wrong thing by itself, then two.
 pub fn add_wrong_tables(
     lines: &mut Lines,
     call: char,
     random: &mut Random,
-    u: u64,
-    g: u64,
-    second: usize,
+    (u, g): (u64, u64),
+    a: &[u8],
+    b: &[u8],
 ) {
-    let length = 1 << (u + g);
-    let (a, b) = (random.any_table(length), random.any_table(second));
-    let size = if call == 'h' { second } else { length };
-    let (mut bad_a, mut bad_b) = (a.clone(), b.clone());
-    random.spoil(&mut bad_a, length);
+    let second = b.len();
+    let size = if call == 'h' { second } else { a.len() };
+    let (mut bad_a, mut bad_b) = (a.to_vec(), b.to_vec());
+    random.spoil(&mut bad_a, a.len());
     random.spoil(&mut bad_b, second);
     let longer = |table: &[u8]| [table, &[7, 1, 9]].concat();
-    lines.tables(call, u, g, &a, &b, size);
-    lines.tables(call, u, g, &longer(&a), &longer(&b), size + 3);
-    lines.tables(call, u, g, &a[1..], &b, size);
-    lines.tables(call, u, g, &a, &b[..second.saturating_sub(1)], size);
-    lines.tables(call, u, g, &a, &b, size.saturating_sub(1));
-    lines.tables(call, u, g, &[], &b, size);
-    lines.tables(call, u, g, &a, &[], size);
-    lines.tables(call, u, g, &a, &b, 0);
-    lines.tables(call, u, g, &bad_a, &b, size);
-    lines.tables(call, u, g, &a, &bad_b, size);
+    lines.tables(call, u, g, a, b, size);
+    lines.tables(call, u, g, &longer(a), &longer(b), size + 3);
+    lines.tables(call, u, g, &a[1..], b, size);
+    lines.tables(call, u, g, a, &b[..second.saturating_sub(1)], size);
+    lines.tables(call, u, g, a, b, size.saturating_sub(1));
+    lines.tables(call, u, g, &[], b, size);
+    lines.tables(call, u, g, a, &[], size);
+    lines.tables(call, u, g, a, b, 0);
+    lines.tables(call, u, g, &bad_a, b, size);
+    lines.tables(call, u, g, a, &bad_b, size);
     lines.tables(call, u, g, &bad_a, &bad_b, size + 1);
     lines.tables(call, u, g, &bad_a, &b[..second.saturating_sub(1)], size);
     lines.tables(call, u, g, &a[1..], &bad_b, size);
     lines.tables(call, u, g, &bad_a, &bad_b, size.saturating_sub(1));
 }
 
-/// Random tables, each perhaps spoiled, longer, short or empty.
+/// Two tables, or a condition and handed ones, each perhaps spoiled, longer, short or empty.
 pub fn add_any_tables(
     lines: &mut Lines,
     call: char,
     random: &mut Random,
-    u: u64,
-    g: u64,
-    second: usize,
+    (u, g): (u64, u64),
+    mut a: Vec<u8>,
+    mut b: Vec<u8>,
 ) {
-    let length = 1 << (u + g);
-    let (mut a, mut b) = (random.any_table(length), random.any_table(second));
+    let (length, second) = (a.len(), b.len());
     let size = if call == 'h' { second } else { length };
     if random.once_in(6) {
         random.spoil(&mut a, length);
@@ -183,11 +182,13 @@ pub fn add_substitutions(lines: &mut Lines) {
         lines.tables('s', u, g, &[7], &[], 0);
     }
     for (u, g) in pairs(0, 4) {
-        let second = u as usize * (1 << (u + g));
-        add_wrong_tables(lines, 's', random, u, g, second);
+        let (length, second) = (1 << (u + g), u as usize * (1 << (u + g)));
+        let (a, b) = (random.any_table(length), random.any_table(second));
+        add_wrong_tables(lines, 's', random, (u, g), &a, &b);
         add_renamings(lines, random, u, g);
         for _ in 0..10 {
-            add_any_tables(lines, 's', random, u, g, second);
+            let (a, b) = (random.any_table(length), random.any_table(second));
+            add_any_tables(lines, 's', random, (u, g), a, b);
         }
     }
     for (u, g) in pairs(5, 10) {
@@ -260,8 +261,7 @@ pub fn add_derivatives(lines: &mut Lines) {
 fn add_every_derivative(lines: &mut Lines) {
     for (u, g) in pairs(0, 1).into_iter().chain([(1, 1)]) {
         let length = 1 << (u + g);
-        for bits in 0..1usize << length {
-            let table: Vec<u8> = (0..length).map(|m| (bits >> m & 1) as u8).collect();
+        for table in every_table(length) {
             for s in 0..=length as u64 {
                 lines.derivative(u, g, &table, s, length);
             }

@@ -1,9 +1,8 @@
-//! Cases for Boole's answer, the particular solution and Löwenheim's formula.
+//! Cases for Boole's answer, the particular solution and the own Löwenheim answer.
 
 use crate::lines::Lines;
-use crate::operations::{add_any_tables, add_wrong_tables};
 use reference::cases::orders::{default_order, every_order, reverse_order, wrong_orders};
-use reference::cases::{bench_tables, pairs, Random, TOO_LARGE};
+use reference::cases::{bench_tables, every_table, pairs, Random, TOO_LARGE};
 use reference::Order;
 
 /// Boole (`b`), the particular solution (`p`) or the own Löwenheim (`l`).
@@ -39,8 +38,7 @@ pub fn add_solutions(lines: &mut Lines, call: char) {
 fn add_every_condition(lines: &mut Lines, call: char) {
     for (u, g) in pairs(0, 2) {
         let length = 1 << (u + g);
-        for bits in 0..1 << length {
-            let table: Vec<u8> = (0..length).map(|mask| (bits >> mask & 1) as u8).collect();
+        for table in every_table(length) {
             for order in every_order(u) {
                 lines.solution(call, (u, g, order), &table, u as usize * length);
             }
@@ -144,37 +142,5 @@ fn add_large_conditions(lines: &mut Lines, call: char, random: &mut Random) {
         }
         let table = random.solvable(6, 2);
         lines.solution(call, (6, 2, reverse_order(6)), &table, 6 * table.len() - 1);
-    }
-}
-
-/// Löwenheim's formula with handed polynomials.
-pub fn add_handed(lines: &mut Lines) {
-    let random = &mut Random::new('h');
-    for (u, g, table) in bench_tables() {
-        let exact = u as usize * table.len();
-        let mut handed = vec![0; exact];
-        // 'none' leaves zeros: the formula is worked out either way
-        let _ = reference::particular(u, g, default_order(u), &table, &mut handed);
-        lines.tables('h', u, g, &table, &handed, exact);
-        let _ = reference::boole(u, g, default_order(u), &table, &mut handed);
-        lines.tables('h', u, g, &table, &handed, exact + 1);
-        let other = random.any_table(exact);
-        lines.tables('h', u, g, &table, &other, exact);
-    }
-    for (u, g) in TOO_LARGE {
-        lines.tables('h', u, g, &[1, 0], &[0, 1], 2);
-        lines.tables('h', u, g, &[7], &[], 0);
-    }
-    for (u, g) in pairs(0, 4) {
-        let second = u as usize * (1 << (u + g));
-        add_wrong_tables(lines, 'h', random, u, g, second);
-        for _ in 0..10 {
-            add_any_tables(lines, 'h', random, u, g, second);
-        }
-    }
-    for (u, g) in [(2, 3), (3, 3), (4, 3), (0, 8), (1, 8), (2, 8), (6, 0), (6, 4)] {
-        let length = 1 << (u + g);
-        let (a, b) = (random.table(length, 2), random.table(u as usize * length, 3));
-        lines.tables('h', u, g, &a, &b, u as usize * length);
     }
 }
