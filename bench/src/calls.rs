@@ -1,10 +1,10 @@
 //! The calls, the engine's beside plain Rust's in both forms, two of them once more in the reverse
-//! order, and the steps of a session together. All get the same lent inputs, and write over a buffer of their own again and
-//! again: none is cleared first.
+//! order, the handed form accepted and refused, and the steps of a session together. All get the same
+//! lent inputs, and write over a buffer of their own again and again: none is cleared first.
 
 use crate::inputs::{counts, default_order, reverse_order, Inputs};
 use crate::timing::{compare, Compared, Effort};
-use layodegi::Answer;
+use layodegi::{Answer, Question};
 use reference::plain::{self, Block, Bytes};
 use reference::Step;
 use reference::LONGEST_ENTRY;
@@ -25,7 +25,7 @@ pub struct Call {
     pub measure: fn(&Inputs, Effort) -> Compared,
 }
 
-pub const CALLS: [Call; 17] = [
+pub const CALLS: [Call; 18] = [
     Call { name: "read_text", note: "", measure: read_text },
     Call { name: "value", note: "", measure: value },
     Call { name: "sum", note: "", measure: sum },
@@ -36,7 +36,8 @@ pub const CALLS: [Call; 17] = [
     Call { name: "boole", note: " in reverse order", measure: boole_reversed },
     Call { name: "particular", note: "", measure: particular },
     Call { name: "lowenheim", note: "", measure: lowenheim },
-    Call { name: "lowenheim_handed", note: "", measure: lowenheim_handed },
+    Call { name: "lowenheim_handed", note: ", accepted", measure: lowenheim_handed },
+    Call { name: "lowenheim_handed", note: ", refused", measure: lowenheim_handed_refused },
     Call { name: "write_entry", note: "", measure: write_entry },
     Call { name: "write_entry", note: " in reverse order", measure: write_entry_reversed },
     Call { name: "read_entry", note: "", measure: read_entry },
@@ -259,15 +260,32 @@ fn solve(
 }
 
 fn lowenheim_handed(inputs: &Inputs, effort: Effort) -> Compared {
-    let (letters, (u, g)) = (engine_letters(inputs.letters), counts(inputs.letters));
+    handed(inputs.letters, &inputs.solving(), effort, both_done)
+}
+
+/// By question 21.
+fn lowenheim_handed_refused(inputs: &Inputs, effort: Effort) -> Compared {
+    handed(inputs.letters, &inputs.nearly_solving(), effort, |engine, plain| {
+        engine == Err(Question::Handed.into()) && plain == Err(Refusal(21))
+    })
+}
+
+/// The handed form, on conditions and handed polynomials.
+fn handed(
+    counted: Letters,
+    pairs: &[(Vec<u8>, Vec<u8>)],
+    effort: Effort,
+    same: impl Fn(Result<(), layodegi::Refusal>, Result<(), Refusal>) -> bool,
+) -> Compared {
+    let (letters, (u, g)) = (engine_letters(counted), counts(counted));
     measure(
         effort,
-        &inputs.handed,
-        inputs.letters.answer_length(),
+        pairs,
+        counted.answer_length(),
         |(condition, handed), out| layodegi::lowenheim_handed(letters, condition, handed, out),
         |(condition, handed), out| plain::lowenheim_handed::<Bytes>(u, g, condition, handed, out),
         |(condition, handed), out| plain::lowenheim_handed::<u64>(u, g, condition, handed, out),
-        both_done,
+        same,
     )
 }
 

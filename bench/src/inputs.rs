@@ -1,7 +1,9 @@
 //! What the calls are measured on: texts, tables, entries and a volume, from a fixed seed.
 
+use reference::cases::{self, handed};
 use reference::plain;
 use reference::{Letters, Order, Solved, LONGEST_ENTRY};
+use std::iter;
 
 /// So many of each.
 const COUNT: usize = 8;
@@ -67,6 +69,36 @@ impl Inputs {
             .collect();
         let volumes = vec![entries.concat()];
         Inputs { letters, texts, conditions, pairs, handed, entries, volumes }
+    }
+
+    /// Each condition and dense polynomials that make it zero: at each state and choice they lead to
+    /// any choice that solves.
+    pub fn solving(&self) -> Vec<(Vec<u8>, Vec<u8>)> {
+        let (u, g) = counts(self.letters);
+        let random = &mut cases::Random::new('h');
+        let solution =
+            |condition: &Vec<u8>| random.handed(handed::Kind::OverLetters, u, g, condition);
+        self.conditions.iter().cloned().zip(self.conditions.iter().map(solution)).collect()
+    }
+
+    /// The same with one monomial changed, so that they no longer do.
+    pub fn nearly_solving(&self) -> Vec<(Vec<u8>, Vec<u8>)> {
+        let (u, g) = counts(self.letters);
+        let random = &mut cases::Random::new('n');
+        let mut pairs = self.solving();
+        for (condition, handed) in &mut pairs {
+            let mut answers = vec![0; handed.len()];
+            let changed = iter::repeat_with(|| {
+                let mut changed = handed.clone();
+                random.change_monomial(&mut changed);
+                changed
+            });
+            let mut refused = changed.filter(|changed| {
+                plain::lowenheim_handed::<u64>(u, g, condition, changed, &mut answers).is_err()
+            });
+            *handed = refused.next().expect("there is always one more");
+        }
+        pairs
     }
 }
 
