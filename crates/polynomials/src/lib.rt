@@ -1,7 +1,7 @@
 // The work of the calls on tables that have passed the questions: the sum, the product, the join, the derivative, and polynomials put for the
 // unknowns of a condition.
 // Nothing here is a public call of the library: the functions are for the crates above, which ask the questions first
-// and then lend slices of exactly the length that is needed. All but the sum go to values in words, and come back.
+// and then lend slices of exactly the length that is needed. All but the sum go to values in words, and come back; `put_handed` stays there.
 ghost use mathlib.Core.Path.{_≡_};
 ghost use mathlib.Core.List.{_++_};
 ghost use Prim.Native.Nat.{ℕ, _+_, _-_, _*_, _/_, _%_, _^_, _≤_, _<_};

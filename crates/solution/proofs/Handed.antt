@@ -4,11 +4,10 @@
 use mathlib.Core.Path.{_≡_, refl, sym, ap, _∙_}
 use mathlib.Core.Logic.{_↔_}
 use mathlib.Core.Bool.{Bool, true, false, not, true≢false}
-use mathlib.Core.List.{List, [], _∷_}
+use mathlib.Core.List.{List}
 use Prim.Native.Nat.{ℕ, _+_, _^_, _<_}
-use Rattle.ring.specs.Letters.{bit}
-use Rattle.ring.specs.Polynomial.{Polynomial, count, odd, constant, letter, product, monomial, substitute, everyBelow}
-use Rattle.ring.specs.Table.{present, held, forUnknowns}
+use Rattle.ring.specs.Polynomial.{Polynomial, substitute}
+use Rattle.ring.specs.Table.{forUnknowns}
 use Rattle.ring.proofs.Bool.{never}
 use Rattle.ring.proofs.Every.{every-cong}
 use Rattle.ring.proofs.Substitute.{value-forUnknowns, substitute-cong, forUnknowns-cong}
@@ -57,20 +56,3 @@ unfolding handedSolves isZero
 handed-cong U G f g b c ef eb =
     every-cong (2 ^ (U + G)) _ _
     (λ m _. ap not (substitute-cong (U + G) (U + G) f g _ _ ef (λ j _ i l. forUnknowns-cong (U + G) U b c eb j i l) m))
-
--- on literal tables, by masks 1, u, a, u*a or 1, u, v, u*v: which handed ones solve
-pub handed-rows :
-    -- `u+a`: a does, 0 only in state 0
-    (handedSolves 1 1 (present (0 ∷ 1 ∷ 1 ∷ 0 ∷ [])) (held 2 (0 ∷ 0 ∷ 1 ∷ 0 ∷ [])) ≡ true)
-    × (handedSolves 1 1 (present (0 ∷ 1 ∷ 1 ∷ 0 ∷ [])) (held 2 (0 ∷ 0 ∷ 0 ∷ 0 ∷ [])) ≡ false)
-    -- `u+v`: v for both does, and so it mentions an unknown; v for u and u for v would only if they were put in one after the other
-    × (handedSolves 2 0 (present (0 ∷ 1 ∷ 1 ∷ 0 ∷ [])) (held 2 (0 ∷ 0 ∷ 1 ∷ 0 ∷ 0 ∷ 0 ∷ 1 ∷ 0 ∷ [])) ≡ true)
-    × (handedSolves 2 0 (present (0 ∷ 1 ∷ 1 ∷ 0 ∷ [])) (held 2 (0 ∷ 0 ∷ 1 ∷ 0 ∷ 0 ∷ 1 ∷ 0 ∷ 0 ∷ [])) ≡ false)
-    -- `u`: u only with the unknown at 0; of 1 + u the formula makes u = 0, and yet it does not itself
-    × (handedSolves 1 0 (present (0 ∷ 1 ∷ [])) (held 1 (0 ∷ 1 ∷ [])) ≡ false)
-    × (handedSolves 1 0 (present (0 ∷ 1 ∷ [])) (held 1 (1 ∷ 1 ∷ [])) ≡ false)
-    -- without unknowns nothing is put in: `0` is zero, `1` is not
-    × (handedSolves 0 0 (present (0 ∷ [])) (held 0 []) ≡ true)
-    × (handedSolves 0 0 (present (1 ∷ [])) (held 0 []) ≡ false)
-unfolding handedSolves isZero everyBelow substitute monomial product odd count constant letter bit present held forUnknowns
-handed-rows = (refl, refl, refl, refl, refl, refl, refl, refl)
