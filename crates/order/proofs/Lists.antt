@@ -1,7 +1,7 @@
 -- The laws of `keep`, `below` and `has`, the lists that the written order is made of.
 -- Assumes nothing.
 use mathlib.Core.Path.{_≡_, refl, sym, ap, ap₂, _∙_}
-use mathlib.Core.Bool.{Bool, true, false, cond, _&&_, _||_, and-false}
+use mathlib.Core.Bool.{Bool, true, false, cond, _&&_, _||_, and-false, and-true}
 use mathlib.Core.List.{List, [], _∷_, _++_}
 use mathlib.Core.Logic.{_⊎_, inl, inr}
 use Prim.Native.Nat.{ℕ, zero, suc, _+_, _≤_, _<_}
@@ -9,7 +9,7 @@ use native.Mathlib.Omega.{arith}
 use lib.Dec.{eqb, ltb}
 use lib.ListN.{length, length-append}
 use borrow.Author.Tests.{lt-ltb, ltb-true, eqb-true, eqb-false, eq-eqb}
-use Rattle.ring.proofs.Bool.{bool-iff, or-cases, or-right, bool-cases}
+use Rattle.ring.proofs.Bool.{bool-iff, or-cases, or-right, bool-cases, never}
 use Rattle.ring.proofs.Lists.{length-listed, listed-last, has-numbers}
 use Rattle.ring.specs.Letters.{digit}
 use Rattle.ring.specs.Lists.{listed, has}
@@ -62,6 +62,17 @@ unfolding keep has
 keep-none t [] h = refl
 keep-none t (x ∷ xs) h = rw (h x (rw (eq-eqb x x refl))) (keep-none t xs (λ m i. h m (or-right (eqb m x) i)))
 
+-- one test, and then another
+pub keep-both : (t u : ℕ → Bool) (xs : List ℕ) → keep t (keep u xs) ≡ keep (λ m. t m && u m) xs
+unfolding keep
+keep-both t u [] = refl
+keep-both t u (x ∷ xs) = go (u x) (keep-both t u xs)
+  where
+    go : (b : Bool) → keep t (keep u xs) ≡ keep (λ m. t m && u m) xs
+        → keep t (cond b (x ∷ keep u xs) (keep u xs)) ≡ cond (t x && b) (x ∷ keep (λ m. t m && u m) xs) (keep (λ m. t m && u m) xs)
+    go true e = rw (and-true (t x), e)
+    go false e = rw (and-false (t x)) e
+
 pub length-keep : (t : ℕ → Bool) (xs : List ℕ) → length (keep t xs) ≤ length xs
 unfolding keep
 length-keep t [] = omega arith
@@ -70,6 +81,21 @@ length-keep t (x ∷ xs) = go (t x) (length-keep t xs)
     go : (b : Bool) → length (keep t xs) ≤ length xs → length (cond b (x ∷ keep t xs) (keep t xs)) ≤ suc (length xs)
     go true h = omega arith
     go false h = omega arith
+
+-- two tests that no number passes both
+pub length-either : (t u : ℕ → Bool) (xs : List ℕ) → ((m : ℕ) → t m ≡ true → u m ≡ false)
+    → length (keep (λ m. t m || u m) xs) ≡ length (keep t xs) + length (keep u xs)
+unfolding keep
+length-either t u [] h = refl
+length-either t u (x ∷ xs) h = go (t x) (u x) (h x) (length-either t u xs h)
+  where
+    go : (a b : Bool) → (a ≡ true → b ≡ false) → length (keep (λ m. t m || u m) xs) ≡ length (keep t xs) + length (keep u xs)
+        → length (cond (a || b) (x ∷ keep (λ m. t m || u m) xs) (keep (λ m. t m || u m) xs))
+        ≡ length (cond a (x ∷ keep t xs) (keep t xs)) + length (cond b (x ∷ keep u xs) (keep u xs))
+    go true true e ih = never refl (e refl)
+    go true false e ih = omega arith
+    go false true e ih = omega arith
+    go false false e ih = ih
 
 -- as many as there were: all of them
 pub keep-all : (t : ℕ → Bool) (xs : List ℕ) → length (keep t xs) ≡ length xs → keep t xs ≡ xs

@@ -3,7 +3,7 @@
 -- that for more letters with the masks of 2 ^ n or more left out.
 -- Assumes nothing.
 use mathlib.Core.Path.{_≡_, refl, sym, ap, ap₂, _∙_}
-use mathlib.Core.Bool.{Bool, true, false, cond, _&&_, _||_, and-false, or-false, and-or-distrib-right}
+use mathlib.Core.Bool.{Bool, true, false, cond, _&&_, _||_, and-false, and-true, or-false, and-or-distrib-left, and-or-distrib-right}
 use mathlib.Core.List.{List, [], _∷_, _++_, append-nil, append-assoc}
 use mathlib.Core.Logic.{_⊎_, inl, inr}
 use Prim.Native.Nat.{ℕ, zero, suc, _+_, _-_, _^_, _≤_, _<_}
@@ -12,15 +12,15 @@ use lib.Dec.{eqb, ltb}
 use lib.ListN.{length, getD, length-append, List·getD-append}
 use lib.Seq.{getD-append-add}
 use lib.Pow.{pow-mono}
-use borrow.Author.Tests.{lt-ltb, le-ltb, ltb-true, eqb-true, eqb-false}
-use Rattle.ring.specs.Polynomial.{Polynomial}
+use borrow.Author.Tests.{lt-ltb, le-ltb, ltb-true, eqb-true, eqb-false, ne-eqb}
+use Rattle.ring.specs.Polynomial.{Polynomial, count}
 use Rattle.ring.specs.Lists.{has}
 use Rattle.ring.proofs.Bool.{bool-iff, and-left, and-right, both, or-cases, bool-cases, never}
 use Rattle.ring.proofs.Lists.{has-append, has-cases, has-first, has-place, has-rest}
 use Rattle.order.specs.Order.{letters, before, keep, below, groups, order, monomials, rises}
 use Rattle.order.specs.Inner.Place.{start}
-use Rattle.order.proofs.Lists.{keep-append, keep-none, keep-every, keep-all, length-below, below-none, below-last, ltb-suc}
-use Rattle.order.proofs.Lists.{has-keep, has-below}
+use Rattle.order.proofs.Lists.{keep-append, keep-none, keep-every, keep-same, keep-both, keep-all, length-either, ltb-suc}
+use Rattle.order.proofs.Lists.{length-below, below-none, below-last, count-below, has-keep, has-below}
 use Rattle.order.proofs.Letters.{letters-most}
 use Rattle.order.proofs.Relation.{before-fewer, before-smaller, before-irreflexive, before-transitive}
 
@@ -158,6 +158,10 @@ groups-rise n (suc k) = rises-append (groups n k) (group (2 ^ n) k) (groups-rise
         let g : letters l ≡ k = in-group (2 ^ n) k l j .0 in
         before-fewer m l (omega arith)
 
+-- a mask below 2 ^ n has at most n letters
+few : (n m : ℕ) → ltb m (2 ^ n) ≡ true → ltb (letters m) (suc n) ≡ true
+few n m e = lt-ltb (letters m) (suc n) (omega (arith, letters-most n m (ltb-true m (2 ^ n) e)))
+
 -- the order rises: each mask stands before the next
 pub order-rises : (n : ℕ) → rises (order n) ≡ true
 unfolding order
@@ -168,45 +172,36 @@ pub has-order : (n m : ℕ) → has m (order n) ≡ ltb m (2 ^ n)
 unfolding order
 has-order n m =
     has-groups n (suc n) m
-    ∙ bool-iff (ltb (letters m) (suc n) && ltb m (2 ^ n)) (ltb m (2 ^ n)) (and-right (ltb (letters m) (suc n)) (ltb m (2 ^ n))) few
-  where
-    few : ltb m (2 ^ n) ≡ true → (ltb (letters m) (suc n) && ltb m (2 ^ n)) ≡ true
-    few e = both (lt-ltb (letters m) (suc n) (omega (arith, letters-most n m (ltb-true m (2 ^ n) e)))) e
+    ∙ bool-iff (ltb (letters m) (suc n) && ltb m (2 ^ n)) (ltb m (2 ^ n)) (and-right (ltb (letters m) (suc n)) (ltb m (2 ^ n)))
+    (λ e. both (few n m e) e)
 
-length-more : (k : ℕ) (xs : List ℕ)
-    → length (keep (λ m. ltb (letters m) (suc k)) xs)
-    ≡ length (keep (λ m. ltb (letters m) k) xs) + length (keep (λ m. eqb (letters m) k) xs)
-unfolding keep
-length-more k [] = refl
-length-more k (x ∷ xs) =
-    rw (ltb-suc (letters x) k) (go (bool-cases (ltb (letters x) k)) (bool-cases (eqb (letters x) k)) (length-more k xs))
+-- a test keeps as many of the groups as of the masks below 2 ^ n that have fewer than k letters
+length-kept : (f : ℕ → Bool) (n k : ℕ) → length (keep f (groups n k)) ≡ length (keep (λ m. f m && ltb (letters m) k) (below (2 ^ n)))
+unfolding groups keep
+length-kept f n zero =
+    sym (ap length (keep-none _ (below (2 ^ n)) (λ m i. rw (le-ltb (letters m) 0 (omega arith)) (and-false (f m)))))
+length-kept f n (suc k) =
+    ap length (keep-append f (groups n k) (keep (λ m. eqb (letters m) k) (below (2 ^ n))))
+    ∙ length-append (keep f (groups n k)) _
+    ∙ ap₂ _+_ (length-kept f n k) (ap length (keep-both f (λ m. eqb (letters m) k) (below (2 ^ n))))
+    ∙ sym (length-either (λ m. f m && ltb (letters m) k) (λ m. f m && eqb (letters m) k) (below (2 ^ n)) apart)
+    ∙ ap length (keep-same _ _ (below (2 ^ n)) (λ m i. sym (more m)))
   where
-    go : (ltb (letters x) k ≡ true) ⊎ (ltb (letters x) k ≡ false) → (eqb (letters x) k ≡ true) ⊎ (eqb (letters x) k ≡ false)
-        → length (keep (λ m. ltb (letters m) (suc k)) xs)
-        ≡ length (keep (λ m. ltb (letters m) k) xs) + length (keep (λ m. eqb (letters m) k) xs)
-        → length (cond (ltb (letters x) k || eqb (letters x) k) (x ∷ keep (λ m. ltb (letters m) (suc k)) xs)
-        (keep (λ m. ltb (letters m) (suc k)) xs))
-        ≡ length (cond (ltb (letters x) k) (x ∷ keep (λ m. ltb (letters m) k) xs) (keep (λ m. ltb (letters m) k) xs))
-        + length (cond (eqb (letters x) k) (x ∷ keep (λ m. eqb (letters m) k) xs) (keep (λ m. eqb (letters m) k) xs))
-    go (inl e) (inl f) ih = absurd (omega (arith, ltb-true (letters x) k e, eqb-true (letters x) k f))
-    go (inl e) (inr f) ih = rw (e, f) (omega arith)
-    go (inr e) (inl f) ih = rw (e, f) (omega arith)
-    go (inr e) (inr f) ih = rw (e, f) ih
+    apart : (m : ℕ) → (f m && ltb (letters m) k) ≡ true → (f m && eqb (letters m) k) ≡ false
+    apart m e = rw (ne-eqb (letters m) k (omega (arith, ltb-true (letters m) k (and-right (f m) _ e)))) (and-false (f m))
+
+    more : (m : ℕ) → (f m && ltb (letters m) (suc k)) ≡ ((f m && ltb (letters m) k) || (f m && eqb (letters m) k))
+    more m = rw (ltb-suc (letters m) k) (and-or-distrib-left (f m) (ltb (letters m) k) (eqb (letters m) k))
 
 length-groups : (n k : ℕ) → length (groups n k) ≡ length (keep (λ m. ltb (letters m) k) (below (2 ^ n)))
-unfolding groups
-length-groups n zero = sym (ap length (keep-none (λ m. ltb (letters m) 0) (below (2 ^ n)) (λ m i. le-ltb (letters m) 0 (omega arith))))
-length-groups n (suc k) =
-    length-append (groups n k) (keep (λ m. eqb (letters m) k) (below (2 ^ n)))
-    ∙ ap (λ (l : ℕ). l + length (keep (λ m. eqb (letters m) k) (below (2 ^ n)))) (length-groups n k)
-    ∙ sym (length-more k (below (2 ^ n)))
+length-groups n k = sym (ap length (keep-every (λ m. true) (groups n k) (λ m i. refl))) ∙ length-kept (λ m. true) n k
 
 pub length-order : (n : ℕ) → length (order n) ≡ 2 ^ n
 unfolding order
-length-order n = length-groups n (suc n) ∙ ap length (keep-every (λ m. ltb (letters m) (suc n)) (below (2 ^ n)) few) ∙ length-below (2 ^ n)
-  where
-    few : (m : ℕ) → has m (below (2 ^ n)) ≡ true → ltb (letters m) (suc n) ≡ true
-    few m i = lt-ltb (letters m) (suc n) (omega (arith, letters-most n m (ltb-true m (2 ^ n) (sym (has-below m (2 ^ n)) ∙ i))))
+length-order n =
+    length-groups n (suc n)
+    ∙ ap length (keep-every (λ m. ltb (letters m) (suc n)) (below (2 ^ n)) (λ m i. few n m (sym (has-below m (2 ^ n)) ∙ i)))
+    ∙ length-below (2 ^ n)
 
 -- ---- where the masks with so many letters begin
 pub start-count : (n k : ℕ) → start n k ≡ length (keep (λ m. ltb (letters m) k) (below (2 ^ n)))
@@ -274,6 +269,18 @@ order-below n p h =
 pub has-monomials : (n : ℕ) (f : Polynomial) (m : ℕ) → has m (monomials n f) ≡ (f m && ltb m (2 ^ n))
 unfolding monomials
 has-monomials n f m = has-keep f m (order n) ∙ ap (λ (b : Bool). f m && b) (has-order n m)
+
+-- how many they are: as many as the table has
+pub length-monomials : (n : ℕ) (f : Polynomial) → length (monomials n f) ≡ count (2 ^ n) f
+unfolding monomials order
+length-monomials n f =
+    length-kept f n (suc n)
+    ∙ ap length (keep-same _ f (below (2 ^ n)) (λ m i. rw (few n m (sym (has-below m (2 ^ n)) ∙ i)) (and-true (f m))))
+    ∙ count-below f (2 ^ n)
+
+pub monomials-none : (n : ℕ) (f : Polynomial) → ((m : ℕ) → m < 2 ^ n → f m ≡ false) → monomials n f ≡ []
+unfolding monomials
+monomials-none n f h = keep-none f (order n) (λ m i. h m (ltb-true m (2 ^ n) (sym (has-order n m) ∙ i)))
 
 pub monomials-rise : (n : ℕ) (f : Polynomial) → rises (monomials n f) ≡ true
 unfolding monomials

@@ -4,7 +4,7 @@
 use mathlib.Core.Path.{_≡_, refl, sym, ap, ap₂, _∙_}
 use mathlib.Core.Bool.{Bool, true, false, _&&_, and-false, and-true, and-comm}
 use Prim.Native.Nat.{ℕ, zero, suc, _+_, _*_, _%_, _<_, _≤_}
-use native.Mathlib.Nat.{add-zero, zero-add, add-assoc, add-suc, suc-mul, not-suc-le-zero}
+use native.Mathlib.Nat.{add-zero, zero-add, add-assoc, add-suc, zero-mul, suc-mul, not-suc-le-zero}
 use native.Mathlib.Omega.{arith}
 use native.Mathlib.Numerals.{add-one, add-two}
 use native.Mathlib.Decide.{ℕ-discrete}
@@ -38,6 +38,30 @@ pub count-most : (k : ℕ) (test : ℕ → Bool) → count k test ≤ k
 unfolding count
 count-most zero test = omega arith
 count-most (suc k) test = omega (arith, count-most k test, digit-lt (test k))
+
+-- the first a numbers, and the k behind them
+pub count-add : (a k : ℕ) (test : ℕ → Bool) → count (a + k) test ≡ count a test + count k (λ i. test (a + i))
+unfolding count
+count-add a zero test = ap (λ (x : ℕ). count x test) (add-zero a) ∙ sym (add-zero (count a test))
+count-add a (suc k) test =
+    ap (λ (x : ℕ). count x test) (add-suc a k)
+    ∙ ap (λ (c : ℕ). c + digit (test (a + k))) (count-add a k test)
+    ∙ add-assoc (count a test) (count k (λ i. test (a + i))) (digit (test (a + k)))
+
+-- only the first number may pass
+pub count-only-first : (k : ℕ) (test : ℕ → Bool) → ((i : ℕ) → 0 < i → i < k → test i ≡ false) → count k test ≤ 1
+unfolding count
+count-only-first zero test e = omega arith
+count-only-first (suc zero) test e = omega (arith, digit-lt (test 0))
+count-only-first (suc (suc k)) test e =
+    rw (e (suc k) (omega arith) (omega arith)) (omega (arith, count-only-first (suc k) test (λ i p l. e i p (omega arith))))
+
+-- k blocks of b numbers, in each of which at most one passes
+pub count-blocks : (k b : ℕ) (test : ℕ → Bool) → ((i : ℕ) → i < k → count b (λ j. test (i * b + j)) ≤ 1) → count (k * b) test ≤ k
+unfolding count
+count-blocks zero b test e = rw (zero-mul b) (omega arith)
+count-blocks (suc k) b test e =
+    rw (suc-mul k b, count-add (k * b) b test) (omega (arith, count-blocks k b test (λ i l. e i (omega arith)), e k (omega arith)))
 
 flip : (c : ℕ) → eqb ((c + 1) % 2) 1 ≡ (eqb (c % 2) 1 ⊕ true)
 flip c = go (eqb (c % 2) 1) refl

@@ -10,6 +10,8 @@ pub mod Verdict
 pub mod Join
 pub mod Theorems
 pub mod Handed
+pub mod Unknowns
+pub mod UnderFact
 pub mod Written
 pub mod ByPoints
 pub mod Rows

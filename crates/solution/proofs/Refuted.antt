@@ -9,15 +9,17 @@ use lib.Dec.{ltb}
 use Rattle.ring.specs.declared.State.{State}
 use Rattle.ring.specs.Letters.{bit, point, pointWhere}
 use Rattle.ring.specs.Polynomial.{count, odd, within, value, constant, letter, sum, product, monomial, substitute}
-use Rattle.ring.specs.Table.{present, held}
+use Rattle.ring.specs.Table.{present, held, table, tabulate}
 use Rattle.ring.specs.Lists.{listed}
 use Rattle.ring.proofs.Substitute.{value-letter}
 use Rattle.solution.specs.Letters.{Letter, unknown, given, other, holds, HoldsGivens, place, Valuation, pointOf, valueOver}
 use Rattle.solution.specs.Substitution.{Substitution, letterAt, ownLetters, putIn, MakesZero, InstanceOf}
-use Rattle.solution.specs.Condition.{conditionOf}
+use Rattle.solution.specs.Condition.{conditionOf, tableWhereZero}
 use Rattle.solution.specs.Elimination.{lowenheim, Verdict, solved, none}
+use Rattle.solution.specs.UnderFact.{MakesZeroWhere}
 use Rattle.solution.specs.General.{General, RightVerdict}
 use Rattle.solution.proofs.Letters.{replacedValue, value-putIn, bit-place}
+use Rattle.solution.specs.Fact.{noFact, whereZero}
 
 -- a right verdict on the condition with the table t, in the order 0, 1, 2, ..
 abbrev Right : ℕ → ℕ → List ℕ → Verdict Substitution → Type 0
@@ -40,22 +42,23 @@ one-zero-solves v = refl
 
 -- the particular solution archived as the general one: u = 0, v = 0 leaves u = 1, v = 0 out
 pub particular-refuted : Right 2 0 uv (solved (held 2 (0 ∷ 0 ∷ 0 ∷ 0 ∷ 0 ∷ 0 ∷ 0 ∷ 0 ∷ []))) → ⊥
-unfolding valueOver putIn substitute product odd count value within constant pointOf present held one-zero
+unfolding valueOver putIn substitute product odd count value within constant pointOf present held one-zero tableWhereZero monomial table bit tabulate whereZero sum noFact
 particular-refuted h =
     true≢false (sym (h .general _ refl .every-instance [] (no-givens []) one-zero one-zero-solves .1 0 (omega arith) (λ l. true)))
 
 -- 'none' for all: u*v has a solution, whatever state is named
 pub none-refuted : (state : State) → Right 2 0 uv (none state) → ⊥
+unfolding tableWhereZero table tabulate whereZero product odd count present sum noFact constant
 none-refuted state h = h .exactly [] (no-givens []) .0 (state, refl) one-zero one-zero-solves
 
 -- the untouched unknown: u = u for the condition u
 pub untouched-refuted : Right 1 0 (0 ∷ 1 ∷ []) (solved (held 1 (0 ∷ 1 ∷ []))) → ⊥
-unfolding valueOver putIn substitute monomial product odd count value within constant letter place letterAt bit pointOf present ownLetters listed held
+unfolding valueOver putIn substitute monomial product odd count value within constant letter place letterAt bit pointOf present ownLetters listed held tableWhereZero table tabulate whereZero sum noFact
 untouched-refuted h = true≢false (h .general _ refl .makes-zero (λ l. true))
 
 -- r and s exchanged: x*(r + s + 1) + r is 1 for the condition u
 pub exchanged-refuted : Right 1 0 (0 ∷ 1 ∷ []) (solved (held 1 (1 ∷ 0 ∷ []))) → ⊥
-unfolding valueOver putIn substitute monomial product odd count value within constant letter place letterAt bit pointOf present ownLetters listed held
+unfolding valueOver putIn substitute monomial product odd count value within constant letter place letterAt bit pointOf present ownLetters listed held tableWhereZero table tabulate whereZero sum noFact
 exchanged-refuted h = true≢false (h .general _ refl .makes-zero (λ l. true))
 
 -- r and s used before the later answer, v = 0, is put in: u = v*(u + 1) for the condition u + v + u*v
@@ -66,28 +69,38 @@ only-v (given i) = true
 only-v (other k) = true
 
 pub early-refuted : Right 2 0 (0 ∷ 1 ∷ 1 ∷ 1 ∷ []) (solved (held 2 (0 ∷ 0 ∷ 1 ∷ 1 ∷ 0 ∷ 0 ∷ 0 ∷ 0 ∷ []))) → ⊥
-unfolding valueOver putIn substitute monomial product odd count value within constant letter place letterAt bit pointOf present ownLetters listed held only-v
+unfolding valueOver putIn substitute monomial product odd count value within constant letter place letterAt bit pointOf present ownLetters listed held only-v tableWhereZero table tabulate whereZero sum noFact
 early-refuted h = true≢false (h .general _ refl .makes-zero only-v)
 
 -- 'none' only when the condition is the polynomial 1: a, of one unknown and one given, is not, and no answers will do
 pub any-answers-refuted : (a : Substitution) → Right 1 1 (0 ∷ 0 ∷ 1 ∷ 0 ∷ []) (solved a) → ⊥
-unfolding valueOver putIn substitute monomial product odd count value within constant letter place letterAt bit pointOf present ownLetters listed
+unfolding valueOver putIn substitute monomial product odd count value within constant letter place letterAt bit pointOf present ownLetters listed tableWhereZero table tabulate whereZero sum noFact
 any-answers-refuted a h = true≢false (h .general a refl .makes-zero (λ l. true))
 
 -- a state that is not blocked, named before it was examined: 0 for a
 pub open-state-refuted : Right 1 1 (0 ∷ 0 ∷ 1 ∷ 0 ∷ []) (none (record { 0 = 0 })) → ⊥
-unfolding value odd count within present point
+unfolding value odd count within present point tableWhereZero table tabulate whereZero product sum noFact constant
 open-state-refuted h = true≢false (sym (h .state _ refl .blocked (record { 0 = 0 }) (omega arith)))
 
 -- a blocked state that is not the smallest: 1 for the condition 1 of one given
 pub later-state-refuted : Right 0 1 (1 ∷ 0 ∷ []) (none (record { 0 = 1 })) → ⊥
-unfolding value odd count within present point
+unfolding value odd count within present point tableWhereZero table tabulate whereZero product sum noFact constant
 later-state-refuted h = h .state _ refl .smallest (record { 0 = 0 }) (omega arith) (λ choice l. refl)
 
 -- a handed polynomial that does not solve, taken by the formula: 1 for the condition u leaves u = u, which is no general solution
 pub unsolving-refuted : General 1 0 (present (0 ∷ 1 ∷ [])) (lowenheim 1 (present (0 ∷ 1 ∷ [])) (held 1 (1 ∷ 0 ∷ []))) → ⊥
 unfolding valueOver putIn substitute monomial product odd count value within constant letter place letterAt bit pointOf present ownLetters listed held lowenheim sum
 unsolving-refuted h = true≢false (h .makes-zero (λ l. true))
+
+-- a fact with an unknown, u for the condition u: u = 1 makes u*(1 + u) zero, but not u wherever the fact is 0, so that the answers to f*(1 + g)
+-- would be none to f (22 refuses it)
+pub unknown-fact-solved : MakesZero 1 0 (present (tableWhereZero 1 (0 ∷ 1 ∷ []) (0 ∷ 1 ∷ []))) [] (λ j. constant true)
+unfolding tableWhereZero whereZero table tabulate valueOver putIn substitute monomial product odd count value within constant letter place letterAt bit pointOf present sum
+unknown-fact-solved v = refl
+
+pub unknown-fact-refuted : MakesZeroWhere 1 0 (present (0 ∷ 1 ∷ [])) (present (0 ∷ 1 ∷ [])) [] (λ j. constant true) → ⊥
+unfolding valueOver putIn substitute monomial product odd count value within constant letter place letterAt bit pointOf present ownLetters listed
+unknown-fact-refuted h = true≢false (h (λ l. false) refl)
 
 -- u + a over a list in another order, with a foreign letter and a repeat
 abbrev ua : List ℕ

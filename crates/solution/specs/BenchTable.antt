@@ -4,7 +4,7 @@
 use mathlib.Core.Path.{_≡_}
 use mathlib.Core.List.{List, [], _∷_}
 use Prim.Native.Nat.{ℕ}
-use Rattle.solution.specs.Condition.{Condition, ordered, conditionOf}
+use Rattle.solution.specs.Condition.{Condition, underFact, ordered, conditionOf}
 use Rattle.solution.specs.Elimination.{lowenheimTable, Verdict, solved, none, solve}
 
 -- what a row says of the engine's own Löwenheim answer
@@ -108,6 +108,40 @@ orderRows =
           (record { 0 = 1 });
       lowenheim = nothing;
     }
+    ∷ []
+
+-- 'count only states where g is 0' (document 02, C-16): the document's row, and states of which some do not count
+unfoldable pub factRows : List Row
+factRows =
+    -- (1,2) `a*u+b*u+b`, a*b never: 'u = b + u + a*b + a*u + b*u', and Löwenheim gives the same
+    record {
+      condition = underFact 1 2 (0 ∷ []) (0 ∷ 0 ∷ 0 ∷ 0 ∷ 0 ∷ 0 ∷ 1 ∷ 0 ∷ []) (0 ∷ 0 ∷ 0 ∷ 1 ∷ 1 ∷ 1 ∷ 0 ∷ 0 ∷ []);
+      verdict = solved (0 ∷ 1 ∷ 0 ∷ 1 ∷ 1 ∷ 1 ∷ 1 ∷ 0 ∷ []);
+      lowenheim = theTable (0 ∷ 1 ∷ 0 ∷ 1 ∷ 1 ∷ 1 ∷ 1 ∷ 0 ∷ []);
+    }
+    -- (0,2) `a|b`, a never: none, state 2; states 1 and 3, in which a is 1, do not count
+    ∷ record {
+      condition = underFact 0 2 [] (0 ∷ 1 ∷ 0 ∷ 0 ∷ []) (0 ∷ 1 ∷ 1 ∷ 1 ∷ []);
+      verdict = none (record { 0 = 2 });
+      lowenheim = nothing;
+    }
+    -- (0,2) `a*b`, a never: solved, no answers
+    ∷ record { condition = underFact 0 2 [] (0 ∷ 1 ∷ 0 ∷ 0 ∷ []) (0 ∷ 0 ∷ 0 ∷ 1 ∷ []); verdict = solved []; lowenheim = nothing }
+    -- (1,1) `u+a`, a never: u = u*a; without the fact it is u = a
+    ∷ record {
+      condition = underFact 1 1 (0 ∷ []) (0 ∷ 0 ∷ 1 ∷ 0 ∷ []) (0 ∷ 1 ∷ 1 ∷ 0 ∷ []);
+      verdict = solved (0 ∷ 0 ∷ 0 ∷ 1 ∷ []);
+      lowenheim = nothing;
+    }
+    ∷ []
+
+-- what would be said of tables that are no facts, and so are refused: why 22 and 23 are asked
+unfoldable pub noFactRows : List Row
+noFactRows =
+    -- (1,0) `1`, 1 never: 'solved', for no state counts (23)
+    record { condition = underFact 1 0 (0 ∷ []) (1 ∷ 0 ∷ []) (1 ∷ 0 ∷ []); verdict = solved (0 ∷ 1 ∷ []); lowenheim = nothing }
+    -- (1,0) `u`, u never: u = u, though u has to be 0 (22)
+    ∷ record { condition = underFact 1 0 (0 ∷ []) (0 ∷ 1 ∷ []) (0 ∷ 1 ∷ []); verdict = solved (0 ∷ 1 ∷ []); lowenheim = nothing }
     ∷ []
 
 -- the own Löwenheim answer is the one stated, if one is

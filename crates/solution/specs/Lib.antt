@@ -1,8 +1,10 @@
 pub mod Letters
 pub mod Substitution
+pub mod Fact
 pub mod Condition
 pub mod Order
 pub mod Elimination
 pub mod General
+pub mod UnderFact
 pub mod BenchTable
 pub mod Inner

@@ -8,7 +8,7 @@ use lib.Dec.{eqb}
 use lib.ListN.{length, take, getD}
 use Rattle.ring.specs.Polynomial.{everyBelow}
 use Rattle.ring.specs.Lists.{listed, times}
-use Rattle.solution.specs.Condition.{Condition, ordered, defaultOrder}
+use Rattle.solution.specs.Condition.{Condition, underFact, defaultOrder}
 
 -- 'the unknown numbers in order, then 255 in unused places': the six bytes of an order
 unfoldable pub orderBytes : List ℕ → List ℕ
@@ -24,6 +24,7 @@ orderFits U bytes =
     eqb (length bytes) 6
     && (everyBelow U (λ x. eqb (times x (take U bytes)) 1) && everyBelow (6 - U) (λ i. eqb (getD bytes (U + i) 0) 255))
 
--- the condition in a lent buffer, read as far as question 4's length, its unknowns in the order of lent bytes
-abbrev pub lentCondition : ℕ → ℕ → List ℕ → List ℕ → Condition
-lentCondition U G bytes buffer = ordered U G (take U bytes) (take (2 ^ (U + G)) buffer)
+-- the condition in a lent buffer, under the fact in another, both read as far as question 4's length, its unknowns in the order of lent
+-- bytes
+abbrev pub lentCondition : ℕ → ℕ → List ℕ → List ℕ → List ℕ → Condition
+lentCondition U G bytes fact buffer = underFact U G (take U bytes) (take (2 ^ (U + G)) fact) (take (2 ^ (U + G)) buffer)

@@ -1,13 +1,16 @@
 -- The first no of a list of questions: what it means that there is none, and lists that are asked one behind another.
 -- Assumes nothing.
 use mathlib.Core.Path.{_≡_, refl, sym, _∙_}
-use mathlib.Core.Bool.{Bool, true, false}
+use mathlib.Core.Bool.{Bool, true, false, not, _&&_}
 use mathlib.Core.List.{List, [], _∷_, _++_}
 use Prim.Native.Nat.{ℕ, zero, suc, _<_}
 use native.Mathlib.Omega.{arith}
+use lib.Dec.{eqb}
+use borrow.Author.Tests.{eq-eqb}
+use Rattle.ring.proofs.Bool.{and-left, and-right, never}
 use Rattle.tables.specs.declared.Question.{Question}
 use Rattle.tables.specs.declared.Question.the-variants.{Letters, Route, TextLength, Room, Signs, Declared, Grammar, Bits, Solution}
-use Rattle.tables.specs.declared.Question.the-variants.{Records, Kinds, Numbers, Afresh, Output, Rising, Range, Order, Name, Marked, Mask, Handed}
+use Rattle.tables.specs.declared.Question.the-variants.{Records, Kinds, Numbers, Afresh, Output, Rising, Range, Order, Name, Marked, Mask, Handed, FactLetters, FactStates}
 use Rattle.tables.specs.Questions.{Asked, asks, asksGiving, number, firstNo}
 use Rattle.tables.specs.Inner.Asking.{also}
 
@@ -34,6 +37,8 @@ number-within Name = (omega arith, omega arith)
 number-within Marked = (omega arith, omega arith)
 number-within Mask = (omega arith, omega arith)
 number-within Handed = (omega arith, omega arith)
+number-within FactLetters = (omega arith, omega arith)
+number-within FactStates = (omega arith, omega arith)
 
 pub number-some : (question : Question) → number question ≡ 0 → ⊥
 number-some question e = omega (arith, number-within question .0)
@@ -130,6 +135,19 @@ asked-before questions further e = go (firstNo questions) (sym (first-also quest
 
 pub asked-behind : (questions further : List Asked) → firstNo (questions ++ further) ≡ 0 → firstNo further ≡ 0
 asked-behind questions further e = sym (then-further questions further (asked-before questions further e)) ∙ e
+
+-- ---- where no question has a number, that is not the first no
+abbrev pub noneHas : ℕ → List Asked → Bool
+noneHas k [] = true
+noneHas k (asksGiving question answer given ∷ rest) = not (eqb (number question) k) && noneHas k rest
+
+pub first-other : (k : ℕ) (questions : List Asked) → noneHas k questions ≡ true → firstNo questions ≡ k → firstNo questions ≡ 0
+unfolding firstNo
+first-other k [] n e = refl
+first-other k (asksGiving question true given ∷ rest) n e =
+    first-other k rest (and-right (not (eqb (number question) k)) (noneHas k rest) n) e
+first-other k (asksGiving question false given ∷ rest) n e =
+    never (and-left (not (eqb (number question) k)) (noneHas k rest) n) (rw (eq-eqb (number question) k e))
 
 -- ---- the first no is a byte
 pub first-small : (questions : List Asked) → firstNo questions < 256

@@ -32,6 +32,10 @@ pub unknowns-small : (u g : ℕ) → lettersFit u g ≡ true → u ≤ 6
 unfolding lettersFit
 unknowns-small u g e = leb-true _ _ (and-left (leb u 6) _ e)
 
+pub givens-small : (u g : ℕ) → lettersFit u g ≡ true → g ≤ 8
+unfolding lettersFit
+givens-small u g e = leb-true _ _ (and-left (leb g 8) (leb (u + g) 10) (and-right (leb u 6) _ e))
+
 -- the number of points of at most ten letters is small enough for every sum and product that the code forms of it
 pub pow-small : (k n : ℕ) → k ≡ 2 ^ n → n ≤ 10 → k ≤ 1024
 pow-small k n e h = rw e (pow-mono h)

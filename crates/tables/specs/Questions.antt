@@ -11,7 +11,7 @@ use Rattle.ring.specs.declared.State.{State}
 use Rattle.ring.specs.declared.Choice.{Choice}
 use Rattle.tables.specs.declared.Question.{Question}
 use Rattle.tables.specs.declared.Question.the-variants.{Letters, Route, TextLength, Room, Signs, Declared, Grammar, Bits, Solution}
-use Rattle.tables.specs.declared.Question.the-variants.{Records, Kinds, Numbers, Afresh, Output, Rising, Range, Order, Name, Marked, Mask, Handed}
+use Rattle.tables.specs.declared.Question.the-variants.{Records, Kinds, Numbers, Afresh, Output, Rising, Range, Order, Name, Marked, Mask, Handed, FactLetters, FactStates}
 
 -- the number of each question, 1 to 16 document 01's
 abbrev pub number : Question → ℕ
@@ -33,7 +33,7 @@ number Grammar = 7
 number Bits = 8
 -- 'Has the condition a solution? (a no also gives the state)'
 number Solution = 9
--- 'Does every record, to the first kind 4, have kind 1 to 5 and a whole body, and is there a kind 4?' (kind 6 too: document 02, C-11)
+-- 'Does every record, to the first kind 4, have kind 1 to 5 and a whole body, and is there a kind 4?' (kinds 6 and 7 too: document 02, C-11 and C-16)
 number Records = 10
 -- 'Are the kinds in the entry's order, both routes equal?'
 number Kinds = 11
@@ -58,6 +58,10 @@ number Marked = 19
 number Mask = 20
 -- 'does the handed substitution make the condition zero' (document 02, C-15)
 number Handed = 21
+-- 'has g no unknown' (document 02, C-16)
+number FactLetters = 22
+-- 'is g 0 in some state' (document 02, C-16)
+number FactStates = 23
 
 -- a question as it is put: whether the answer is yes, and what a no gives with its number
 pub data Asked : Type 0 where

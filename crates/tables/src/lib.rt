@@ -21,7 +21,7 @@ pub enum Question {
     Grammar, // Does the grammar read the whole text?
     Bits, // Is each byte of a table lent to be read, as far as question 4's length, 0 or 1?
     Solution, // Has the condition a solution?
-    Records, // Does every record, to the first kind 4, have kind 1 to 6 and a whole body, and is there a kind 4?
+    Records, // Does every record, to the first kind 4, have kind 1 to 7 and a whole body, and is there a kind 4?
     Kinds, // Are the kinds in the entry's order, both routes equal?
     Numbers, // Are masks below 2^n, unknowns below U, the state below 2^G, all in order, none twice, no kind 6 for 0, 1, 2, ..?
     Afresh, // Do the answers, or the state, equal those solved afresh?
@@ -33,6 +33,8 @@ pub enum Question {
     Marked, // When returning, is it marked?
     Mask, // Has the set S only declared letters?
     Handed, // Does the handed substitution make the condition zero?
+    FactLetters, // Has the fact no unknown?
+    FactStates, // Is the fact 0 in some state?
 }
 
 // The number of a question.
@@ -61,6 +63,8 @@ pub fn number(question: Question) -> u8
         Question::Marked => 19,
         Question::Mask => 20,
         Question::Handed => 21,
+        Question::FactLetters => 22,
+        Question::FactStates => 23,
     }
 }
 

@@ -4,7 +4,7 @@ use mathlib.Core.Path.{_≡_, refl, sym, ap, ap₂, _∙_}
 use mathlib.Core.Bool.{Bool, true, false}
 use mathlib.Core.List.{List}
 use Prim.Native.Nat.{ℕ, zero, suc, _+_, _-_, _*_, _/_, _%_, _^_, _≤_, _<_}
-use native.Mathlib.Nat.{pow-suc, add-zero, add-suc, zero-div}
+use native.Mathlib.Nat.{pow-suc, zero-div}
 use native.Mathlib.Decide.{decLt}
 use native.Mathlib.Omega.{arith}
 use lib.Arith.{lt-one}
@@ -14,7 +14,7 @@ use borrow.Author.Tests.{eq-eqb, ne-eqb}
 use Rattle.ring.specs.Letters.{digit, bit}
 use Rattle.ring.specs.Polynomial.{count}
 use Rattle.ring.proofs.Mask.{low}
-use Rattle.ring.proofs.Parity.{count-first}
+use Rattle.ring.proofs.Parity.{count-first, count-add}
 use Rattle.ring.proofs.Points.{bit-zero, bit-suc, digit-low}
 use Rattle.words.specs.Inner.Words.{bitAt, First}
 use Rattle.words.proofs.Words.{bit-at}
@@ -33,16 +33,6 @@ ones-count (suc k) n h =
     ∙ ap₂ _+_ (sym (digit-low n) ∙ ap digit (sym (bit-zero n)))
     (ones-count k (n / 2) (omega (arith, pow-suc 2 k)) ∙ count-below k _ _ (λ i l. sym (bit-suc n i)))
     ∙ sym (count-first k (bit n))
-
-count-add : (a b : ℕ) (test : ℕ → Bool) → count (a + b) test ≡ count a test + count b (λ i. test (a + i))
-unfolding count
-count-add a zero test = ap (λ (x : ℕ). count x test) (add-zero a) ∙ sym (add-zero (count a test))
-count-add a (suc b) test =
-    ap (λ (x : ℕ). count x test) (add-suc a b) ∙ ap (λ (x : ℕ). x + digit (test (a + b))) (count-add a b test)
-    ∙ plus (count a test) (count b (λ i. test (a + i))) (digit (test (a + b)))
-  where
-    plus : (x y z : ℕ) → x + y + z ≡ x + (y + z)
-    plus x y z = omega arith
 
 pub count-start : (test : ℕ → Bool) (k : ℕ) → k ≡ 0 → 0 ≡ count (64 * k) test
 unfolding count
