@@ -1,9 +1,8 @@
 -- The headlines on writing, reading and audit: what `write_entry` leaves in the output reads back, passes the audit and says what is right
 -- of the condition, whatever stood behind it; and bytes that pass the audit are exactly those that the writer makes for their
--- condition and order.
+-- condition, fact and order.
 -- Assumes nothing.
-use mathlib.Core.Path.{_≡_, refl, sym, ap, _∙_}
-use mathlib.Core.Bool.{true}
+use mathlib.Core.Path.{_≡_, sym, ap, _∙_}
 use mathlib.Core.List.{List, [], _∷_, _++_}
 use mathlib.Core.Logic.{_↔_}
 use Prim.Native.Nat.{ℕ, _+_, _*_, _^_, _≤_}
@@ -12,8 +11,8 @@ use Rattle.ring.specs.declared.State.{State}
 use Rattle.ring.specs.Table.{table}
 use Rattle.ring.proofs.Table.{is-table}
 use Rattle.tables.specs.Questions.{firstNo}
-use Rattle.tables.specs.Answered.{Reply, accepted, reply, after, Answered, answered, call, firstBuffer}
-use Rattle.tables.proofs.Answered.{reply-accepted, call-gives, accepted-is, call-done-none}
+use Rattle.tables.specs.Answered.{Reply, accepted, after, Answered, answered, call, firstBuffer}
+use Rattle.tables.proofs.Answered.{call-gives, accepted-is, call-done-none}
 use Rattle.solution.specs.Condition.{Condition, width}
 use Rattle.solution.specs.Order.{orderBytes, lentCondition}
 use Rattle.solution.proofs.Order.{fits-each}
@@ -21,8 +20,7 @@ use Rattle.solution.specs.Elimination.{none, solve}
 use Rattle.solution.specs.General.{RightVerdict}
 use Rattle.entry.specs.Record.{Record, AreBytes, bytes}
 use Rattle.entry.specs.Entry.{entry, Archivable}
-use Rattle.entry.specs.Held.{records, routeOf, unknownsOf, givensOf, orderIn, conditionIn, says, heldCondition, heldVerdict}
-use Rattle.entry.specs.Questions.{answersHold}
+use Rattle.entry.specs.Held.{records, routeOf, unknownsOf, givensOf, orderIn, factIn, conditionIn, says, heldCondition, heldVerdict}
 use Rattle.entry.proofs.Passes.{Passes}
 use Rattle.entry.proofs.Theorems.{ReadsBack, reads-back, archived-order, audited-entry, entry-holds, entry-right}
 use Rattle.calls.specs.Questions.{writeQuestions, readQuestions, auditQuestions}
@@ -30,49 +28,53 @@ use Rattle.calls.specs.Entries.{writeCall, stateOf, answersOf, readValue
 use Rattle.calls.proofs.Questions.{written-exactly, writable-archivable, read-exactly, audit-exactly}
 
 -- ---- what was written
-module _ (route U G : ℕ) (order condition out : List ℕ) (z : firstNo (writeQuestions route U G order condition (length out)) ≡ 0) where
-  archivable : Archivable route (lentCondition U G order condition)
-  archivable = writable-archivable route U G order condition (length out) (written-exactly route U G order condition (length out) .0 z)
+module _ (route U G : ℕ) (order fact condition out : List ℕ) (z : firstNo (writeQuestions route U G order fact condition (length out)) ≡ 0) where
+  archivable : Archivable route (lentCondition U G order fact condition)
+  archivable = writable-archivable route U G order fact condition (length out) (written-exactly route U G order fact condition (length out) .0 z)
 
   -- the output after the call
-  pub output-is : firstBuffer (writeCall route U G order condition out)
-      ≡ entry route (lentCondition U G order condition) ++ drop (length (entry route (lentCondition U G order condition))) out
+  pub output-is : firstBuffer (writeCall route U G order fact condition out)
+      ≡ entry route (lentCondition U G order fact condition) ++ drop (length (entry route (lentCondition U G order fact condition))) out
   unfolding call after
   output-is = rw z
 
-  -- demand 2: the route, U, G, the order, the condition, solved or 'none' and the state, the answers and the length come back
-  pub written-reads-back : ReadsBack route (lentCondition U G order condition)
-      (records (firstBuffer (writeCall route U G order condition out)))
-  written-reads-back = rw output-is (reads-back route (lentCondition U G order condition) _ archivable)
+  -- demand 2: the route, U, G, the order, the fact, the condition, solved or 'none' and the state, the answers and the length come back
+  pub written-reads-back : ReadsBack route (lentCondition U G order fact condition)
+      (records (firstBuffer (writeCall route U G order fact condition out)))
+  written-reads-back = rw output-is (reads-back route (lentCondition U G order fact condition) _ archivable)
 
   -- it passes the audit
-  pub written-audited : firstNo (auditQuestions (records (firstBuffer (writeCall route U G order condition out)))) ≡ 0
+  pub written-audited : firstNo (auditQuestions (records (firstBuffer (writeCall route U G order fact condition out)))) ≡ 0
   written-audited =
-      audit-exactly (records (firstBuffer (writeCall route U G order condition out))) .1
-      (written-reads-back .passes, rw output-is (entry-holds route (lentCondition U G order condition) _ archivable))
+      audit-exactly (records (firstBuffer (writeCall route U G order fact condition out))) .1
+      (written-reads-back .passes, rw output-is (entry-holds route (lentCondition U G order fact condition) _ archivable))
 
   -- demand 3: what its kind 3 and kind 5 records say of the condition is right
-  pub written-right : RightVerdict (lentCondition U G order condition)
-      (says (records (firstBuffer (writeCall route U G order condition out))))
+  pub written-right : RightVerdict (lentCondition U G order fact condition)
+      (says (records (firstBuffer (writeCall route U G order fact condition out))))
   written-right = rw output-is
-      (entry-right route (lentCondition U G order condition) _ (archived-order route (lentCondition U G order condition) archivable))
+      (entry-right route (lentCondition U G order fact condition) _ (archived-order route (lentCondition U G order fact condition) archivable))
 
 -- ---- reading bytes in which a written entry is found, as `reads-back` finds it whatever stands behind it
 module _ {route : ℕ} {c : Condition} (bs : List ℕ) (r : ReadsBack route c (records bs)) where
   -- only the buffers can be refused
-  pub only-room : (room answerRoom : ℕ) → 2 ^ width c ≤ room → c .U * 2 ^ width c ≤ answerRoom
-      → firstNo (readQuestions (records bs) room answerRoom) ≡ 0
-  only-room room answerRoom long answers-long =
-      read-exactly (records bs) room answerRoom .1 (r .passes, rw (r .of-unknowns, r .of-givens) (long, answers-long))
+  pub only-room : (factRoom room answerRoom : ℕ) → 2 ^ width c ≤ factRoom → 2 ^ width c ≤ room → c .U * 2 ^ width c ≤ answerRoom
+      → firstNo (readQuestions (records bs) factRoom room answerRoom) ≡ 0
+  only-room factRoom room answerRoom fact-long long answers-long =
+      read-exactly (records bs) factRoom room answerRoom .1
+      (r .passes, rw (r .of-unknowns, r .of-givens) (fact-long, long, answers-long))
 
   -- 'the route, U, G, whether the entry is solved or 'none' and in which state, and the length used'
   pub values-back : readValues (records bs) ≡ (route ∷ c .U ∷ c .G ∷ length (entry route c) ∷ stateOf (solve c))
   unfolding readValues
   values-back = rw (r .of-route, r .of-unknowns, r .of-givens, r .used, r .verdict)
 
-  -- the order, the condition and the answers are those that were written
+  -- the order, the fact, the condition and the answers are those that were written
   pub order-back : orderIn (records bs) ≡ orderBytes (c .order)
   order-back = r .of-order
+
+  pub fact-back : heldCondition (records bs) .fact ≡ c .fact
+  fact-back = ap (λ (x : Condition). x .fact) (r .condition)
 
   pub condition-back : heldCondition (records bs) .table ≡ c .table
   condition-back = ap (λ (x : Condition). x .table) (r .condition)
@@ -98,6 +100,11 @@ passed-archivable bs e =
       of-route = p .route;
       of-order = fits-each (unknownsOf (records bs)) (orderIn (records bs)) (p .order);
       of-table = is-table (unknownsOf (records bs) + givensOf (records bs)) (conditionIn (records bs));
+      of-fact = record {
+        is-table = is-table (unknownsOf (records bs) + givensOf (records bs)) (factIn (records bs));
+        givens = p .fact-letters;
+        states = p .fact-states;
+      };
     }
 
 -- .. and the bytes, as far as they are used, are this entry

@@ -19,15 +19,16 @@ use Rattle.calls.specs.declared.Read.{Read}
 use Rattle.calls.specs.declared.Read.the-variants.{Entry, Refused}
 use Rattle.calls.specs.Questions.{writeQuestions, readQuestions, auditQuestions}
 
--- ---- writing: 'the writer is lent the condition table and the output only, solves the condition itself and gives the entry's length'
+-- ---- writing: 'the writer is lent the condition table and the output only, solves the condition itself and gives the entry's length'.
+-- It is lent the route's fact too
 -- the entry of a lent condition
-abbrev pub lentEntry : ℕ → ℕ → ℕ → List ℕ → List ℕ → List ℕ
-lentEntry route U G order condition = entry route (lentCondition U G order condition)
+abbrev pub lentEntry : ℕ → ℕ → ℕ → List ℕ → List ℕ → List ℕ → List ℕ
+lentEntry route U G order fact condition = entry route (lentCondition U G order fact condition)
 
-abbrev pub writeCall : ℕ → ℕ → ℕ → List ℕ → List ℕ → List ℕ → Answered Reply
-writeCall route U G order condition out =
-    call (writeQuestions route U G order condition (length out)) (length (lentEntry route U G order condition) ∷ [])
-    (lentEntry route U G order condition into out ∷ [])
+abbrev pub writeCall : ℕ → ℕ → ℕ → List ℕ → List ℕ → List ℕ → List ℕ → Answered Reply
+writeCall route U G order fact condition out =
+    call (writeQuestions route U G order fact condition (length out)) (length (lentEntry route U G order fact condition) ∷ [])
+    (lentEntry route U G order fact condition into out ∷ [])
 
 -- this paper's number and values for each case of `Written`: the entry's length
 abbrev pub written : Written → Reply
@@ -36,7 +37,7 @@ written (written-variants.Refused number) = refused number []
 
 -- ---- reading: it 'stops after kind 4 and gives the route, U, G, whether the entry is solved or 'none' and in which state, and the length used;
 -- it fills the condition table and, if solved, the answer tables; a 'none' entry leaves the answer buffer untouched'. 'Reading gives' the
--- order, into six bytes that are lent for it
+-- order, into six bytes that are lent for it, and 'fills a further condition buffer, under 4, with g'
 -- the state of a verdict that says 'none'
 abbrev pub stateOf : {A : Type 0} → Said A → List ℕ
 stateOf (solved a) = []
@@ -51,10 +52,11 @@ answersOf (none state) = []
 unfoldable pub readValues : List Record → List ℕ
 readValues rs = routeOf rs ∷ unknownsOf rs ∷ givensOf rs ∷ length (bytes rs) ∷ stateOf (heldVerdict rs)
 
-abbrev pub readCall : List ℕ → List ℕ → List ℕ → List ℕ → Answered Reply
-readCall bs order condition answers =
-    call (readQuestions (records bs) (length condition) (length answers)) (readValues (records bs))
+abbrev pub readCall : List ℕ → List ℕ → List ℕ → List ℕ → List ℕ → Answered Reply
+readCall bs order fact condition answers =
+    call (readQuestions (records bs) (length fact) (length condition) (length answers)) (readValues (records bs))
     (orderIn (records bs) into order
+    ∷ heldCondition (records bs) .fact into fact
     ∷ heldCondition (records bs) .table into condition
     ∷ answersOf (heldVerdict (records bs)) into answers
     ∷ [])

@@ -1,4 +1,4 @@
--- The questions that each call puts, in their order (document 01, 'The questions, and the number if the answer is no'; document 02, C-11 to C-15):
+-- The questions that each call puts, in their order (document 01, 'The questions, and the number if the answer is no'; document 02, C-11 to C-16):
 -- 'The first no counts'. U unknowns and G givens, n = U + G; a table has 2 ^ n bytes, an answer or handed buffer U of them. A buffer that
 -- is only written comes as its number of bytes.
 -- Assumes nothing.
@@ -11,15 +11,16 @@ use Rattle.ring.specs.declared.State.{State}
 use Rattle.ring.specs.declared.Choice.{Choice}
 use Rattle.ring.specs.Table.{present, held}
 use Rattle.tables.specs.declared.Question.the-variants.{Letters, Route, TextLength, Signs, Declared, Grammar, Solution, Records, Kinds}
-use Rattle.tables.specs.declared.Question.the-variants.{Numbers, Afresh, Output, Rising, Range, Order, Name, Marked, Mask, Handed}
+use Rattle.tables.specs.declared.Question.the-variants.{Numbers, Afresh, Output, Rising, Range, Order, Name, Marked, Mask, Handed, FactLetters, FactStates}
 use Rattle.tables.specs.Questions.{Asked, asks, asksGiving, lettersFit, Lent, reads, writes, bitQuestions, bufferQuestions, inRange}
 use Rattle.grammar.specs.Symbols.{allSigns, allDeclared}
 use Rattle.grammar.specs.Reader.{grammarReads}
-use Rattle.solution.specs.Condition.{Condition, width, polynomial}
+use Rattle.solution.specs.Fact.{hasNoUnknown, someStateCounts}
+use Rattle.solution.specs.Condition.{Condition, width, tableWhereZero, polynomial}
 use Rattle.solution.specs.Order.{orderFits, lentCondition}
 use Rattle.solution.specs.Elimination.{handedSolves, solvable, smallestBlocked}
 use Rattle.entry.specs.Record.{Record}
-use Rattle.entry.specs.Held.{routeOf, unknownsOf, givensOf, orderIn}
+use Rattle.entry.specs.Held.{routeOf, unknownsOf, givensOf, orderIn, heldCondition}
 use Rattle.entry.specs.Entry.{entry}
 use Rattle.entry.specs.Questions.{routeFits, hasEnd, kindsFit, numbersFit, answersHold}
 
@@ -65,51 +66,71 @@ textQuestions U G text room =
     ∷ (bufferQuestions (writes (2 ^ (U + G)) room ∷ [])
     ++ (asks Signs (allSigns text) ∷ asks Declared (allDeclared U G text) ∷ asks Grammar (grammarReads text) ∷ []))
 
+-- '22, has g no unknown; 23, is g 0 in some state': what is put to a fact
+unfoldable pub factQuestions : ℕ → ℕ → List ℕ → List Asked
+factQuestions U G fact =
+    asks FactLetters (hasNoUnknown U (U + G) (present fact))
+    ∷ asks FactStates (someStateCounts U G (present fact))
+    ∷ []
+
 -- '9. Has the condition a solution? (a no also gives the state)': the smallest in which every choice gives the condition the value 1
 abbrev pub asksSolution : Condition → Asked
 asksSolution c =
     asksGiving Solution (solvable (width c) (polynomial c) (c .order)) (smallestBlocked (c .U) (c .G) (polynomial c) .0 ∷ [])
 
--- 'Boole, particular solution, own Löwenheim: 1, 4, 8, 9', and '17 .. after 2, else 1'
-unfoldable pub solvingQuestions : ℕ → ℕ → List ℕ → List ℕ → ℕ → List Asked
-solvingQuestions U G order condition room =
+-- what a solving call is lent: 'a fact, a table g over givens (for 4 and 8 a condition table)', the condition and an answer buffer
+abbrev pub solvingBuffers : ℕ → ℕ → List ℕ → List ℕ → ℕ → List Lent
+solvingBuffers U G fact condition room =
+    reads (2 ^ (U + G)) fact ∷ reads (2 ^ (U + G)) condition ∷ writes (U * 2 ^ (U + G)) room ∷ []
+
+-- 'Boole, particular solution, own Löwenheim: 1, 4, 8, 9', '17 .. after 2, else 1', and 22 and 23, 'both after 8'
+unfoldable pub solvingQuestions : ℕ → ℕ → List ℕ → List ℕ → List ℕ → ℕ → List Asked
+solvingQuestions U G order fact condition room =
     asks Letters (lettersFit U G)
     ∷ asks Order (orderFits U order)
-    ∷ (bufferQuestions (reads (2 ^ (U + G)) condition ∷ writes (U * 2 ^ (U + G)) room ∷ [])
-    ++ (asksSolution (lentCondition U G order condition) ∷ []))
+    ∷ (bufferQuestions (solvingBuffers U G fact condition room)
+    ++ (factQuestions U G fact
+    ++ (asksSolution (lentCondition U G order fact condition) ∷ [])))
 
--- 21: 'does the handed substitution make the condition zero', of the polynomials in the lent buffers
-abbrev pub asksHanded : ℕ → ℕ → List ℕ → List ℕ → Asked
-asksHanded U G condition handed = asks Handed (handedSolves U G (present condition) (held (U + G) handed))
+-- 21: 'does the handed substitution make the condition zero', of the polynomials in the lent buffers; it reads 'f*(1 + g)'
+abbrev pub asksHanded : ℕ → ℕ → List ℕ → List ℕ → List ℕ → Asked
+asksHanded U G fact condition handed =
+    asks Handed (handedSolves U G (present (tableWhereZero (U + G) condition fact)) (held (U + G) handed))
 
 -- what the handed form is lent, 'the result going to an answer buffer of its own'
-abbrev pub handedBuffers : ℕ → ℕ → List ℕ → List ℕ → ℕ → List Lent
-handedBuffers U G condition handed room =
-    reads (2 ^ (U + G)) condition ∷ reads (U * 2 ^ (U + G)) handed ∷ writes (U * 2 ^ (U + G)) room ∷ []
+abbrev pub handedBuffers : ℕ → ℕ → List ℕ → List ℕ → List ℕ → ℕ → List Lent
+handedBuffers U G fact condition handed room =
+    reads (2 ^ (U + G)) fact
+    ∷ reads (2 ^ (U + G)) condition
+    ∷ reads (U * 2 ^ (U + G)) handed
+    ∷ writes (U * 2 ^ (U + G)) room
+    ∷ []
 
--- 'Handed Löwenheim: 1, 4, 8', and '21 .. last for the handed form'
-unfoldable pub handedQuestions : ℕ → ℕ → List ℕ → List ℕ → ℕ → List Asked
-handedQuestions U G condition handed room =
+-- 'Handed Löwenheim: 1, 4, 8', '21 .. last for the handed form', and 22 and 23, 'both after 8'
+unfoldable pub handedQuestions : ℕ → ℕ → List ℕ → List ℕ → List ℕ → ℕ → List Asked
+handedQuestions U G fact condition handed room =
     asks Letters (lettersFit U G)
-    ∷ (bufferQuestions (handedBuffers U G condition handed room)
-    ++ (asksHanded U G condition handed ∷ []))
+    ∷ (bufferQuestions (handedBuffers U G fact condition handed room)
+    ++ (factQuestions U G fact
+    ++ (asksHanded U G fact condition handed ∷ [])))
 
 -- 14: 'Is the output at least as long as what is to be written?'
 unfoldable pub outputFits : List ℕ → ℕ → Bool
 outputFits made room = leb (length made) room
 
--- 'Writing: 1, 2, 4, 8, 14', and '17 .. after 2'
-unfoldable pub writeQuestions : ℕ → ℕ → ℕ → List ℕ → List ℕ → ℕ → List Asked
-writeQuestions route U G order condition room =
+-- 'Writing: 1, 2, 4, 8, 14', '17 .. after 2', and 22 and 23, 'both after 8'
+unfoldable pub writeQuestions : ℕ → ℕ → ℕ → List ℕ → List ℕ → List ℕ → ℕ → List Asked
+writeQuestions route U G order fact condition room =
     asks Letters (lettersFit U G)
     ∷ asks Route (routeFits route)
     ∷ asks Order (orderFits U order)
-    ∷ (bufferQuestions (reads (2 ^ (U + G)) condition ∷ [])
-    ++ (asks Output (outputFits (entry route (lentCondition U G order condition)) room) ∷ []))
+    ∷ (bufferQuestions (reads (2 ^ (U + G)) fact ∷ reads (2 ^ (U + G)) condition ∷ [])
+    ++ (factQuestions U G fact
+    ++ (asks Output (outputFits (entry route (lentCondition U G order fact condition)) room) ∷ [])))
 
--- 10, 11, 1, 2, 12, 17: what reading and audit put to the records of an entry; 17 comes 'after all of 12 when reading'
-unfoldable pub entryQuestions : List Record → List Asked
-entryQuestions rs =
+-- 10, 11, 1, 2, 12, 17: what is put to the records of an entry one by one; 17 comes 'after all of 12 when reading'
+unfoldable pub recordQuestions : List Record → List Asked
+recordQuestions rs =
     asks Records (hasEnd rs)
     ∷ asks Kinds (kindsFit rs)
     ∷ asks Letters (lettersFit (unknownsOf rs) (givensOf rs))
@@ -118,14 +139,21 @@ entryQuestions rs =
     ∷ asks Order (orderFits (unknownsOf rs) (orderIn rs))
     ∷ []
 
--- 'Reading: 10, 11, 1, 2, 12, 4', 17 before 4
-unfoldable pub readQuestions : List Record → ℕ → ℕ → List Asked
-readQuestions rs room answerRoom =
+-- what reading and audit put to the records of an entry: 22 and 23 come 'after 17 when reading'
+unfoldable pub entryQuestions : List Record → List Asked
+entryQuestions rs = recordQuestions rs ++ factQuestions (unknownsOf rs) (givensOf rs) (heldCondition rs .fact)
+
+-- 'Reading: 10, 11, 1, 2, 12, 4', 17, 22 and 23 before 4; 'Reading fills a further condition buffer, under 4, with g'
+unfoldable pub readQuestions : List Record → ℕ → ℕ → ℕ → List Asked
+readQuestions rs factRoom room answerRoom =
     entryQuestions rs
     ++ bufferQuestions
-    (writes (2 ^ (unknownsOf rs + givensOf rs)) room ∷ writes (unknownsOf rs * 2 ^ (unknownsOf rs + givensOf rs)) answerRoom ∷ [])
+    (writes (2 ^ (unknownsOf rs + givensOf rs)) factRoom
+    ∷ writes (2 ^ (unknownsOf rs + givensOf rs)) room
+    ∷ writes (unknownsOf rs * 2 ^ (unknownsOf rs + givensOf rs)) answerRoom
+    ∷ [])
 
--- 'Audit: 10, 11, 1, 2, 12, 13', 17 before 13
+-- 'Audit: 10, 11, 1, 2, 12, 13', 17, 22 and 23 before 13
 unfoldable pub auditQuestions : List Record → List Asked
 auditQuestions rs = entryQuestions rs ++ (asks Afresh (answersHold rs) ∷ [])
 

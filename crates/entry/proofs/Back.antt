@@ -4,12 +4,12 @@
 use mathlib.Core.Path.{_≡_, refl, sym, ap, _∙_}
 use mathlib.Core.Bool.{Bool, true, false, _&&_, not, cond}
 use mathlib.Core.List.{List, [], _∷_, _++_, append-assoc, map}
-use Prim.Native.Nat.{ℕ, zero, suc, _+_, _≤_, _<_}
+use Prim.Native.Nat.{ℕ, zero, suc, _+_, _≤_}
 use native.Mathlib.Omega.{arith}
-use lib.Dec.{eqb, leb, ltb}
-use lib.ListN.{length, take, drop, length-append}
+use lib.Dec.{eqb, ltb}
+use lib.ListN.{length, drop, length-append}
 use lib.Seq.{take-at, drop-at}
-use borrow.Author.Tests.{le-leb, ltb-true, eqb-true}
+use borrow.Author.Tests.{le-leb, eqb-true}
 use Rattle.ring.specs.Table.{present, held}
 use Rattle.order.specs.Order.{monomials}
 use Rattle.ring.proofs.Bool.{and-left, and-right, both, never}
@@ -18,8 +18,9 @@ use Rattle.solution.specs.Condition.{Condition, width}
 use Rattle.solution.specs.Order.{orderBytes}
 use Rattle.solution.specs.Elimination.{Verdict, solved, none}
 use Rattle.entry.specs.Record.{Record, bytes, fields, widths, size, kind, lowFirst, bodyOf, startRecord, conditionRecord}
-use Rattle.entry.specs.Record.{answerRecord, endRecord, noneRecord, orderRecord, isEnd, isDefault}
-use Rattle.entry.specs.Entry.{orderRecords, conditionRecords, answerRecords, verdictRecords, entryRecords, archivedRecords, entry}
+use Rattle.entry.specs.Record.{answerRecord, endRecord, orderRecord, factRecord, isEnd, isDefault}
+use Rattle.entry.specs.Entry.{orderRecords, factRecords, conditionRecords, answerRecords, verdictRecords, entryRecords}
+use Rattle.entry.specs.Entry.{archivedRecords, entry}
 use Rattle.entry.specs.Held.{next, untilEnd, records}
 use Rattle.entry.proofs.Records.{records-next}
 
@@ -111,6 +112,11 @@ order-inner c = go (isDefault (c .U) (orderBytes (c .order)))
     go true = refl
     go false = refl
 
+fact-inner : (ms : List ℕ) → allInner (map factRecord ms) ≡ true
+unfolding allInner kind size fields widths bodyOf lowFirst
+fact-inner [] = refl
+fact-inner (m ∷ ms) = fact-inner ms
+
 condition-inner : (ms : List ℕ) → allInner (map conditionRecord ms) ≡ true
 unfolding allInner kind size fields widths bodyOf lowFirst
 condition-inner [] = refl
@@ -147,23 +153,30 @@ all-whole (r ∷ rs) route p =
 module _ (route : ℕ) (c : Condition) (v : Verdict (List ℕ)) where
   -- all of an entry but its end
   unfoldable pub body : List Record
-  body = startRecord route (c .U) (c .G) ∷ (orderRecords c ++ (conditionRecords c ++ verdictRecords (c .U) (width c) v))
+  body =
+      startRecord route (c .U) (c .G)
+      ∷ (orderRecords c ++ (factRecords c ++ (conditionRecords c ++ verdictRecords (c .U) (width c) v)))
 
   pub entry-body : entryRecords route c v ≡ body ++ (endRecord route ∷ [])
   unfolding entryRecords body
   entry-body =
-      ap (λ (l : List Record). startRecord route (c .U) (c .G) ∷ (orderRecords c ++ l))
+      ap (λ (l : List Record). startRecord route (c .U) (c .G) ∷ (orderRecords c ++ (factRecords c ++ l)))
       (sym (append-assoc (conditionRecords c) (verdictRecords (c .U) (width c) v) (endRecord route ∷ [])))
+      ∙ ap (λ (l : List Record). startRecord route (c .U) (c .G) ∷ (orderRecords c ++ l))
+      (sym (append-assoc (factRecords c) (conditionRecords c ++ verdictRecords (c .U) (width c) v) (endRecord route ∷ [])))
       ∙ ap (λ (l : List Record). startRecord route (c .U) (c .G) ∷ l)
-      (sym (append-assoc (orderRecords c) (conditionRecords c ++ verdictRecords (c .U) (width c) v) (endRecord route ∷ [])))
+      (sym (append-assoc (orderRecords c) (factRecords c ++ (conditionRecords c ++ verdictRecords (c .U) (width c) v))
+      (endRecord route ∷ [])))
 
   pub body-inner : allInner body ≡ true
-  unfolding body conditionRecords allInner
+  unfolding body factRecords conditionRecords allInner
   body-inner =
       both (start-inner route (c .U) (c .G))
-      (inner-append (orderRecords c) (conditionRecords c ++ verdictRecords (c .U) (width c) v) (order-inner c)
-      (inner-append (map conditionRecord (monomials (width c) (present (c .table)))) (verdictRecords (c .U) (width c) v)
-      (condition-inner (monomials (width c) (present (c .table)))) (verdict-inner (c .U) (width c) v)))
+      (inner-append (orderRecords c) (factRecords c ++ (conditionRecords c ++ verdictRecords (c .U) (width c) v)) (order-inner c)
+      (inner-append (factRecords c) (conditionRecords c ++ verdictRecords (c .U) (width c) v)
+      (fact-inner (monomials (width c) (present (c .fact))))
+      (inner-append (conditionRecords c) (verdictRecords (c .U) (width c) v)
+      (condition-inner (monomials (width c) (present (c .table)))) (verdict-inner (c .U) (width c) v))))
 
   -- the records of an entry, with any bytes behind it, are those that it was written from
   pub written-records : (bs : List ℕ) → records (bytes (entryRecords route c v) ++ bs) ≡ entryRecords route c v

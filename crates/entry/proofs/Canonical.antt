@@ -20,15 +20,15 @@ use Rattle.ring.proofs.Lists.{has-cases}
 use Rattle.ring.proofs.Every.{every-all}
 use Rattle.order.specs.Order.{monomials}
 use Rattle.order.proofs.Order.{has-monomials}
-use Rattle.solution.specs.Condition.{Condition, width}
+use Rattle.solution.specs.Condition.{Condition}
 use Rattle.solution.specs.Order.{orderBytes, defaultBytes, orderFits}
 use Rattle.solution.specs.Elimination.{Verdict, solved, none}
 use Rattle.entry.specs.Record.{Record, routeField, unknownsField, givensField, unknownField, maskField, stateField, fields, kind}
-use Rattle.entry.specs.Record.{among, valueIn, valueOf, isEnd, isNone, isOrder, isMonomial, tableIn, bodyFits, sameBytes, isDefault}
+use Rattle.entry.specs.Record.{among, valueIn, valueOf, isEnd, isNone, isOrder, isFact, isMonomial, bodyFits, sameBytes, isDefault}
 use Rattle.entry.specs.Record.{isNeeded, inBounds, startRecord, endRecord, noneRecord, orderRecord}
-use Rattle.entry.specs.Entry.{orderRecords, conditionRecords, verdictRecords, entryRecords}
+use Rattle.entry.specs.Entry.{orderRecords, verdictRecords, entryRecords}
 use Rattle.entry.specs.Held.{next, untilEnd, firstRecords, records, first, second, routeOf, unknownsOf, givensOf, orderIn, hasMonomial}
-use Rattle.entry.specs.Held.{conditionIn, answersIn, unlessNone, heldCondition, heldVerdict}
+use Rattle.entry.specs.Held.{factIn, conditionIn, answersIn, unlessNone, heldCondition, heldVerdict}
 use Rattle.entry.specs.Questions.{followers, mayFollow, kindsFollow, kindsFit, numbersFit}
 use Rattle.entry.specs.Inner.Places.{placeOf, standsBehind, fitsBehind}
 use Rattle.entry.proofs.Made.{field-fits, every-kind, IsMade, AllMade, valuesIn, of-kind}
@@ -86,11 +86,11 @@ entry-ends route c v = rw (entry-body route c v) (inner-ends (body route c v) ro
 
 -- ---- one record and those behind it
 module _ (p again : ℕ) (r : Record) (rs : List Record) (o : kindsFollow p again (r ∷ rs) ≡ true) where
-  may : mayFollow p (kind r) ≡ true
+  pub may : mayFollow p (kind r) ≡ true
   unfolding kindsFollow
   may = and-left (mayFollow p (kind r)) _ o
 
-  kinds-on : isEnd r ≡ false → kindsFollow (kind r) again rs ≡ true
+  pub kinds-on : isEnd r ≡ false → kindsFollow (kind r) again rs ≡ true
   unfolding kindsFollow
   kinds-on e = rw e at (and-right (mayFollow p (kind r)) _ o)
 
@@ -99,11 +99,11 @@ module _ (p again : ℕ) (r : Record) (rs : List Record) (o : kindsFollow p agai
   same-route e = eqb-true _ _ (rw e at (and-right (mayFollow p (kind r)) _ o))
 
 module _ (r : Record) (rs : List Record) (c : endsThere (r ∷ rs) ≡ true) where
-  ends-on : isEnd r ≡ false → endsThere rs ≡ true
+  pub ends-on : isEnd r ≡ false → endsThere rs ≡ true
   unfolding endsThere
   ends-on e = rw e at c
 
-  nothing-behind : isEnd r ≡ true → rs ≡ []
+  pub nothing-behind : isEnd r ≡ true → rs ≡ []
   unfolding endsThere
   nothing-behind e = empty-is rs (rw e at c)
 
@@ -121,30 +121,37 @@ none-again : (r : Record) → IsMade r → kind r ≡ 5 → r ≡ noneRecord (va
 unfolding fields valueOf valueIn valuesIn
 none-again r w k = of-kind 5 r w k ∙ rw k
 
--- ---- the kinds that follow another, but for the start: kind 4, kind 5, and those with a monomial
-mayStand : ℕ → Bool
-mayStand k = eqb k 4 || (eqb k 5 || among maskField (fields k))
+-- ---- the kinds that follow another
+-- each kind of a row passes a test
+unfoldable pub allPass : (ℕ → Bool) → List ℕ → Bool
+allPass test [] = true
+allPass test (k ∷ ks) = test k && allPass test ks
 
-allStand : List ℕ → Bool
-allStand [] = true
-allStand (k ∷ ks) = mayStand k && allStand ks
-
-in-row : (row : List ℕ) (k : ℕ) → allStand row ≡ true → has k row ≡ true → mayStand k ≡ true
-unfolding allStand has
-in-row [] k e h = never h refl
-in-row (x ∷ row) k e h = go (in-row row k (and-right (mayStand x) (allStand row) e)) (has-cases k x row h)
+in-row : (test : ℕ → Bool) (row : List ℕ) (k : ℕ) → allPass test row ≡ true → has k row ≡ true → test k ≡ true
+unfolding allPass has
+in-row test [] k e h = never h refl
+in-row test (x ∷ row) k e h = go (in-row test row k (and-right (test x) (allPass test row) e)) (has-cases k x row h)
   where
-    go : (has k row ≡ true → mayStand k ≡ true) → (k ≡ x) ⊎ (has k row ≡ true) → mayStand k ≡ true
-    go ih (inl q) = rw q (and-left (mayStand x) (allStand row) e)
+    go : (has k row ≡ true → test k ≡ true) → (k ≡ x) ⊎ (has k row ≡ true) → test k ≡ true
+    go ih (inl q) = rw q (and-left (test x) (allPass test row) e)
     go ih (inr q) = ih q
 
-rows-stand : (p : ℕ) → allStand (getD followers (suc p) []) ≡ true
-unfolding allStand mayStand among fields everyBelow
-rows-stand p = go (bool-cases (ltb p 5))
+-- a test of the kind in front, kind 1 being 0, and a kind that follows it: that every row passes it is computed
+unfoldable pub eachFollows : (ℕ → ℕ → Bool) → Bool
+eachFollows test = everyBelow 8 (λ p. allPass (test p) (getD followers p []))
+
+pub each-follows : (test : ℕ → ℕ → Bool) → eachFollows test ≡ true → (p k : ℕ) → mayFollow (suc p) k ≡ true → test p k ≡ true
+unfolding eachFollows allPass mayFollow
+each-follows test e p k h = in-row (test p) (getD followers p []) k (go (bool-cases (ltb p 8))) h
   where
-    go : (ltb p 5 ≡ true) ⊎ (ltb p 5 ≡ false) → allStand (getD followers (suc p) []) ≡ true
-    go (inl h) = every-all 5 (λ i. allStand (getD followers (suc i) [])) refl p (ltb-true _ _ h)
-    go (inr h) = let l : 5 ≤ p = ltb-false _ _ h in ap allStand (List·getD-eq-default followers [] {n = suc p} (omega arith))
+    go : (ltb p 8 ≡ true) ⊎ (ltb p 8 ≡ false) → allPass (test p) (getD followers p []) ≡ true
+    go (inl l) = every-all 8 (λ i. allPass (test i) (getD followers i [])) e p (ltb-true _ _ l)
+    go (inr l) =
+        let b : 8 ≤ p = ltb-false _ _ l in ap (allPass (test p)) (List·getD-eq-default followers [] {n = p} (omega arith))
+
+-- but for the start: kind 4, kind 5, and those with a monomial
+mayStand : ℕ → Bool
+mayStand k = eqb k 4 || (eqb k 5 || among maskField (fields k))
 
 data Stands (k : ℕ) : Type 0 where
   an-end : k ≡ 4 → Stands k
@@ -152,9 +159,12 @@ data Stands (k : ℕ) : Type 0 where
   a-monomial : among maskField (fields k) ≡ true → Stands k
 
 stands : (p k : ℕ) → mayFollow (suc (suc p)) k ≡ true → Stands k
-unfolding mayFollow mayStand
-stands p k h = go (or-cases (eqb k 4) _ (in-row (getD followers (suc p) []) k (rows-stand p) h))
+unfolding mayStand eachFollows allPass among fields everyBelow
+stands p k h = go (or-cases (eqb k 4) _ (rw behind-start at (each-follows (λ i x. eqb i 0 || mayStand x) refl (suc p) k h)))
   where
+    behind-start : eqb (suc p) 0 ≡ false
+    behind-start = ne-eqb (suc p) 0 (λ (e : suc p ≡ 0). absurd (omega arith))
+
     further : (eqb k 5 ≡ true) ⊎ (among maskField (fields k) ≡ true) → Stands k
     further (inl e) = a-none (eqb-true k 5 e)
     further (inr e) = a-monomial e
@@ -179,7 +189,7 @@ monomial-kind k h = (no 4 refl, no 5 refl)
     flip true e = never e refl
     flip false e = refl
 
-    no : (x : ℕ) → everyBelow 7 (λ i. not (among maskField (fields i)) || not (eqb i x)) ≡ true → eqb k x ≡ false
+    no : (x : ℕ) → everyBelow 8 (λ i. not (among maskField (fields i)) || not (eqb i x)) ≡ true → eqb k x ≡ false
     no x e =
         flip (eqb k x) (implied (λ i. not (eqb i x)) k (every-kind (λ i. not (among maskField (fields i)) || not (eqb i x)) e k some) h)
 
@@ -304,7 +314,7 @@ module _ {A : Type 0} (a : A) where
 
   none-alone : (p route j m : ℕ) (state : State) (rs : List Record) → AllMade rs → kindsFollow p route rs ≡ true → endsThere rs ≡ true
       → unlessNone a rs ≡ none state
-      → hasMonomial (suc j) m rs ≡ false
+      → hasMonomial (suc (suc j)) m rs ≡ false
   unfolding unlessNone hasMonomial AllMade among fields
   none-alone p route j m s [] w o c e = refl
   none-alone p route j m s (r ∷ rs) w o c e =
@@ -313,14 +323,14 @@ module _ {A : Type 0} (a : A) where
     where
       go : (isEnd r ≡ true) ⊎ (isEnd r ≡ false) → (isNone r ≡ true) ⊎ (isNone r ≡ false)
           → (among unknownField (fields (kind r)) ≡ true) ⊎ (among unknownField (fields (kind r)) ≡ false)
-          → (kindsFollow (kind r) route rs ≡ true → endsThere rs ≡ true → unlessNone a rs ≡ none s → hasMonomial (suc j) m rs ≡ false)
-          → hasMonomial (suc j) m (r ∷ rs) ≡ false
+          → (kindsFollow (kind r) route rs ≡ true → endsThere rs ≡ true → unlessNone a rs ≡ none s → hasMonomial (suc (suc j)) m rs ≡ false)
+          → hasMonomial (suc (suc j)) m (r ∷ rs) ≡ false
       go (inl f) n u ih = let k : kind r ≡ 4 = eqb-true _ _ f in rw (k, nothing-behind r rs c f)
       go (inr f) (inl n) u ih =
           let k : kind r ≡ 5 = eqb-true _ _ n in
           let b : rs ≡ endRecord route ∷ [] =
           behind-none route rs (w .1) (ap (λ (x : ℕ). kindsFollow x route rs) (sym k) ∙ kinds-on p route r rs o f) (ends-on r rs c f) in
-          rw (k, b) (no-monomials (suc j) m route)
+          rw (k, b) (no-monomials (suc (suc j)) m route)
       go (inr f) (inr n) (inl u) ih =
           let k : kind r ≡ 3 = unknown-kind (kind r) u in
           let b : unlessNone a rs
@@ -328,8 +338,11 @@ module _ {A : Type 0} (a : A) where
           behind-answer route rs (ap (λ (x : ℕ). kindsFollow x route rs) (sym k) ∙ kinds-on p route r rs o f) (ends-on r rs c f) in
           clash (sym b ∙ (rw n at e))
       go (inr f) (inr n) (inr u) ih =
-          rw (u, ne-eqb (suc j) 0 (λ (z : suc j ≡ 0). absurd (omega arith)), and-false (isMonomial r))
-          (ih (kinds-on p route r rs o f) (ends-on r rs c f) (rw n at e))
+          rw (u, no-answer (isFact r), and-false (isMonomial r)) (ih (kinds-on p route r rs o f) (ends-on r rs c f) (rw n at e))
+        where
+          no-answer : (fact : Bool) → eqb (suc (suc j)) (cond fact 0 1) ≡ false
+          no-answer true = ne-eqb (suc (suc j)) 0 (λ (z : suc (suc j) ≡ 0). absurd (omega arith))
+          no-answer false = ne-eqb (suc (suc j)) 1 (λ (z : suc (suc j) ≡ 1). absurd (omega arith))
 
   -- the state is in bounds
   state-bounds : (U G q : ℕ) (state : State) (rs : List Record) → fitsBehind U G q rs ≡ true → unlessNone a rs ≡ none state
@@ -478,7 +491,7 @@ module _ (rs : List Record) (w : AllMade rs) (k : kindsFit rs ≡ true) (c : end
   places = numbers-by-places U G l rs ∙ f
 
   -- ---- the same monomials
-  absent : (i m : ℕ) → ((i ≤ U) × (m < 2 ^ (U + G)) → ⊥) → hasMonomial i m rs ≡ false
+  absent : (i m : ℕ) → ((i ≤ suc U) × (m < 2 ^ (U + G)) → ⊥) → hasMonomial i m rs ≡ false
   absent i m n = go (bool-cases (hasMonomial i m rs))
     where
       go : (hasMonomial i m rs ≡ true) ⊎ (hasMonomial i m rs ≡ false) → hasMonomial i m rs ≡ false
@@ -496,29 +509,34 @@ module _ (rs : List Record) (w : AllMade rs) (k : kindsFit rs ≡ true) (c : end
           far : m < 2 ^ (U + G) → ⊥
           far w = let b : 2 ^ (U + G) ≤ m = ltb-false _ _ h in omega arith
 
-  condition-table : (m : ℕ) → has m (monomials (U + G) (present (heldCondition rs .table))) ≡ hasMonomial 0 m rs
-  unfolding heldCondition conditionIn
-  condition-table m = one-table 0 m (present (heldCondition rs .table)) (λ h. present-table (U + G) (conditionIn rs) m h)
+  fact-table : (m : ℕ) → has m (monomials (U + G) (present (heldCondition rs .fact))) ≡ hasMonomial 0 m rs
+  unfolding heldCondition factIn
+  fact-table m = one-table 0 m (present (heldCondition rs .fact)) (λ h. present-table (U + G) (factIn rs) m h)
 
-  answer-table : (j m : ℕ) → (ltb j U && has m (monomials (U + G) (held (U + G) answered j))) ≡ hasMonomial (suc j) m rs
+  condition-table : (m : ℕ) → has m (monomials (U + G) (present (heldCondition rs .table))) ≡ hasMonomial 1 m rs
+  unfolding heldCondition conditionIn
+  condition-table m = one-table 1 m (present (heldCondition rs .table)) (λ h. present-table (U + G) (conditionIn rs) m h)
+
+  answer-table : (j m : ℕ) → (ltb j U && has m (monomials (U + G) (held (U + G) answered j))) ≡ hasMonomial (suc (suc j)) m rs
   unfolding answersIn
   answer-table j m = go (bool-cases (ltb j U))
     where
       go : (ltb j U ≡ true) ⊎ (ltb j U ≡ false)
-          → (ltb j U && has m (monomials (U + G) (held (U + G) answered j))) ≡ hasMonomial (suc j) m rs
+          → (ltb j U && has m (monomials (U + G) (held (U + G) answered j))) ≡ hasMonomial (suc (suc j)) m rs
       go (inl h) =
-          rw h (one-table (suc j) m (held (U + G) answered j) (λ b. held-answerTable U (U + G) (answersIn rs) j m (ltb-true _ _ h) b))
-      go (inr h) = rw h (sym (absent (suc j) m (λ w. many (w .0))))
+          rw h
+          (one-table (suc (suc j)) m (held (U + G) answered j) (λ b. held-answerTable U (U + G) (answersIn rs) j m (ltb-true _ _ h) b))
+      go (inr h) = rw h (sym (absent (suc (suc j)) m (λ w. many (w .0))))
         where
-          many : suc j ≤ U → ⊥
+          many : suc (suc j) ≤ suc U → ⊥
           many w = let b : U ≤ j = ltb-false _ _ h in omega arith
 
-  verdict-table : (j m : ℕ) → hasMonomial (suc j) m (verdictRecords U (U + G) (heldVerdict rs)) ≡ hasMonomial (suc j) m rs
+  verdict-table : (j m : ℕ) → hasMonomial (suc (suc j)) m (verdictRecords U (U + G) (heldVerdict rs)) ≡ hasMonomial (suc (suc j)) m rs
   unfolding heldVerdict verdictRecords hasMonomial kindsFit among fields kind
   verdict-table j m = go (unless-cases answered rs)
     where
       go : (unlessNone answered rs ≡ solved answered) ⊎ ((state : State) × (unlessNone answered rs ≡ none state))
-          → hasMonomial (suc j) m (verdictRecords U (U + G) (unlessNone answered rs)) ≡ hasMonomial (suc j) m rs
+          → hasMonomial (suc (suc j)) m (verdictRecords U (U + G) (unlessNone answered rs)) ≡ hasMonomial (suc (suc j)) m rs
       go (inl e) = rw e (answers-monomials U (U + G) j m answered ∙ answer-table j m)
       go (inr e) = rw (e .1) (sym (none-alone answered 0 (routeOf rs) j m (e .0) rs w k c (e .1)))
 
@@ -526,12 +544,25 @@ module _ (rs : List Record) (w : AllMade rs) (k : kindsFit rs ≡ true) (c : end
   unfolding heldCondition
   same-monomials i m = entry-monomials (routeOf rs) (heldCondition rs) (heldVerdict rs) i m ∙ go i
     where
-      go : (i : ℕ) → ((eqb i 0 && has m (monomials (U + G) (present (heldCondition rs .table)))) || hasMonomial i m
-          (verdictRecords U (U + G) (heldVerdict rs))) ≡ hasMonomial i m rs
+      nothing-told : (i : ℕ) → i < 2 → hasMonomial i m (verdictRecords U (U + G) (heldVerdict rs)) ≡ false
+      nothing-told i h = verdict-no-condition (routeOf rs) (heldCondition rs) (heldVerdict rs) i m (heldVerdict rs) h
+
+      go : (i : ℕ)
+          → ((eqb i 0 && has m (monomials (U + G) (present (heldCondition rs .fact))))
+          || ((eqb i 1 && has m (monomials (U + G) (present (heldCondition rs .table))))
+          || hasMonomial i m (verdictRecords U (U + G) (heldVerdict rs)))) ≡ hasMonomial i m rs
       go zero =
-          rw (verdict-no-condition (routeOf rs) (heldCondition rs) (heldVerdict rs) m (heldVerdict rs))
+          rw (nothing-told 0 (omega arith))
+          (or-false (has m (monomials (U + G) (present (heldCondition rs .fact)))) ∙ fact-table m)
+      go (suc zero) =
+          rw (nothing-told 1 (omega arith))
           (or-false (has m (monomials (U + G) (present (heldCondition rs .table)))) ∙ condition-table m)
-      go (suc j) = rw (ne-eqb (suc j) 0 (λ (z : suc j ≡ 0). absurd (omega arith))) (verdict-table j m)
+      go (suc (suc j)) =
+          rw (
+            ne-eqb (suc (suc j)) 0 (λ (z : suc (suc j) ≡ 0). absurd (omega arith)),
+            ne-eqb (suc (suc j)) 1 (λ (z : suc (suc j) ≡ 1). absurd (omega arith)),
+          )
+          (verdict-table j m)
 
   -- ---- the same verdict
   pub held-fits : VerdictFits U G (heldVerdict rs)

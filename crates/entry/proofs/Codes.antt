@@ -28,12 +28,12 @@ use Rattle.entry.specs.Entry.{conditionRecords}
 use Rattle.entry.specs.Inner.Codes.{monomialRecord, listedRecord}
 
 -- ---- a number is its table and its mask
-record-of : (i m : ℕ) → m < 1024 → listedRecord (1024 * i + m) ≡ monomialRecord i m
+record-of : (i m : ℕ) → m < 1024 → listedRecord (1024 * i + m) ≡ monomialRecord (suc i) m
 unfolding listedRecord
 record-of i m h =
     let d : (1024 * i + m) / 1024 ≡ i = omega arith in
     let r : (1024 * i + m) % 1024 ≡ m = omega arith in
-    ap₂ monomialRecord d r
+    ap₂ (λ (j k : ℕ). monomialRecord (suc j) k) d r
 
 -- its bytes: three where the table is the condition, four where it is an answer's
 module _ (code : ℕ) where
@@ -45,12 +45,12 @@ module _ (code : ℕ) where
   unfolding listedRecord fields bodyOf lowFirst
   answer-listed some = go (code / 1024) some
     where
-      go : (i : ℕ) → (i ≡ 0 → ⊥) → monomialRecord i (code % 1024) ≡ 3 ∷ (i - 1) ∷ code % 1024 % 256 ∷ code % 1024 / 256 ∷ []
+      go : (i : ℕ) → (i ≡ 0 → ⊥) → monomialRecord (suc i) (code % 1024) ≡ 3 ∷ (i - 1) ∷ code % 1024 % 256 ∷ code % 1024 / 256 ∷ []
       go zero n = absurd (n refl)
       go (suc j) n = let d : suc j - 1 ≡ j = omega arith in rw d
 
 of-tagged : (i : ℕ) (ms : List ℕ) → ((m : ℕ) → has m ms ≡ true → m < 1024)
-    → map listedRecord (tagged (1024 * i) ms) ≡ map (monomialRecord i) ms
+    → map listedRecord (tagged (1024 * i) ms) ≡ map (monomialRecord (suc i)) ms
 unfolding tagged
 of-tagged i [] h = refl
 of-tagged i (m ∷ ms) h =
@@ -74,7 +74,7 @@ pub answer-codes : (j n : ℕ) (f g : Polynomial) → n ≤ 10 → ((m : ℕ) �
     → map listedRecord (tagged (1024 * (j + 1)) (monomials n f)) ≡ map (answerRecord j) (monomials n g)
 answer-codes j n f g h e =
     of-tagged (j + 1) (monomials n f) (small n f h)
-    ∙ ap (λ (i : ℕ). map (monomialRecord i) (monomials n f)) (add-one j)
+    ∙ ap (λ (i : ℕ). map (monomialRecord (suc i)) (monomials n f)) (add-one j)
     ∙ ap (map (answerRecord j)) (monomials-same n f g e)
 
 -- ---- something put for each number of a list
@@ -128,6 +128,19 @@ module _ {f : ℕ → List ℕ} {xs old : List ℕ} {from p at : ℕ} {new : Lis
 
   pub putting-end : length xs ≤ p → Put old from (each f xs) at new
   putting-end l = put-same (w .put) (ap (each f) (take-all p xs l))
+
+  -- as soon as all bytes are there, whatever is left has none
+  pub putting-all : from + length (each f xs) ≤ at → Put old from (each f xs) at new
+  putting-all l =
+      let e : each f xs ≡ each f (take p xs) ++ each f (drop p xs) = ap (each f) (sym (take-append-drop p xs))
+      ∙ each-append f (take p xs) (drop p xs) in
+      let none : length (each f (drop p xs)) ≡ 0 =
+      omega (arith, ap length e, length-append (each f (take p xs)) (each f (drop p xs)), w .put .place) in
+      put-same (w .put) (sym (append-nil (each f (take p xs))) ∙ ap (λ (l : List ℕ). each f (take p xs) ++ l) (sym (no-bytes _ none)) ∙ sym e)
+    where
+      no-bytes : (l : List ℕ) → length l ≡ 0 → l ≡ []
+      no-bytes [] z = refl
+      no-bytes (b ∷ bs) z = absurd (omega (arith, z))
 
 -- the bytes of records, record by record
 pub each-bytes : (codes : List ℕ) → each listedRecord codes ≡ bytes (map listedRecord codes)

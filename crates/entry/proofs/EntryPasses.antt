@@ -1,7 +1,7 @@
 -- A written entry passes questions 10, 11 and 12, whatever its route, its condition and its answers are, as long as a state is a state.
 -- Assumes nothing.
 use mathlib.Core.Path.{_≡_, refl, sym, ap, _∙_}
-use mathlib.Core.Bool.{Bool, true, false, not, cond}
+use mathlib.Core.Bool.{Bool, true, false, cond}
 use mathlib.Core.List.{List, [], _∷_, _++_, append-assoc, map}
 use mathlib.Core.Logic.{_⊎_, inl, inr}
 use Prim.Native.Nat.{ℕ, zero, suc, _+_, _*_, _^_, _≤_, _<_}
@@ -19,8 +19,8 @@ use Rattle.solution.specs.Condition.{Condition, width}
 use Rattle.solution.specs.Order.{orderBytes}
 use Rattle.solution.specs.Elimination.{Verdict, solved, none}
 use Rattle.entry.specs.Record.{Record, routeField, fields, kind, among, isEnd, isMonomial, inBounds, startRecord, conditionRecord}
-use Rattle.entry.specs.Record.{answerRecord, endRecord, noneRecord, orderRecord, bodyOf, lowFirst, bodyFits, isDefault, isNeeded}
-use Rattle.entry.specs.Entry.{orderRecords, conditionRecords, answerRecords, verdictRecords, entryRecords}
+use Rattle.entry.specs.Record.{answerRecord, endRecord, noneRecord, orderRecord, factRecord, bodyOf, lowFirst, bodyFits, isDefault, isNeeded}
+use Rattle.entry.specs.Entry.{orderRecords, factRecords, conditionRecords, answerRecords, verdictRecords, entryRecords}
 use Rattle.entry.specs.Questions.{hasEnd, mayFollow, kindsFollow, kindsFit, numbersFit}
 use Rattle.entry.specs.Inner.Places.{place, standsBehind, fitsBehind}
 use Rattle.entry.specs.Inner.Codes.{monomialRecord}
@@ -40,18 +40,29 @@ end-last (r ∷ rs) route = or-right (isEnd r) (end-last rs route)
 pub entry-has-end : (route : ℕ) (c : Condition) (v : Verdict (List ℕ)) → hasEnd (entryRecords route c v) ≡ true
 entry-has-end route c v = rw (entry-body route c v) (end-last (body route c v) route)
 
--- ---- question 11: kind 1, perhaps a kind 6, then kinds 2, then kinds 3 or a kind 5, then kind 4
+-- ---- question 11: kind 1, perhaps a kind 6, then kinds 7, then kinds 2, then kinds 3 or a kind 5, then kind 4
+-- the kinds behind which a fact may stand, and those behind which the condition may
+abbrev BeforeFact : ℕ → Type 0
+BeforeFact p = (p ≡ 1) ⊎ ((p ≡ 6) ⊎ (p ≡ 7))
+
 abbrev BeforeAnswers : ℕ → Type 0
-BeforeAnswers p = (p ≡ 1) ⊎ ((p ≡ 2) ⊎ (p ≡ 6))
+BeforeAnswers p = BeforeFact p ⊎ (p ≡ 2)
 
 abbrev BeforeEnd : ℕ → Type 0
 BeforeEnd p = BeforeAnswers p ⊎ (p ≡ 3)
 
+fact-follows : (p : ℕ) → BeforeFact p → mayFollow p 7 ≡ true
+unfolding mayFollow has
+fact-follows p (inl e) = rw e
+fact-follows p (inr (inl e)) = rw e
+fact-follows p (inr (inr e)) = rw e
+
 early-follows : (p k : ℕ) → BeforeAnswers p → has k (2 ∷ 3 ∷ 4 ∷ 5 ∷ []) ≡ true → mayFollow p k ≡ true
 unfolding mayFollow
-early-follows p k (inl e) h = rw e (has-append k (2 ∷ 3 ∷ 4 ∷ 5 ∷ []) (6 ∷ []) ∙ rw h)
-early-follows p k (inr (inl e)) h = rw e h
-early-follows p k (inr (inr e)) h = rw e h
+early-follows p k (inl (inl e)) h = rw e (has-append k (2 ∷ 3 ∷ 4 ∷ 5 ∷ []) (6 ∷ 7 ∷ []) ∙ rw h)
+early-follows p k (inl (inr (inl e))) h = rw e (has-append k (2 ∷ 3 ∷ 4 ∷ 5 ∷ []) (7 ∷ []) ∙ rw h)
+early-follows p k (inl (inr (inr e))) h = rw e (has-append k (2 ∷ 3 ∷ 4 ∷ 5 ∷ []) (7 ∷ []) ∙ rw h)
+early-follows p k (inr e) h = rw e h
 
 late-follows : (p k : ℕ) → BeforeEnd p → (k ≡ 3) ⊎ (k ≡ 4) → mayFollow p k ≡ true
 unfolding mayFollow has
@@ -72,13 +83,20 @@ unfolding kindsFollow kind fields given
 end-kind p route h = both h (eq-eqb _ route (made-value 4 (route ∷ []) refl routeField))
 
 module _ (route : ℕ) (rest : List Record) where
+  fact-kinds : (p : ℕ) (ms : List ℕ) → BeforeFact p → ((q : ℕ) → BeforeFact q → kindsFollow q route rest ≡ true)
+      → kindsFollow p route (map factRecord ms ++ rest) ≡ true
+  unfolding kind
+  fact-kinds p [] h k = k p h
+  fact-kinds p (m ∷ ms) h k =
+      kinds-on p route (factRecord m) (map factRecord ms ++ rest) (fact-follows p h) refl (fact-kinds 7 ms (inr (inr refl)) k)
+
   condition-kinds : (p : ℕ) (ms : List ℕ) → BeforeAnswers p → ((q : ℕ) → BeforeAnswers q → kindsFollow q route rest ≡ true)
       → kindsFollow p route (map conditionRecord ms ++ rest) ≡ true
   unfolding kind has
   condition-kinds p [] h k = k p h
   condition-kinds p (m ∷ ms) h k =
       kinds-on p route (conditionRecord m) (map conditionRecord ms ++ rest) (early-follows p 2 h refl) refl
-      (condition-kinds 2 ms (inr (inl refl)) k)
+      (condition-kinds 2 ms (inr refl) k)
 
   answer-kinds : (j p : ℕ) (ms : List ℕ) → BeforeEnd p → ((q : ℕ) → BeforeEnd q → kindsFollow q route rest ≡ true)
       → kindsFollow p route (map (answerRecord j) ms ++ rest) ≡ true
@@ -105,25 +123,28 @@ verdict-kinds U n p route (solved a) h =
 verdict-kinds U n p route (none state) h =
     kinds-on p route (noneRecord (state .0)) (endRecord route ∷ []) (early-follows p 5 h refl) refl (end-kind 5 route refl)
 
--- the condition and the verdict, behind the start or the order
-pub told-kinds : (p route : ℕ) (c : Condition) (v : Verdict (List ℕ)) → BeforeAnswers p
-    → kindsFollow p route (conditionRecords c ++ (verdictRecords (c .U) (width c) v ++ (endRecord route ∷ []))) ≡ true
-unfolding conditionRecords
+-- the fact, the condition and the verdict, behind the start or the order
+pub told-kinds : (p route : ℕ) (c : Condition) (v : Verdict (List ℕ)) → BeforeFact p
+    → kindsFollow p route
+    (factRecords c ++ (conditionRecords c ++ (verdictRecords (c .U) (width c) v ++ (endRecord route ∷ [])))) ≡ true
+unfolding factRecords conditionRecords
 told-kinds p route c v h =
-    condition-kinds route (verdictRecords (c .U) (width c) v ++ (endRecord route ∷ [])) p (monomials (width c) (present (c .table))) h
-    (λ q o. verdict-kinds (c .U) (width c) q route v o)
+    fact-kinds route _ p (monomials (width c) (present (c .fact))) h
+    (λ q o. condition-kinds route (verdictRecords (c .U) (width c) v ++ (endRecord route ∷ [])) q
+    (monomials (width c) (present (c .table))) (inl o) (λ r l. verdict-kinds (c .U) (width c) r route v l))
 
 order-kinds : (route : ℕ) (c : Condition) (v : Verdict (List ℕ))
-    → kindsFollow 1 route (orderRecords c ++ (conditionRecords c ++ (verdictRecords (c .U) (width c) v ++ (endRecord route ∷ [])))) ≡ true
+    → kindsFollow 1 route
+    (orderRecords c ++ (factRecords c ++ (conditionRecords c ++ (verdictRecords (c .U) (width c) v ++ (endRecord route ∷ []))))) ≡ true
 unfolding orderRecords kind mayFollow has
 order-kinds route c v = go (isDefault (c .U) (orderBytes (c .order)))
   where
     rest : List Record
-    rest = conditionRecords c ++ (verdictRecords (c .U) (width c) v ++ (endRecord route ∷ []))
+    rest = factRecords c ++ (conditionRecords c ++ (verdictRecords (c .U) (width c) v ++ (endRecord route ∷ [])))
 
     go : (b : Bool) → kindsFollow 1 route (cond b [] (orderRecord (c .order) ∷ []) ++ rest) ≡ true
     go true = told-kinds 1 route c v (inl refl)
-    go false = kinds-on 1 route (orderRecord (c .order)) rest refl refl (told-kinds 6 route c v (inr (inr refl)))
+    go false = kinds-on 1 route (orderRecord (c .order)) rest refl refl (told-kinds 6 route c v (inr (inl refl)))
 
 pub entry-kinds : (route : ℕ) (c : Condition) (v : Verdict (List ℕ)) → kindsFit (entryRecords route c v) ≡ true
 unfolding kindsFit entryRecords kind mayFollow
@@ -140,7 +161,7 @@ fits-on : (U G q : ℕ) (r : Record) (rs : List Record) → isMonomial r ≡ fal
 unfolding fitsBehind standsBehind
 fits-on U G q r rs o b k = both b (rw (place-other r o) k)
 
-module _ (U G i : ℕ) (l : U + G ≤ 10) (u : i ≤ U) where
+module _ (U G i : ℕ) (l : U + G ≤ 10) (u : i ≤ suc U) where
   fits-behind-all : (q : ℕ) (ms : List ℕ) (rest : List Record) → rises ms ≡ true → ((m : ℕ) → has m ms ≡ true → m < 2 ^ (U + G))
       → ((m : ℕ) → has m ms ≡ true → q < place i m) → q ≤ 16384 * suc i → ((p : ℕ) → p ≤ 16384 * suc i → fitsBehind U G p rest ≡ true)
       → fitsBehind U G q (map (monomialRecord i) ms ++ rest) ≡ true
@@ -165,21 +186,21 @@ module _ (U G i : ℕ) (l : U + G ≤ 10) (u : i ≤ U) where
       (λ m e. omega (arith, place-least i m)) (omega arith) k
 
 module _ (U G : ℕ) (l : U + G ≤ 10) where
-  answers-fit : (j : ℕ) (a : List ℕ) (q : ℕ) (rest : List Record) → j ≤ U → q ≤ 16384
-      → ((p : ℕ) → p ≤ 16384 * suc j → fitsBehind U G p rest ≡ true)
+  answers-fit : (j : ℕ) (a : List ℕ) (q : ℕ) (rest : List Record) → j ≤ U → q ≤ 16384 * 2
+      → ((p : ℕ) → p ≤ 16384 * suc (suc j) → fitsBehind U G p rest ≡ true)
       → fitsBehind U G q (answerRecords j (U + G) a ++ rest) ≡ true
   unfolding answerRecords
   answers-fit zero a q rest hj hq k = k q (omega arith)
   answers-fit (suc j) a q rest hj hq k =
       rw (append-assoc (answerRecords j (U + G) a) (map (answerRecord j) (monomials (U + G) (held (U + G) a j))) rest)
       (answers-fit j a q (map (answerRecord j) (monomials (U + G) (held (U + G) a j)) ++ rest) (omega arith) hq
-      (λ p h. fits-table U G (suc j) l hj p (held (U + G) a j) rest h k))
+      (λ p h. fits-table U G (suc (suc j)) l (omega (arith, hj)) p (held (U + G) a j) rest h k))
 
   end-fits : (q route : ℕ) → fitsBehind U G q (endRecord route ∷ []) ≡ true
   unfolding fitsBehind kind fields among allFit
   end-fits q route = fits-on U G q (endRecord route) [] refl (made-fits 4 (route ∷ []) refl refl U G) refl
 
-  verdict-fits : (v : Verdict (List ℕ)) (q route : ℕ) → VerdictFits U G v → q ≤ 16384
+  verdict-fits : (v : Verdict (List ℕ)) (q route : ℕ) → VerdictFits U G v → q ≤ 16384 * 2
       → fitsBehind U G q (verdictRecords U (U + G) v ++ (endRecord route ∷ [])) ≡ true
   unfolding verdictRecords kind fields among allFit
   verdict-fits (solved a) q route s h = answers-fit U a q (endRecord route ∷ []) (omega arith) h (λ p b. end-fits p route)
@@ -194,19 +215,22 @@ order-bounds U G order e = rw e
 
 module _ (c : Condition) (l : width c ≤ 10) (route : ℕ) (v : Verdict (List ℕ)) (s : VerdictFits (c .U) (c .G) v) where
   pub entry-places : fitsBehind (c .U) (c .G) 0 (entryRecords route c v) ≡ true
-  unfolding entryRecords orderRecords conditionRecords kind fields among allFit
+  unfolding entryRecords orderRecords factRecords conditionRecords kind fields among allFit
   entry-places =
       fits-on (c .U) (c .G) 0 (startRecord route (c .U) (c .G)) _ refl (made-fits 1 (route ∷ c .U ∷ c .G ∷ []) refl refl (c .U) (c .G))
       (go (isDefault (c .U) (orderBytes (c .order))) refl)
     where
+      behind : List Record
+      behind = verdictRecords (c .U) (width c) v ++ (endRecord route ∷ [])
+
       rest : List Record
-      rest = conditionRecords c ++ (verdictRecords (c .U) (width c) v ++ (endRecord route ∷ []))
+      rest = factRecords c ++ (conditionRecords c ++ behind)
 
       told : fitsBehind (c .U) (c .G) 0 rest ≡ true
       told =
-          fits-table (c .U) (c .G) 0 l (omega arith) 0 (present (c .table)) (verdictRecords (c .U) (width c) v ++ (endRecord route ∷ []))
-          (omega arith)
-          (λ p h. verdict-fits (c .U) (c .G) l v p route s (omega arith))
+          fits-table (c .U) (c .G) 0 l (omega arith) 0 (present (c .fact)) (conditionRecords c ++ behind) (omega arith)
+          (λ q k. fits-table (c .U) (c .G) 1 l (omega arith) q (present (c .table)) behind (omega arith)
+          (λ p h. verdict-fits (c .U) (c .G) l v p route s (omega arith)))
 
       go : (b : Bool) → isDefault (c .U) (orderBytes (c .order)) ≡ b
           → fitsBehind (c .U) (c .G) 0 (cond b [] (orderRecord (c .order) ∷ []) ++ rest) ≡ true

@@ -1,10 +1,10 @@
 -- What a record says, byte by byte, as the code looks at it; and which kinds have which fields.
 -- Assumes nothing.
-use mathlib.Core.Path.{_≡_, refl, sym, ap, _∙_}
+use mathlib.Core.Path.{_≡_, refl, ap, _∙_}
 use mathlib.Core.Bool.{Bool, true, false, _&&_, _||_, not, cond, and-true}
 use mathlib.Core.List.{List, [], _∷_}
 use mathlib.Core.Logic.{_⊎_, inl, inr}
-use Prim.Native.Nat.{ℕ, zero, suc, _+_, _*_, _≤_, _<_}
+use Prim.Native.Nat.{ℕ, suc, _+_, _*_}
 use native.Mathlib.Omega.{arith}
 use lib.Dec.{eqb}
 use lib.ListN.{length, getD, take, drop}
@@ -12,9 +12,9 @@ use lib.Seq.{drop-drop, getD-drop}
 use borrow.Author.Tests.{eqb-true}
 use Rattle.ring.specs.Polynomial.{everyBelow}
 use Rattle.ring.specs.Lists.{has}
-use Rattle.ring.proofs.Bool.{or-cases, bool-cases, never}
+use Rattle.ring.proofs.Bool.{bool-cases, never}
 use Rattle.entry.specs.Record.{Record, Field, routeField, unknownsField, givensField, unknownField, maskField, stateField, orderField}
-use Rattle.entry.specs.Record.{layout, fields, width, widths, size, kind, fromLowFirst, sameField, among, valueIn, valueOf, fieldFits}
+use Rattle.entry.specs.Record.{layout, fields, width, size, kind, fromLowFirst, sameField, among, valueIn, valueOf, fieldFits}
 use Rattle.entry.specs.Record.{bodyFits, isOrder, isDefault, isNeeded, inBounds}
 use Rattle.entry.proofs.Made.{every-kind, needed-other}
 
@@ -44,9 +44,10 @@ module _ (r : Record) where
   unfolding valueOf valueIn fields
   start-givens e = rw (e, drop-drop 1 1 r, drop-drop 1 2 r) (one-byte (drop 3 r) ∙ getD-drop 3 r 0 0)
 
-  pub condition-mask : kind r ≡ 2 → valueOf maskField r ≡ getD r 1 0 + 256 * getD r 2 0
-  unfolding valueOf valueIn fields
-  condition-mask e = rw e (two-bytes (drop 1 r) ∙ rw (getD-drop 1 r 0 0, getD-drop 1 r 1 0))
+  -- a mask alone, as in kinds 2 and 7
+  pub mask-alone : fields (kind r) ≡ maskField ∷ [] → valueOf maskField r ≡ getD r 1 0 + 256 * getD r 2 0
+  unfolding valueOf valueIn
+  mask-alone e = rw e (two-bytes (drop 1 r) ∙ rw (getD-drop 1 r 0 0, getD-drop 1 r 1 0))
 
   pub answer-unknown : kind r ≡ 3 → valueOf unknownField r ≡ getD r 1 0
   unfolding valueOf valueIn fields
@@ -129,9 +130,9 @@ in-bounds U G r h = rw (body-unbounded U G (fields (kind r)) (drop 1 r) h)
 
 -- 12, of each kind that has bounds
 module _ (U G : ℕ) (r : Record) where
-  pub condition-fits : kind r ≡ 2 → inBounds U G r ≡ fieldFits U G maskField (valueOf maskField r)
-  unfolding inBounds bodyFits valueOf valueIn fields
-  condition-fits e = let n : isOrder r ≡ false = rw e in rw (needed-other U r n, e) (and-true _ ∙ and-true _)
+  pub mask-fits : fields (kind r) ≡ maskField ∷ [] → isOrder r ≡ false → inBounds U G r ≡ fieldFits U G maskField (valueOf maskField r)
+  unfolding inBounds bodyFits valueOf valueIn
+  mask-fits e n = rw (needed-other U r n, e) (and-true _ ∙ and-true _)
 
   pub answer-fits : kind r ≡ 3
       → inBounds U G r ≡ (fieldFits U G unknownField (valueOf unknownField r) && fieldFits U G maskField (valueOf maskField r))

@@ -1,7 +1,7 @@
 -- A written entry holds what it was written from: the condition, and the answers or 'none' and the state.
 -- Assumes nothing.
 use mathlib.Core.Path.{_≡_, refl, sym, ap, _∙_}
-use mathlib.Core.Bool.{Bool, true, false, _&&_, _||_, cond, and-true, and-false, or-false, or-assoc, and-or-distrib-left}
+use mathlib.Core.Bool.{Bool, true, false, _&&_, _||_, cond, and-true, or-false, or-assoc}
 use mathlib.Core.List.{List, [], _∷_, _++_, map}
 use mathlib.Core.Logic.{_⊎_, inl, inr}
 use Prim.Native.Nat.{ℕ, zero, suc, _+_, _^_, _<_}
@@ -9,8 +9,9 @@ use native.Mathlib.Omega.{arith}
 use lib.Dec.{eqb, ltb}
 use borrow.Author.Tests.{lt-ltb, le-ltb, ltb-true, eqb-true, eqb-false, ne-eqb}
 use Rattle.ring.specs.declared.State.{State}
+use Rattle.ring.specs.Polynomial.{Polynomial}
 use Rattle.ring.specs.Table.{IsTable, present, table, held, answerTable}
-use Rattle.ring.specs.Lists.{listed, has}
+use Rattle.ring.specs.Lists.{has}
 use Rattle.ring.proofs.Bool.{bool-iff, bool-cases}
 use Rattle.ring.proofs.Value.{value-cong}
 use Rattle.ring.proofs.Table.{is-table, same-table, present-tabulate, table-cong, answerTable-cong}
@@ -20,10 +21,10 @@ use Rattle.solution.specs.Condition.{Condition, width}
 use Rattle.solution.specs.Order.{orderBytes}
 use Rattle.solution.specs.Elimination.{Verdict, solved, none}
 use Rattle.entry.specs.Record.{Record, routeField, unknownsField, givensField, maskField, stateField, fields, kind, among, valueOf}
-use Rattle.entry.specs.Record.{isNone, isMonomial, tableIn, isDefault, startRecord, conditionRecord, answerRecord, endRecord}
-use Rattle.entry.specs.Record.{noneRecord, orderRecord}
-use Rattle.entry.specs.Entry.{orderRecords, conditionRecords, answerRecords, verdictRecords, entryRecords}
-use Rattle.entry.specs.Held.{routeOf, unknownsOf, givensOf, hasMonomial, conditionIn, answersIn, unlessNone, heldCondition}
+use Rattle.entry.specs.Record.{isNone, isMonomial, tableIn, isDefault, answerRecord, endRecord}
+use Rattle.entry.specs.Record.{orderRecord}
+use Rattle.entry.specs.Entry.{orderRecords, factRecords, conditionRecords, answerRecords, verdictRecords, entryRecords}
+use Rattle.entry.specs.Held.{routeOf, unknownsOf, givensOf, hasMonomial, factIn, conditionIn, answersIn, unlessNone}
 use Rattle.entry.specs.Held.{heldVerdict}
 use Rattle.entry.specs.Inner.Codes.{monomialRecord}
 use Rattle.entry.proofs.Made.{given, made-value, AllMade, all-made-append, made-is}
@@ -39,34 +40,34 @@ monomial-append i m (r ∷ rs) ss =
     ap (λ (b : Bool). (isMonomial r && (eqb i (tableIn r) && eqb m (valueOf maskField r))) || b) (monomial-append i m rs ss)
     ∙ sym (or-assoc (isMonomial r && (eqb i (tableIn r) && eqb m (valueOf maskField r))) (hasMonomial i m rs) (hasMonomial i m ss))
 
--- the answers have nothing of the condition ..
-no-condition : (k n m : ℕ) (a : List ℕ) → hasMonomial 0 m (answerRecords k n a) ≡ false
+-- the answers have nothing of the fact or the condition ..
+no-condition : (i k n m : ℕ) (a : List ℕ) → i < 2 → hasMonomial i m (answerRecords k n a) ≡ false
 unfolding answerRecords hasMonomial
-no-condition zero n m a = refl
-no-condition (suc j) n m a =
-    monomial-append 0 m (answerRecords j n a) (map (answerRecord j) (monomials n (held n a j)))
+no-condition i zero n m a h = refl
+no-condition i (suc j) n m a h =
+    monomial-append i m (answerRecords j n a) (map (answerRecord j) (monomials n (held n a j)))
     ∙ rw (
-      no-condition j n m a,
-      table-monomials 0 m (suc j) (monomials n (held n a j)),
-      ne-eqb 0 (suc j)
-          (λ (e : 0 ≡ suc j). absurd (omega arith)),
+      no-condition i j n m a h,
+      table-monomials i m (suc (suc j)) (monomials n (held n a j)),
+      ne-eqb i (suc (suc j))
+          (λ (e : i ≡ suc (suc j)). absurd (omega arith)),
     )
 
 -- .. and for each unknown those of its answer
 pub answers-monomials : (k n i m : ℕ) (a : List ℕ)
-    → hasMonomial (suc i) m (answerRecords k n a) ≡ (ltb i k && has m (monomials n (held n a i)))
+    → hasMonomial (suc (suc i)) m (answerRecords k n a) ≡ (ltb i k && has m (monomials n (held n a i)))
 unfolding answerRecords hasMonomial
 answers-monomials zero n i m a = rw (le-ltb i 0 (omega arith))
 answers-monomials (suc j) n i m a =
-    monomial-append (suc i) m (answerRecords j n a) (map (answerRecord j) (monomials n (held n a j)))
-    ∙ rw (answers-monomials j n i m a, table-monomials (suc i) m (suc j) (monomials n (held n a j)))
-    (last (bool-cases (eqb (suc i) (suc j))))
+    monomial-append (suc (suc i)) m (answerRecords j n a) (map (answerRecord j) (monomials n (held n a j)))
+    ∙ rw (answers-monomials j n i m a, table-monomials (suc (suc i)) m (suc (suc j)) (monomials n (held n a j)))
+    (last (bool-cases (eqb (suc (suc i)) (suc (suc j)))))
   where
-    last : (eqb (suc i) (suc j) ≡ true) ⊎ (eqb (suc i) (suc j) ≡ false)
-        → ((ltb i j && has m (monomials n (held n a i))) || (eqb (suc i) (suc j) && has m (monomials n (held n a j))))
+    last : (eqb (suc (suc i)) (suc (suc j)) ≡ true) ⊎ (eqb (suc (suc i)) (suc (suc j)) ≡ false)
+        → ((ltb i j && has m (monomials n (held n a i))) || (eqb (suc (suc i)) (suc (suc j)) && has m (monomials n (held n a j))))
         ≡ (ltb i (suc j) && has m (monomials n (held n a i)))
     last (inl e) =
-        let q : suc i ≡ suc j = eqb-true _ _ e in
+        let q : suc (suc i) ≡ suc (suc j) = eqb-true _ _ e in
         let p : i ≡ j = omega arith in
         rw (e, lt-ltb i (suc j) (omega arith), le-ltb i j (omega arith)) (ap (λ (x : ℕ). has m (monomials n (held n a x))) (sym p))
     last (inr e) =
@@ -74,9 +75,9 @@ answers-monomials (suc j) n i m a =
         (or-false (ltb i j && has m (monomials n (held n a i)))
         ∙ ap (λ (b : Bool). b && has m (monomials n (held n a i)))
         (bool-iff (ltb i j) (ltb i (suc j)) (λ l. lt-ltb i (suc j) (omega (arith, ltb-true i j l)))
-        (λ l. lt-ltb i j (other (ltb-true i (suc j) l) (eqb-false (suc i) (suc j) e)))))
+        (λ l. lt-ltb i j (other (ltb-true i (suc j) l) (eqb-false (suc (suc i)) (suc (suc j)) e)))))
       where
-        other : i < suc j → (suc i ≡ suc j → ⊥) → i < j
+        other : i < suc j → (suc (suc i) ≡ suc (suc j) → ⊥) → i < j
         other l n = omega arith
 
 -- ---- those of an entry
@@ -85,7 +86,7 @@ unfolding answerRecords AllMade
 answers-made zero n a = tt
 answers-made (suc j) n a =
     all-made-append (answerRecords j n a) (map (answerRecord j) (monomials n (held n a j))) (answers-made j n a)
-    (monomials-made (suc j) (monomials n (held n a j)))
+    (monomials-made (suc (suc j)) (monomials n (held n a j)))
 
 verdict-made : (U n : ℕ) (v : Verdict (List ℕ)) → AllMade (verdictRecords U n v)
 unfolding verdictRecords AllMade fields
@@ -123,58 +124,83 @@ module _ (route : ℕ) (c : Condition) (v : Verdict (List ℕ)) where
   unfolding entryRecords fields given
   entry-givens = made-value 1 (route ∷ c .U ∷ c .G ∷ []) refl givensField
 
-  -- every one of its records is made
-  pub entry-made : AllMade (entryRecords route c v)
-  unfolding entryRecords conditionRecords AllMade fields
-  entry-made = (
-    made-is 1 (route ∷ c .U ∷ c .G ∷ []) refl,
-    all-made-append (orderRecords c) _ (order-made c)
-        (all-made-append (map conditionRecord (monomials (width c) (present (c .table)))) _
-        (monomials-made 0 (monomials (width c) (present (c .table))))
-        (all-made-append (verdictRecords (c .U) (width c) v) _ (verdict-made (c .U) (width c) v) (made-is 4 (route ∷ []) refl, tt))),
-  )
-
   abbrev told : List Record
   told = verdictRecords (c .U) (width c) v
 
-  pub entry-monomials : (i m : ℕ)
-      → hasMonomial i m (entryRecords route c v) ≡ ((eqb i 0 && has m (monomials (width c) (present (c .table)))) || hasMonomial i m told)
-  unfolding entryRecords conditionRecords hasMonomial kind fields among
-  entry-monomials i m =
-      monomial-append i m (orderRecords c) (conditionRecords c ++ (told ++ (endRecord route ∷ [])))
-      ∙ rw (order-monomials i m c)
-      (monomial-append i m (map conditionRecord (monomials (width c) (present (c .table)))) (told ++ (endRecord route ∷ []))
-      ∙ rw (table-monomials i m 0 (monomials (width c) (present (c .table))), monomial-append i m told (endRecord route ∷ []))
-      (ap (λ (b : Bool). (eqb i 0 && has m (monomials (width c) (present (c .table)))) || b) (or-false (hasMonomial i m told))))
+  -- every one of its records is made
+  pub entry-made : AllMade (entryRecords route c v)
+  unfolding entryRecords factRecords conditionRecords AllMade fields
+  entry-made = (
+    made-is 1 (route ∷ c .U ∷ c .G ∷ []) refl,
+    all-made-append (orderRecords c) (factRecords c ++ (conditionRecords c ++ (told ++ (endRecord route ∷ [])))) (order-made c)
+        (all-made-append (factRecords c) (conditionRecords c ++ (told ++ (endRecord route ∷ [])))
+        (monomials-made 0 (monomials (width c) (present (c .fact))))
+        (all-made-append (conditionRecords c) (told ++ (endRecord route ∷ []))
+        (monomials-made 1 (monomials (width c) (present (c .table))))
+        (all-made-append told (endRecord route ∷ []) (verdict-made (c .U) (width c) v) (made-is 4 (route ∷ []) refl, tt)))),
+  )
 
-  pub verdict-no-condition : (m : ℕ) (w : Verdict (List ℕ)) → hasMonomial 0 m (verdictRecords (c .U) (width c) w) ≡ false
+  pub entry-monomials : (i m : ℕ)
+      → hasMonomial i m (entryRecords route c v)
+      ≡ ((eqb i 0 && has m (monomials (width c) (present (c .fact))))
+      || ((eqb i 1 && has m (monomials (width c) (present (c .table)))) || hasMonomial i m told))
+  unfolding entryRecords factRecords conditionRecords hasMonomial kind fields among
+  entry-monomials i m =
+      monomial-append i m (orderRecords c) (factRecords c ++ (conditionRecords c ++ (told ++ (endRecord route ∷ []))))
+      ∙ rw (order-monomials i m c)
+      (monomial-append i m (factRecords c) (conditionRecords c ++ (told ++ (endRecord route ∷ [])))
+      ∙ rw (
+        table-monomials i m 0 (monomials (width c) (present (c .fact))),
+        monomial-append i m (conditionRecords c) (told ++ (endRecord route ∷ [])),
+        table-monomials i m 1 (monomials (width c) (present (c .table))),
+        monomial-append i m told (endRecord route ∷ []),
+        or-false (hasMonomial i m told),
+      ))
+
+  pub verdict-no-condition : (i m : ℕ) (w : Verdict (List ℕ)) → i < 2 → hasMonomial i m (verdictRecords (c .U) (width c) w) ≡ false
   unfolding verdictRecords hasMonomial kind fields among
-  verdict-no-condition m (solved a) = no-condition (c .U) (width c) m a
-  verdict-no-condition m (none state) = refl
+  verdict-no-condition i m (solved a) h = no-condition i (c .U) (width c) m a h
+  verdict-no-condition i m (none state) h = refl
+
+  -- the fact's
+  pub fact-held : (m : ℕ) → m < 2 ^ width c → factIn (entryRecords route c v) m ≡ present (c .fact) m
+  unfolding factIn
+  fact-held m l =
+      entry-monomials 0 m
+      ∙ rw (verdict-no-condition 0 m v (omega arith), has-monomials (width c) (present (c .fact)) m, lt-ltb m (2 ^ width c) l)
+      (or-false (present (c .fact) m && true) ∙ and-true (present (c .fact) m))
 
   -- the condition's
   pub condition-held : (m : ℕ) → m < 2 ^ width c → conditionIn (entryRecords route c v) m ≡ present (c .table) m
   unfolding conditionIn
   condition-held m l =
-      entry-monomials 0 m
-      ∙ rw (verdict-no-condition m v, has-monomials (width c) (present (c .table)) m, lt-ltb m (2 ^ width c) l)
+      entry-monomials 1 m
+      ∙ rw (verdict-no-condition 1 m v (omega arith), has-monomials (width c) (present (c .table)) m, lt-ltb m (2 ^ width c) l)
       (or-false (present (c .table) m && true) ∙ and-true (present (c .table) m))
 
-  pub table-back : IsTable (width c) (c .table) → table (width c) (conditionIn (entryRecords route c v)) ≡ c .table
+  -- a polynomial with the monomials of a table has that table
+  again : (f : Polynomial) (t : List ℕ) → IsTable (width c) t → ((m : ℕ) → m < 2 ^ width c → f m ≡ present t m) → table (width c) f ≡ t
   unfolding table
-  table-back is =
-      table-cong (width c) (conditionIn (entryRecords route c v)) (present (c .table)) condition-held
-      ∙ same-table (width c) _ (c .table) (is-table (width c) (present (c .table))) is
-      (λ p l. value-cong (width c) _ _ p (λ m h. present-tabulate (2 ^ width c) (present (c .table)) m h))
+  again f t is same =
+      table-cong (width c) f (present t) same
+      ∙ same-table (width c) _ t (is-table (width c) (present t)) is
+      (λ p l. value-cong (width c) _ _ p (λ m h. present-tabulate (2 ^ width c) (present t) m h))
+
+  pub fact-back : IsTable (width c) (c .fact) → table (width c) (factIn (entryRecords route c v)) ≡ c .fact
+  fact-back is = again _ (c .fact) is fact-held
+
+  pub table-back : IsTable (width c) (c .table) → table (width c) (conditionIn (entryRecords route c v)) ≡ c .table
+  table-back is = again _ (c .table) is condition-held
 
 -- each answer's
 pub answers-held : (route : ℕ) (c : Condition) (a : List ℕ) (j m : ℕ) → j < c .U → m < 2 ^ width c
     → answersIn (entryRecords route c (solved a)) j m ≡ held (width c) a j m
 unfolding answersIn verdictRecords
 answers-held route c a j m h l =
-    entry-monomials route c (solved a) (suc j) m
+    entry-monomials route c (solved a) (suc (suc j)) m
     ∙ rw (
-      ne-eqb (suc j) 0 (λ (e : suc j ≡ 0). absurd (omega arith)),
+      ne-eqb (suc (suc j)) 0 (λ (e : suc (suc j) ≡ 0). absurd (omega arith)),
+      ne-eqb (suc (suc j)) 1 (λ (e : suc (suc j) ≡ 1). absurd (omega arith)),
       answers-monomials (c .U) (width c) j m a,
       lt-ltb j
           (c .U) h,
@@ -215,18 +241,19 @@ module _ {A : Type 0} (a : A) where
   answers-unless zero n b = refl
   answers-unless (suc j) n b =
       unless-append a (answerRecords j n b) (map (answerRecord j) (monomials n (held n b j))) (answers-unless j n b)
-      ∙ monomials-unless (suc j) (monomials n (held n b j))
+      ∙ monomials-unless (suc (suc j)) (monomials n (held n b j))
 
   module _ (route : ℕ) (c : Condition) where
     entry-unless : (v : Verdict (List ℕ))
         → unlessNone a (entryRecords route c v) ≡ unlessNone a (verdictRecords (c .U) (width c) v ++ (endRecord route ∷ []))
-    unfolding entryRecords conditionRecords unlessNone kind
+    unfolding entryRecords factRecords conditionRecords unlessNone kind
     entry-unless v =
-        unless-append a (orderRecords c) (conditionRecords c ++ (verdictRecords (c .U) (width c) v ++ (endRecord route ∷ [])))
+        unless-append a (orderRecords c) (factRecords c ++ (conditionRecords c ++ (verdictRecords (c .U) (width c) v ++ (endRecord route ∷ []))))
         (order-unless c)
-        ∙ unless-append a (map conditionRecord (monomials (width c) (present (c .table))))
-        (verdictRecords (c .U) (width c) v ++ (endRecord route ∷ []))
-        (monomials-unless 0 (monomials (width c) (present (c .table))))
+        ∙ unless-append a (factRecords c) (conditionRecords c ++ (verdictRecords (c .U) (width c) v ++ (endRecord route ∷ [])))
+        (monomials-unless 0 (monomials (width c) (present (c .fact))))
+        ∙ unless-append a (conditionRecords c) (verdictRecords (c .U) (width c) v ++ (endRecord route ∷ []))
+        (monomials-unless 1 (monomials (width c) (present (c .table))))
 
     pub solved-unless : (b : List ℕ) → unlessNone a (entryRecords route c (solved b)) ≡ solved a
     unfolding verdictRecords unlessNone kind

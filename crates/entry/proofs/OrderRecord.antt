@@ -1,11 +1,10 @@
 -- The kind 6 record that may stand behind the start, and the records behind it; and that a written entry holds its order.
 -- Assumes nothing.
 use mathlib.Core.Path.{_≡_, refl, sym, ap, ap₂, _∙_}
-use mathlib.Core.Bool.{Bool, true, false, _||_, cond, or-false}
+use mathlib.Core.Bool.{Bool, true, false, _||_, cond}
 use mathlib.Core.List.{List, [], _∷_, _++_}
 use mathlib.Core.Logic.{_⊎_, inl, inr, _↔_}
 use Prim.Native.Nat.{ℕ, _+_, _≤_}
-use native.Mathlib.Omega.{arith}
 use lib.Dec.{eqb}
 use lib.ListN.{take, drop}
 use borrow.Author.Tests.{eqb-true}
@@ -17,14 +16,14 @@ use Rattle.solution.specs.Condition.{Condition, width, defaultOrder, conditionO
 use Rattle.solution.specs.Order.{orderBytes, defaultBytes}
 use Rattle.solution.specs.Elimination.{Verdict}
 use Rattle.solution.proofs.Order.{default-each, take-orderBytes}
-use Rattle.entry.specs.Record.{Record, fields, kind, lowFirst, bodyOf, among, isEnd, isNone, isOrder, isMonomial, isDefault, isNeeded}
-use Rattle.entry.specs.Record.{inBounds, orderRecord, endRecord}
-use Rattle.entry.specs.Entry.{orderRecords, conditionRecords, verdictRecords, entryRecords}
+use Rattle.entry.specs.Record.{Record, fields, kind, lowFirst, bodyOf, isEnd, isOrder, isDefault}
+use Rattle.entry.specs.Record.{orderRecord, endRecord}
+use Rattle.entry.specs.Entry.{orderRecords, factRecords, conditionRecords, verdictRecords, entryRecords}
 use Rattle.entry.specs.Held.{first, second, unknownsOf, orderIn, heldCondition}
 use Rattle.entry.specs.Questions.{mayFollow, kindsFollow}
 use Rattle.entry.proofs.SameBytes.{bytes-same, same-bytes}
 use Rattle.entry.proofs.EntryPasses.{told-kinds}
-use Rattle.entry.proofs.Held.{entry-unknowns, entry-givens, table-back}
+use Rattle.entry.proofs.Held.{entry-unknowns, entry-givens, fact-back, table-back}
 
 -- ---- one that is made
 pub order-body : (order : List ℕ) → orderRecord order ≡ 6 ∷ orderBytes order
@@ -73,7 +72,7 @@ unfolding behindOrder
 behind-none [] e = refl
 behind-none (r ∷ rs) e = rw e
 
-not-six : (k : ℕ) → eqb k 6 ≡ false → has k (6 ∷ []) ≡ false
+not-six : (k : ℕ) → eqb k 6 ≡ false → has k (6 ∷ 7 ∷ []) ≡ has k (7 ∷ [])
 unfolding has
 not-six k e = rw e
 
@@ -92,9 +91,9 @@ behind-kinds route (r ∷ rs) k = go (bool-cases (isOrder r))
 
     same : isOrder r ≡ false → mayFollow 6 (kind r) ≡ true
     same e =
-        let h : (has (kind r) (2 ∷ 3 ∷ 4 ∷ 5 ∷ []) || has (kind r) (6 ∷ [])) ≡ true =
-        sym (has-append (kind r) (2 ∷ 3 ∷ 4 ∷ 5 ∷ []) (6 ∷ [])) ∙ and-left (mayFollow 1 (kind r)) _ k in
-        sym (or-false _) ∙ (rw (not-six (kind r) e) at h)
+        let h : (has (kind r) (2 ∷ 3 ∷ 4 ∷ 5 ∷ []) || has (kind r) (6 ∷ 7 ∷ [])) ≡ true =
+        sym (has-append (kind r) (2 ∷ 3 ∷ 4 ∷ 5 ∷ []) (6 ∷ 7 ∷ [])) ∙ and-left (mayFollow 1 (kind r)) _ k in
+        has-append (kind r) (2 ∷ 3 ∷ 4 ∷ 5 ∷ []) (7 ∷ []) ∙ (rw (not-six (kind r) e) at h)
 
     go : (isOrder r ≡ true) ⊎ (isOrder r ≡ false) → kindsFollow 6 route (cond (isOrder r) rs (r ∷ rs)) ≡ true
     go (inl e) =
@@ -111,13 +110,13 @@ order-of false r told d e n = rw e
 
 -- ---- a written entry
 module _ (route : ℕ) (c : Condition) (v : Verdict (List ℕ)) where
-  -- the condition and the verdict, and the end
+  -- the fact, the condition, the verdict and the end
   unfoldable pub toldRecords : List Record
-  toldRecords = conditionRecords c ++ (verdictRecords (c .U) (width c) v ++ (endRecord route ∷ []))
+  toldRecords = factRecords c ++ (conditionRecords c ++ (verdictRecords (c .U) (width c) v ++ (endRecord route ∷ [])))
 
   told-no-order : isOrder (first toldRecords) ≡ false
   unfolding toldRecords
-  told-no-order = no-order route toldRecords (told-kinds 6 route c v (inr (inr refl)))
+  told-no-order = no-order route toldRecords (told-kinds 6 route c v (inr (inl refl)))
 
   pub behind-order : behindOrder (orderRecords c ++ toldRecords) ≡ toldRecords
   unfolding orderRecords behindOrder
@@ -162,10 +161,11 @@ module _ (route : ℕ) (c : Condition) (v : Verdict (List ℕ)) where
       go true e = ap defaultBytes (entry-unknowns route c v) ∙ sym (bytes-same _ _ e)
       go false e = ap (drop 1) (order-body (c .order))
 
-  pub condition-back : c .U ≤ 6 → ListsEach (c .U) (c .order) → IsTable (width c) (c .table) → heldCondition (entryRecords route c v) ≡ c
+  pub condition-back : c .U ≤ 6 → ListsEach (c .U) (c .order) → IsTable (width c) (c .fact) → IsTable (width c) (c .table)
+      → heldCondition (entryRecords route c v) ≡ c
   unfolding heldCondition
-  condition-back few each is =
+  condition-back few each of-fact is =
       let u : unknownsOf (entryRecords route c v) ≡ c .U = entry-unknowns route c v in
       let o : take (unknownsOf (entryRecords route c v)) (orderIn (entryRecords route c v)) ≡ c .order =
       ap₂ (λ (k : ℕ) (bs : List ℕ). take k bs) u order-back ∙ take-orderBytes (c .U) (c .order) few each in
-      rw (o, entry-unknowns route c v, entry-givens route c v, table-back route c v is)
+      rw (o, entry-unknowns route c v, entry-givens route c v, fact-back route c v of-fact, table-back route c v is)

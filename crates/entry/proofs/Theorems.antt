@@ -2,25 +2,26 @@
 -- passes the audit is what the writer makes; and no entry is longer than document 01 says. Each holds for any bytes behind the entry.
 -- `calls` says them of the questions as each call puts them.
 -- Assumes nothing.
-use mathlib.Core.Path.{_≡_, refl, sym, ap, ap₂, _∙_}
+use mathlib.Core.Path.{_≡_, refl, sym, ap, _∙_}
 use mathlib.Core.Bool.{Bool, true, false, cond}
-use mathlib.Core.List.{List, [], _∷_, _++_}
+use mathlib.Core.List.{List, [], _++_}
 use mathlib.Core.Logic.{_↔_}
 use Prim.Native.Nat.{ℕ, _+_, _≤_}
-use lib.Dec.{eqb}
 use lib.ListN.{length, take}
 use borrow.Author.Tests.{eqb-true, eq-eqb}
+use Rattle.ring.specs.Table.{present}
 use Rattle.ring.proofs.Table.{held-answerTable}
-use Rattle.ring.proofs.Bool.{and-left, and-right, both, never}
+use Rattle.ring.proofs.Bool.{never}
 use Rattle.tables.specs.Questions.{lettersFit}
-use Rattle.tables.proofs.Questions.{letters-small, unknowns-small}
+use Rattle.tables.proofs.Questions.{letters-small, unknowns-small, givens-small}
+use Rattle.solution.specs.Fact.{hasNoUnknown}
 use Rattle.solution.specs.Condition.{Condition, width, polynomial, defaultOrder, IsOrder}
 use Rattle.solution.specs.Order.{orderBytes}
 use Rattle.solution.specs.Elimination.{Verdict, solved, none, solve, solvable, booleAnswers, booleTable, smallestBlocked}
 use Rattle.solution.specs.General.{RightVerdict}
 use Rattle.solution.proofs.Order.{each-order, bytes-fit}
 use Rattle.solution.proofs.Verdict.{AreBooles, right-solved, right-none}
-use Rattle.entry.specs.Record.{Record, isOrder, AreBytes, sameBytes, bytes}
+use Rattle.entry.specs.Record.{Record, isOrder, AreBytes, bytes}
 use Rattle.entry.specs.Entry.{entryRecords, archivedRecords, entry, Archivable}
 use Rattle.entry.specs.Held.{records, second, routeOf, unknownsOf, givensOf, orderIn, answersIn, says, heldCondition, heldVerdict}
 use Rattle.entry.specs.Questions.{sameVerdict, answersHold}
@@ -79,6 +80,7 @@ written route c a =
     let r : routeOf (archivedRecords route c) ≡ route = entry-route route c (solve c) in
     let o : orderIn (archivedRecords route c) ≡ orderBytes (c .order) = order-back route c (solve c) in
     let few : c .U ≤ 6 = unknowns-small (c .U) (c .G) (a .letters) in
+    let h : heldCondition (archivedRecords route c) ≡ c = condition-back route c (solve c) few (a .of-order) (a .of-fact .is-table) (a .of-table) in
     record {
       passes = record {
         whole = entry-has-end route c (solve c);
@@ -87,18 +89,20 @@ written route c a =
         route = rw r (a .of-route);
         numbers = entry-numbers c (letters-small (c .U) (c .G) (a .letters)) route (solve c) (solve-fits c (archived-order route c a));
         order = rw (u, o) (bytes-fit (c .U) (c .order) few (a .of-order));
+        fact-letters = rw (h, u, g) (a .of-fact .givens);
+        fact-states = rw (h, u, g) (a .of-fact .states);
       };
       of-route = r;
       of-unknowns = u;
       of-givens = g;
       of-order = o;
-      condition = condition-back route c (solve c) few (a .of-order) (a .of-table);
+      condition = h;
       verdict = verdict-back route c (solve c) (solve-fits c (archived-order route c a));
       used = refl;
     }
 
--- demand 2: a written entry, with any bytes behind it, reads back: the route, U, G, the order, the condition, solved or 'none' and the
--- state, the answers, and the length used
+-- demand 2: a written entry, with any bytes behind it, reads back: the route, U, G, the order, the fact, the condition, solved or 'none'
+-- and the state, the answers, and the length used
 pub reads-back : (route : ℕ) (c : Condition) (behind : List ℕ) → Archivable route c → ReadsBack route c (records (entry route c ++ behind))
 reads-back route c behind a = rw (entry-records route c behind) (written route c a)
 
@@ -107,7 +111,7 @@ pub no-order-exactly : (route : ℕ) (c : Condition) → Archivable route c
     → (isOrder (second (archivedRecords route c)) ≡ false) ↔ (c .order ≡ defaultOrder (c .U))
 no-order-exactly route c a = no-record-exactly route c (solve c) (unknowns-small (c .U) (c .G) (a .letters)) (a .of-order)
 
--- one entry is of one route and one condition, with one order
+-- one entry is of one route and one condition, with one fact and one order
 pub one-form : (route : ℕ) (c : Condition) (other-route : ℕ) (d : Condition) → Archivable route c → Archivable other-route d
     → entry route c ≡ entry other-route d → (route ≡ other-route) × (c ≡ d)
 one-form route c other-route d a b e =
@@ -115,7 +119,7 @@ one-form route c other-route d a b e =
     let y : ReadsBack other-route d (records (entry route c ++ [])) = rw e (reads-back other-route d [] b) in
     (sym (x .of-route) ∙ y .of-route, sym (x .condition) ∙ y .condition)
 
--- bytes that pass questions 10, 11, 1, 2, 12 and 17 are, as far as they are used, the bytes of the entry of what they hold
+-- bytes that pass questions 10, 11, 1, 2, 12, 17, 22 and 23 are, as far as they are used, the bytes of the entry of what they hold
 pub accepted-canonical : (bs : List ℕ) → AreBytes bs → Passes (records bs)
     → take (length (bytes (records bs))) bs
     ≡ bytes (entryRecords (routeOf (records bs)) (heldCondition (records bs)) (heldVerdict (records bs)))
@@ -135,7 +139,7 @@ pub same-verdict : (v : Verdict (List ℕ)) → sameVerdict v v ≡ true
 same-verdict (solved a) = same-bytes a
 same-verdict (none state) = eq-eqb (state .0) (state .0) refl
 
--- demand 2: 'Bytes that pass the audit are exactly those that the writer makes'. If each of 10, 11, 1, 2, 12, 17, 13 is answered yes, the
+-- demand 2: 'Bytes that pass the audit are exactly those that the writer makes'. If each of 10, 11, 1, 2, 12, 17, 22, 23, 13 is answered yes, the
 -- bytes, as far as they are used, are the entry of the route and condition that reading them gives ..
 pub audited-entry : (bs : List ℕ) → AreBytes bs → Passes (records bs) → answersHold (records bs) ≡ true
     → take (length (bytes (records bs))) bs ≡ entry (routeOf (records bs)) (heldCondition (records bs))
@@ -153,7 +157,10 @@ entry-holds route c behind a =
     let r : ReadsBack route c (records (entry route c ++ behind)) = reads-back route c behind a in
     rw (r .verdict, r .condition) (same-verdict (solve c))
 
--- 'The bound on an entry grows to 27,661 bytes'
-pub entry-bound : (route : ℕ) (c : Condition) → lettersFit (c .U) (c .G) ≡ true → length (entry route c) ≤ 27661
+-- 'The bound on an entry is now 27,709 bytes'
+pub entry-bound : (route : ℕ) (c : Condition) → lettersFit (c .U) (c .G) ≡ true
+    → hasNoUnknown (c .U) (width c) (present (c .fact)) ≡ true → length (entry route c) ≤ 27709
 unfolding entry
-entry-bound route c letters = entry-most route c (solve c) (unknowns-small (c .U) (c .G) letters) (letters-small (c .U) (c .G) letters)
+entry-bound route c letters givens =
+    entry-most route c (solve c) (unknowns-small (c .U) (c .G) letters) (givens-small (c .U) (c .G) letters)
+    (letters-small (c .U) (c .G) letters) givens

@@ -1,11 +1,11 @@
 -- Monomials in rising places are told by which they are: two such lists of records with the same monomials are one. By induction on
 -- both: the first of each stands in the other, and were it not first there, each would stand behind the other.
 -- Assumes nothing.
-use mathlib.Core.Path.{_≡_, refl, sym, ap, ap₂, _∙_}
+use mathlib.Core.Path.{_≡_, refl, sym, ap₂, _∙_}
 use mathlib.Core.Bool.{Bool, true, false, _&&_, _||_, cond}
 use mathlib.Core.List.{List, [], _∷_, _++_}
 use mathlib.Core.Logic.{_⊎_, inl, inr}
-use Prim.Native.Nat.{ℕ, _+_, _^_, _≤_, _<_}
+use Prim.Native.Nat.{ℕ, suc, _+_, _^_, _≤_, _<_}
 use native.Mathlib.Omega.{arith}
 use lib.Dec.{eqb, ltb}
 use borrow.Author.Tests.{ltb-true, eqb-true, eq-eqb, ne-eqb}
@@ -194,13 +194,13 @@ rising-unique U G p q (x ∷ xs) (y ∷ ys) v w a b f g h =
         (fits-rest U G q y ys g) e)))
 
 -- ---- monomials in bounds
-pub held-bounds : (U G q i m : ℕ) (rs : List Record) → fitsBehind U G q rs ≡ true → hasMonomial i m rs ≡ true → (i ≤ U) × (m < 2 ^ (U + G))
+pub held-bounds : (U G q i m : ℕ) (rs : List Record) → fitsBehind U G q rs ≡ true → hasMonomial i m rs ≡ true → (i ≤ suc U) × (m < 2 ^ (U + G))
 unfolding hasMonomial
 held-bounds U G q i m [] f h = never h refl
 held-bounds U G q i m (r ∷ rs) f h = go (held-bounds U G (placeOf r) i m rs (fits-rest U G q r rs f)) (has-cases i m r rs h)
   where
-    go : (hasMonomial i m rs ≡ true → (i ≤ U) × (m < 2 ^ (U + G)))
-        → ((isMonomial r ≡ true) × (i ≡ tableIn r) × (m ≡ valueOf maskField r)) ⊎ (hasMonomial i m rs ≡ true) → (i ≤ U) × (m < 2 ^ (U + G))
+    go : (hasMonomial i m rs ≡ true → (i ≤ suc U) × (m < 2 ^ (U + G)))
+        → ((isMonomial r ≡ true) × (i ≡ tableIn r) × (m ≡ valueOf maskField r)) ⊎ (hasMonomial i m rs ≡ true) → (i ≤ suc U) × (m < 2 ^ (U + G))
     go ih (inl e) =
         (rw (e .1) (table-in-bounds U G r (fits-bounds U G q r rs f)), rw (e .2) (mask-in-bounds U G r (fits-bounds U G q r rs f) (e .0)))
     go ih (inr e) = ih e

@@ -1,4 +1,4 @@
--- What some bytes hold (document 01, 'The archive entry'; document 02, C-11): their records, and what these say of a condition and its
+-- What some bytes hold (document 01, 'The archive entry'; document 02, C-11 and C-16): their records, and what these say of a condition and its
 -- answers. Every definition is total, on any bytes.
 -- Assumes nothing.
 use mathlib.Core.Bool.{Bool, false, _&&_, _||_, cond}
@@ -9,7 +9,7 @@ use lib.ListN.{length, take, drop}
 use Rattle.ring.specs.Polynomial.{Polynomial}
 use Rattle.ring.specs.Table.{table, answerTable}
 use Rattle.solution.specs.Substitution.{Substitution}
-use Rattle.solution.specs.Condition.{Condition, ordered}
+use Rattle.solution.specs.Condition.{Condition, underFact}
 use Rattle.solution.specs.Order.{defaultBytes}
 use Rattle.solution.specs.Elimination.{Verdict, solved, none}
 use Rattle.entry.specs.Record.{Record, routeField, unknownsField, givensField, maskField, stateField, size, kind, valueOf, isEnd}
@@ -56,19 +56,23 @@ second (r ∷ rs) = first rs
 unfoldable pub orderIn : List Record → List ℕ
 orderIn rs = cond (isOrder (second rs)) (drop 1 (second rs)) (defaultBytes (unknownsOf rs))
 
--- is the monomial with the mask m in the records, for the condition, 0, or for the answer of unknown j, j + 1?
+-- is the monomial with the mask m in the records, for the fact, 0, the condition, 1, or the answer of unknown j, j + 2?
 unfoldable pub hasMonomial : ℕ → ℕ → List Record → Bool
 hasMonomial i m [] = false
 hasMonomial i m (r ∷ rs) = (isMonomial r && (eqb i (tableIn r) && eqb m (valueOf maskField r))) || hasMonomial i m rs
 
+-- the fact: 'Kind 7, two bytes, holds a monomial of g'. 'Without them g is 0'
+unfoldable pub factIn : List Record → Polynomial
+factIn rs m = hasMonomial 0 m rs
+
 -- the condition: 'kind 2 .. a monomial of the condition'
 unfoldable pub conditionIn : List Record → Polynomial
-conditionIn rs m = hasMonomial 0 m rs
+conditionIn rs m = hasMonomial 1 m rs
 
 -- 'the answer that it holds for an unknown is the polynomial whose monomials stand in the kind 3 records with that unknown's number,
 -- 0 if there are none'
 unfoldable pub answersIn : List Record → Substitution
-answersIn rs j m = hasMonomial (suc j) m rs
+answersIn rs j m = hasMonomial (suc (suc j)) m rs
 
 -- 'It says 'none' and the state by kind 5. Without kind 5', it says that a is the answer
 unfoldable pub unlessNone : {A : Type 0} → A → List Record → Verdict A
@@ -79,10 +83,11 @@ unlessNone a (r ∷ rs) = cond (isNone r) (none (record { 0 = valueOf stateField
 unfoldable pub says : List Record → Verdict Substitution
 says rs = unlessNone (answersIn rs) rs
 
--- the same in tables: the condition, and the answers or 'none' and the state
+-- the same in tables: the condition with its fact, and the answers or 'none' and the state
 unfoldable pub heldCondition : List Record → Condition
 heldCondition rs =
-    ordered (unknownsOf rs) (givensOf rs) (take (unknownsOf rs) (orderIn rs)) (table (unknownsOf rs + givensOf rs) (conditionIn rs))
+    underFact (unknownsOf rs) (givensOf rs) (take (unknownsOf rs) (orderIn rs))
+    (table (unknownsOf rs + givensOf rs) (factIn rs)) (table (unknownsOf rs + givensOf rs) (conditionIn rs))
 
 unfoldable pub heldVerdict : List Record → Verdict (List ℕ)
 heldVerdict rs = unlessNone (answerTable (unknownsOf rs) (unknownsOf rs + givensOf rs) (answersIn rs)) rs

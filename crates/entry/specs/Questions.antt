@@ -1,5 +1,5 @@
 -- The questions that are put to an entry: 2, 10, 11, 12 and 13 (document 01, 'The questions, and the number if the answer is no';
--- document 02, C-11). Their order is in `calls`.
+-- document 02, C-11 and C-16). Their order is in `calls`.
 -- Each is a Bool function, total on any records, and so on any bytes.
 -- Assumes nothing.
 use mathlib.Core.Bool.{Bool, true, false, _&&_, _||_, not, cond}
@@ -17,22 +17,24 @@ use Rattle.entry.specs.Held.{routeOf, unknownsOf, givensOf, heldConditio
 unfoldable pub routeFits : ℕ → Bool
 routeFits route = leb 1 route && leb route 250
 
--- 10: 'Does every record, to the first kind 4, have kind 1 to 5 and a whole body, and is there a kind 4?' 'Question 10 accepts kind 6'.
+-- 10: 'Does every record, to the first kind 4, have kind 1 to 5 and a whole body, and is there a kind 4?' 'Question 10 accepts kind 6',
+-- and kind 7 stands 'under questions 10 to 12'.
 -- Records go to the first kind 4 or to where no whole record stands, so that the question is whether there is a kind 4 among them
 unfoldable pub hasEnd : List Record → Bool
 hasEnd [] = false
 hasEnd (r ∷ rs) = isEnd r || hasEnd rs
 
--- 'An entry is one kind 1; kind 2 ..; kind 3 .., or one kind 5; one kind 4', and 'A kind 6 record .. follows kind 1': the kinds that may
--- stand right behind each kind, kind 1 first
+-- 'An entry is one kind 1; kind 2 ..; kind 3 .., or one kind 5; one kind 4', 'A kind 6 record .. follows kind 1', and those of kind 7
+-- 'follow kind 6 or kind 1': the kinds that may stand right behind each kind, kind 1 first
 abbrev pub followers : List (List ℕ)
 followers =
-    (2 ∷ 3 ∷ 4 ∷ 5 ∷ 6 ∷ [])
+    (2 ∷ 3 ∷ 4 ∷ 5 ∷ 6 ∷ 7 ∷ [])
     ∷ (2 ∷ 3 ∷ 4 ∷ 5 ∷ [])
     ∷ (3 ∷ 4 ∷ [])
     ∷ []
     ∷ (4 ∷ [])
-    ∷ (2 ∷ 3 ∷ 4 ∷ 5 ∷ [])
+    ∷ (2 ∷ 3 ∷ 4 ∷ 5 ∷ 7 ∷ [])
+    ∷ (2 ∷ 3 ∷ 4 ∷ 5 ∷ 7 ∷ [])
     ∷ []
 
 -- may kind k stand right behind kind p, or first, where p is 0?
@@ -54,7 +56,7 @@ unfoldable pub allInBounds : ℕ → ℕ → List Record → Bool
 allInBounds U G [] = true
 allInBounds U G (r ∷ rs) = inBounds U G r && allInBounds U G rs
 
--- does r stand before s by table, the condition and then the unknowns, and within a table in written order?
+-- does r stand before s by table, the fact, the condition and then the unknowns, and within a table in written order?
 unfoldable pub standsBefore : Record → Record → Bool
 standsBefore r s = ltb (tableIn r) (tableIn s) || (eqb (tableIn r) (tableIn s) && before (valueOf maskField r) (valueOf maskField s))
 

@@ -1,4 +1,4 @@
--- The records of an entry (document 01, 'The archive entry'; document 02, C-11): 'Each record is one byte of kind, then a body whose length
+-- The records of an entry (document 01, 'The archive entry'; document 02, C-11 and C-16): 'Each record is one byte of kind, then a body whose length
 -- the kind fixes.' A record is its bytes. What stands in the body of each kind is said once, in `layout`; lengths, bytes and what a record
 -- says follow from it.
 -- Assumes nothing.
@@ -38,6 +38,8 @@ layout =
     ∷ (stateField ∷ [])
     -- 'A kind 6 record, six bytes, ..: the unknown numbers in order, then 255 in unused places'
     ∷ (orderField ∷ orderField ∷ orderField ∷ orderField ∷ orderField ∷ orderField ∷ [])
+    -- 'Kind 7, two bytes, holds a monomial of g'
+    ∷ (maskField ∷ [])
     ∷ []
 
 -- the fields of kind k: none where there is no such kind
@@ -112,6 +114,9 @@ noneRecord state = recordOf 5 (state ∷ [])
 abbrev pub orderRecord : List ℕ → Record
 orderRecord order = recordOf 6 (orderBytes order)
 
+abbrev pub factRecord : ℕ → Record
+factRecord m = recordOf 7 (m ∷ [])
+
 -- the bytes of records one after another
 unfoldable pub bytes : List Record → List ℕ
 bytes [] = []
@@ -154,13 +159,16 @@ isNone r = eqb (kind r) 5
 abbrev pub isOrder : Record → Bool
 isOrder r = eqb (kind r) 6
 
+abbrev pub isFact : Record → Bool
+isFact r = eqb (kind r) 7
+
 -- it holds a monomial
 abbrev pub isMonomial : Record → Bool
 isMonomial r = among maskField (fields (kind r))
 
--- the table that its monomial belongs to: 0 the condition, j + 1 the answer for unknown j
+-- the table that its monomial belongs to: 0 the fact, 1 the condition, j + 2 the answer for unknown j
 abbrev pub tableIn : Record → ℕ
-tableIn r = cond (among unknownField (fields (kind r))) (suc (valueOf unknownField r)) 0
+tableIn r = cond (isFact r) 0 (suc (cond (among unknownField (fields (kind r))) (suc (valueOf unknownField r)) 0))
 
 -- 12, of one field: 'Are masks below 2^n, unknowns below U, the state below 2^G'
 abbrev pub fieldFits : ℕ → ℕ → Field → ℕ → Bool
