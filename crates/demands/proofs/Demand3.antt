@@ -1,5 +1,5 @@
--- THE THEOREM: demand 3 holds of the bytes that are archived for every condition that has an entry, with any order of its unknowns, every
--- route and every list of letters, and so for every accepted text. The bytes are `entry route c`; that the calls hand these over is
+-- THE THEOREM: demand 3 holds of the bytes that are archived for every condition that has an entry, with any order of its unknowns, any
+-- fact, every route and every list of letters, and so for every accepted text. The bytes are `entry route c`; that the calls hand these over is
 -- `over-the-calls`. What the entry's records say is right (`entry-right`), and a written entry reads back (`reads-back`); both are put into
 -- the demand's own words here.
 -- Assumes nothing.
@@ -17,7 +17,8 @@ use Rattle.ring.specs.Polynomial.{Polynomial, value}
 use Rattle.ring.proofs.Points.{pointWhere-cong}
 use Rattle.solution.specs.Letters.{Letter, HoldsGivens, Valuation, valueOver}
 use Rattle.solution.specs.Substitution.{Substitution, letterAt, ownLetters, MakesZero}
-use Rattle.solution.specs.Condition.{Condition, polynomial, ordered}
+use Rattle.solution.specs.Fact.{IsFact}
+use Rattle.solution.specs.Condition.{Condition, polynomial, underFact}
 use Rattle.solution.specs.Order.{orderFits}
 use Rattle.solution.proofs.Order.{fits-each}
 use Rattle.solution.specs.Elimination.{solved, none, solve}
@@ -54,6 +55,18 @@ says-solved a (r ∷ rs) h = go (isNone r) (says-solved a rs) h
     go true ih e = let z : _≡_ {A = ℕ} 0 1 = cc in absurd (omega arith)
     go false ih e = ih e
 
+-- so kind 5 stands there exactly if 'none' is said
+pub none-said-exactly : (e : List ℕ) → (hasNone (records e) ≡ true) ↔ ((state : State) × (says (records e) ≡ none state))
+unfolding says
+none-said-exactly e = (says-none (answersIn (records e)) (records e), λ s. go (hasNone (records e)) refl s)
+  where
+    go : (b : Bool) → hasNone (records e) ≡ b → (state : State) × (unlessNone (answersIn (records e)) (records e) ≡ none state) → b ≡ true
+    go true h s = refl
+    go false h s =
+        let q : solved (answersIn (records e)) ≡ none (s .0) = sym (says-solved (answersIn (records e)) (records e) h) ∙ s .1 in
+        let z : _≡_ {A = ℕ} 0 1 = cc in
+        absurd (omega arith)
+
 -- a substitution of the same values makes the condition zero too
 same-zero : (U G : ℕ) (f : Polynomial) (L : List Letter) → HoldsGivens G L → (σ τ : Substitution)
     → ((j : ℕ) → j < U → (v : Valuation) → valueOver L (σ j) v ≡ valueOver L (τ j) v) → MakesZero U G f L σ → MakesZero U G f L τ
@@ -70,18 +83,10 @@ same-zero U G f L givens σ τ same zero-of v =
 -- the demand, of records whose verdict is right
 module _ (c : Condition) (e : List ℕ) (r : RightVerdict c (says (records e))) where
   one-list : (L : List Letter) → HoldsGivens (c .G) L → (hasNone (records e) ≡ true) ↔ ((σ : Substitution) → ¬ Solves c L σ)
-  unfolding says
   one-list L g = (
-    λ h. r .exactly L g .0 (says-none (answersIn (records e)) (records e) h),
-    λ none-makes. go (hasNone (records e)) refl (r .exactly L g .1 none-makes),
+    λ h. r .exactly L g .0 (none-said-exactly e .0 h),
+    λ none-makes. none-said-exactly e .1 (r .exactly L g .1 none-makes),
   )
-    where
-      go : (b : Bool) → hasNone (records e) ≡ b → (state : State) × (unlessNone (answersIn (records e)) (records e) ≡ none state) → b ≡ true
-      go true h s = refl
-      go false h s =
-          let q : solved (answersIn (records e)) ≡ none (s .0) = sym (says-solved (answersIn (records e)) (records e) h) ∙ s .1 in
-          let z : _≡_ {A = ℕ} 0 1 = cc in
-          absurd (omega arith)
 
   without-none : hasNone (records e) ≡ false → says (records e) ≡ solved (answersIn (records e))
   unfolding says
@@ -110,9 +115,17 @@ demand-3 route c behind fits =
     let back : ReadsBack route c (records (entry route c ++ behind)) = reads-back route c behind fits in
     right-demand c (entry route c ++ behind) (entry-right route c behind (archived-order route c fits)) (back .condition) (back .verdict)
 
--- .. and so of every accepted text and every order that passes question 17: 'the condition is the table that it is read into'
-pub demand-3-of-text : (U G route : ℕ) (text order behind : List ℕ) → Accepted U G text → routeFits route ≡ true → orderFits U order ≡ true
-    → Demand3 (ordered U G (take U order) (textTable U G text)) (entry route (ordered U G (take U order) (textTable U G text)) ++ behind)
-demand-3-of-text U G route text order behind accepted fits order-fits =
-    demand-3 route (ordered U G (take U order) (textTable U G text)) behind
-    (record { letters = accepted .letters; of-route = fits; of-order = fits-each U order order-fits; of-table = text-is-table U G text })
+-- .. and so of every accepted text, every order that passes question 17 and every fact: 'the condition is the table that it is read into'
+pub demand-3-of-text : (U G route : ℕ) (text order fact behind : List ℕ) → Accepted U G text → routeFits route ≡ true
+    → orderFits U order ≡ true → IsFact U G fact
+    → Demand3 (underFact U G (take U order) fact (textTable U G text))
+    (entry route (underFact U G (take U order) fact (textTable U G text)) ++ behind)
+demand-3-of-text U G route text order fact behind accepted fits order-fits of-fact =
+    demand-3 route (underFact U G (take U order) fact (textTable U G text)) behind
+    (record {
+      letters = accepted .letters;
+      of-route = fits;
+      of-order = fits-each U order order-fits;
+      of-table = text-is-table U G text;
+      of-fact = of-fact;
+    })

@@ -19,9 +19,10 @@ use Rattle.ring.proofs.Mask.{eqb-iff}
 use Rattle.ring.proofs.Points.{bit-none, bit-assign, assign-set, bit-state}
 use Rattle.ring.proofs.Value.{value-cong}
 use Rattle.ring.proofs.Substitute.{value-letter}
-use Rattle.ring.proofs.Table.{present-table}
+use Rattle.ring.proofs.Table.{present-table, is-table}
 use Rattle.order.specs.Order.{monomials}
-use Rattle.order.proofs.Order.{monomials-same, order-once}
+use Rattle.order.proofs.Order.{monomials-same, monomials-none, order-once}
+use Rattle.solution.specs.Fact.{noFact}
 use Rattle.solution.specs.Condition.{conditionOf, defaultOrder}
 use Rattle.solution.specs.Elimination.{none, solvable, blocked, smallestBlocked, solve}
 use Rattle.solution.specs.General.{Blocked}
@@ -31,8 +32,9 @@ use Rattle.solution.proofs.Order.{default-order}
 use Rattle.solution.proofs.Smallest.{first-found}
 use Rattle.solution.proofs.Blocked.{no-true, blocked-none, is-blocked}
 use Rattle.solution.proofs.Theorems.{solvable-exactly}
+use Rattle.solution.proofs.UnderFact.{no-fact, no-fact-empty}
 use Rattle.entry.specs.Record.{startRecord, conditionRecord, endRecord, noneRecord, bytes}
-use Rattle.entry.specs.Entry.{conditionRecords, verdictRecords, entryRecords, entry}
+use Rattle.entry.specs.Entry.{factRecords, conditionRecords, verdictRecords, entryRecords, entry}
 use Rattle.entry.proofs.OrderRecord.{default-left-out}
 
 -- the table of the i-th given among U unknowns and G givens
@@ -69,9 +71,9 @@ module _ (U G i : ℕ) (h : i < G) where
       (s .1))
 
   verdict-given : solve (conditionOf U G (oneGiven U G i)) ≡ none (record { 0 = 2 ^ i })
-  unfolding solve smallestBlocked
+  unfolding solve smallestBlocked table
   verdict-given =
-      rw unsolvable
+      rw (no-fact (U + G) (oneGiven U G i) (is-table (U + G) (letter (U + i))), unsolvable)
       (ap (λ (s : ℕ). none (record { 0 = s }))
       (sym (first-found (2 ^ G) _ (2 ^ i) (pow-lt h) free-below
       (is-blocked U G (present (oneGiven U G i)) (record { 0 = 2 ^ i }) blocked-alone))))
@@ -86,5 +88,11 @@ module _ (U G i : ℕ) (h : i < G) where
 
   pub given-entry : (route : ℕ) → entry route (conditionOf U G (oneGiven U G i))
       ≡ bytes (startRecord route U G ∷ conditionRecord (2 ^ (U + i)) ∷ noneRecord (2 ^ i) ∷ endRecord route ∷ [])
-  unfolding entry entryRecords conditionRecords verdictRecords
-  given-entry route = rw (default-left-out U G (oneGiven U G i), verdict-given, monomials-given)
+  unfolding entry entryRecords factRecords conditionRecords verdictRecords
+  given-entry route =
+      rw (
+        default-left-out U G (oneGiven U G i),
+        verdict-given,
+        monomials-given,
+        monomials-none (U + G) (present (noFact (U + G))) (no-fact-empty (U + G)),
+      )

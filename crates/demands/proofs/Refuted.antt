@@ -15,7 +15,8 @@ use Rattle.ring.specs.Table.{present, tabulate, table, answerTable}
 use Rattle.ring.specs.Lists.{listed}
 use Rattle.solution.specs.Letters.{Letter, HoldsGivens, place, Valuation, pointOf, valueOver}
 use Rattle.solution.specs.Substitution.{Substitution, letterAt, ownLetters, putIn, InstanceOf}
-use Rattle.solution.specs.Condition.{Condition, polynomial, ordered, conditionOf, defaultOrder}
+use Rattle.solution.specs.Fact.{whereZero, valueInState, noFact}
+use Rattle.solution.specs.Condition.{Condition, tableWhereZero, polynomial, underFact, ordered, conditionOf, defaultOrder}
 use Rattle.solution.specs.Order.{orderBytes}
 use Rattle.solution.specs.Elimination.{solved, nextCondition, remains, answerFrom, booleAnswers, particular, lowenheim, ownLowenheim}
 use Rattle.solution.specs.Elimination.{isZero, solvable, booleTable, solve}
@@ -26,9 +27,10 @@ use Rattle.entry.specs.Entry.{entry, Archivable}
 use Rattle.entry.specs.Questions.{allInBounds, numbersFit}
 use Rattle.entry.proofs.Theorems.{reads-back}
 use Rattle.solution.proofs.Letters.{value-putIn, own-holds}
-use Rattle.entry.specs.Held.{next, untilEnd, firstRecords, records, hasMonomial, conditionIn, answersIn, unlessNone, says, heldCondition}
+use Rattle.entry.specs.Held.{next, untilEnd, firstRecords, records, hasMonomial, factIn, conditionIn, answersIn, unlessNone, says, heldCondition}
 use Rattle.entry.specs.Held.{orderIn, heldVerdict}
 use Rattle.demands.specs.Demand3.{hasNone, Demand3}
+use Rattle.demands.specs.UnderFact.{Demand3Where}
 
 no-givens : (L : List Letter) → HoldsGivens 0 L
 no-givens L i h = absurd (omega arith)
@@ -81,11 +83,11 @@ particular-archived =
     ∷ []
 
 one-solves : Solves the-zero [] one
-unfolding valueOver putIn substitute product odd count value within constant pointOf present one
+unfolding valueOver putIn substitute product odd count value within constant pointOf present one tableWhereZero whereZero noFact table tabulate sum
 one-solves v = refl
 
 pub particular-refuted : Demand3 the-zero particular-archived → ⊥
-unfolding hasNone records firstRecords next untilEnd kind size fields widths valueOf valueIn fromLowFirst among answersIn hasMonomial valueOver putIn substitute product odd count value within constant pointOf one
+unfolding hasNone records firstRecords next untilEnd kind size fields widths valueOf valueIn fromLowFirst among answersIn hasMonomial valueOver putIn substitute product odd count value within constant pointOf one tableWhereZero whereZero noFact table tabulate sum present
 particular-refuted h =
     let instance : InstanceOf 1 0 (answersIn (records particular-archived)) [] one = h .every-instance refl []
     (no-givens []) one one-solves in
@@ -93,7 +95,7 @@ particular-refuted h =
 
 -- .. and Löwenheim's answer, u = u, is no instance of it (each-other)
 pub particular-no-lowenheim : Demand3 the-zero particular-archived → ⊥
-unfolding hasNone records firstRecords next untilEnd kind size fields widths valueOf valueIn fromLowFirst among answersIn hasMonomial valueOver putIn substitute monomial product odd count value within constant letter pointOf present listed ownLetters letterAt place bit sum restrict nextCondition answerFrom booleAnswers particular lowenheim ownLowenheim defaultOrder
+unfolding hasNone records firstRecords next untilEnd kind size fields widths valueOf valueIn fromLowFirst among answersIn hasMonomial valueOver putIn substitute monomial product odd count value within constant letter pointOf present listed ownLetters letterAt place bit sum restrict nextCondition answerFrom booleAnswers particular lowenheim ownLowenheim defaultOrder tableWhereZero whereZero noFact table tabulate
 particular-no-lowenheim h =
     let instance : InstanceOf 1 0 (answersIn (records particular-archived)) (ownLetters 1 0)
     (ownLowenheim 1 0 (defaultOrder 1) (polynomial the-zero)) = h .each-other refl .forth in
@@ -111,7 +113,7 @@ unknowns-archived =
     ∷ []
 
 one-instance : InstanceOf 1 0 (answersIn (records unknowns-archived)) [] one
-unfolding records firstRecords next untilEnd kind size fields widths valueOf valueIn fromLowFirst among answersIn hasMonomial valueOver putIn substitute monomial product odd count value within constant pointOf bit one
+unfolding records firstRecords next untilEnd kind size fields widths valueOf valueIn fromLowFirst among answersIn hasMonomial valueOver putIn substitute monomial product odd count value within constant pointOf bit one tableWhereZero whereZero noFact table tabulate sum present
 one-instance = (one, same)
   where
     same : (j : ℕ) → j < 1 → (v : Valuation)
@@ -120,7 +122,7 @@ one-instance = (one, same)
     same (suc j) l v = absurd (omega arith)
 
 pub unknowns-refuted : Demand3 u unknowns-archived → ⊥
-unfolding hasNone records firstRecords next untilEnd kind size fields widths valueOf valueIn fromLowFirst among valueOver putIn substitute monomial product odd count value within constant bit pointOf present one
+unfolding hasNone records firstRecords next untilEnd kind size fields widths valueOf valueIn fromLowFirst among valueOver putIn substitute monomial product odd count value within constant bit pointOf present one tableWhereZero whereZero noFact table tabulate sum
 unknowns-refuted h = true≢false (h .each-makes-zero refl [] (no-givens []) one one-instance (λ l. true))
 
 -- r and s exchanged: x*(r + s + 1) + r is 1 for u (makes-zero)
@@ -133,7 +135,7 @@ exchanged-archived =
     ∷ []
 
 pub exchanged-refuted : Demand3 u exchanged-archived → ⊥
-unfolding hasNone records firstRecords next untilEnd kind size fields widths valueOf valueIn fromLowFirst among answersIn hasMonomial valueOver putIn substitute monomial product odd count value within constant letter bit pointOf present ownLetters listed
+unfolding hasNone records firstRecords next untilEnd kind size fields widths valueOf valueIn fromLowFirst among answersIn hasMonomial valueOver putIn substitute monomial product odd count value within constant letter bit pointOf present ownLetters listed tableWhereZero whereZero noFact table tabulate sum
 exchanged-refuted h = true≢false (h .makes-zero refl (λ l. true))
 
 -- ---- 'none' and solved
@@ -148,17 +150,17 @@ none-archived =
     ∷ []
 
 zero-solves : Solves u [] (λ j. constant false)
-unfolding valueOver putIn substitute monomial product odd count value within constant pointOf present bit
+unfolding valueOver putIn substitute monomial product odd count value within constant pointOf present bit tableWhereZero whereZero noFact table tabulate sum
 zero-solves v = refl
 
 pub none-refuted : Demand3 u none-archived → ⊥
-unfolding hasNone records firstRecords next untilEnd kind size fields widths valueOf valueIn fromLowFirst among
+unfolding hasNone records firstRecords next untilEnd kind size fields widths valueOf valueIn fromLowFirst among tableWhereZero whereZero noFact table tabulate sum product odd count present constant
 none-refuted h =
     let nothing-solves : (L : List Letter) → HoldsGivens 0 L → (σ : Substitution) → ¬ Solves u L σ = h .none-exactly .0 refl in
     nothing-solves [] (no-givens []) (λ j. constant false) zero-solves
 
 pub none-refuted-on-list : Demand3 u none-archived → ⊥
-unfolding hasNone records firstRecords next untilEnd kind size fields widths valueOf valueIn fromLowFirst among
+unfolding hasNone records firstRecords next untilEnd kind size fields widths valueOf valueIn fromLowFirst among tableWhereZero whereZero noFact table tabulate sum product odd count present constant
 none-refuted-on-list h =
     let nothing-solves : (σ : Substitution) → ¬ Solves u [] σ = h .none-on-list [] (no-givens []) .0 refl in
     nothing-solves (λ j. constant false) zero-solves
@@ -172,11 +174,11 @@ solved-archived =
     ∷ []
 
 one-unsolved : (L : List Letter) → HoldsGivens 0 L → (σ : Substitution) → ¬ Solves the-one L σ
-unfolding value odd count within present pointWhere
+unfolding value odd count within present pointWhere tableWhereZero whereZero noFact table tabulate sum product constant
 one-unsolved L g σ z = true≢false (sym (value-putIn 0 0 L g (polynomial the-one) σ (λ l. true)) ∙ z (λ l. true))
 
 pub solved-refuted : Demand3 the-one solved-archived → ⊥
-unfolding hasNone records firstRecords next untilEnd kind size fields widths valueOf valueIn fromLowFirst among
+unfolding hasNone records firstRecords next untilEnd kind size fields widths valueOf valueIn fromLowFirst among tableWhereZero whereZero noFact table tabulate sum product odd count present constant
 solved-refuted h = true≢false (sym (h .none-exactly .1 one-unsolved))
 
 -- 'none' only when the condition is the polynomial 1: a is not, and no answer makes it zero (none-on-list)
@@ -188,11 +190,11 @@ not-one-archived =
     ∷ []
 
 a-unsolved : (σ : Substitution) → ¬ Solves a (ownLetters 1 1) σ
-unfolding valueOver putIn substitute monomial product odd count value within constant letter place letterAt bit pointOf present ownLetters listed
+unfolding valueOver putIn substitute monomial product odd count value within constant letter place letterAt bit pointOf present ownLetters listed tableWhereZero whereZero noFact table tabulate sum
 a-unsolved σ z = true≢false (z (λ l. true))
 
 pub not-one-refuted : Demand3 a not-one-archived → ⊥
-unfolding hasNone records firstRecords next untilEnd kind size fields widths valueOf valueIn fromLowFirst among
+unfolding hasNone records firstRecords next untilEnd kind size fields widths valueOf valueIn fromLowFirst among tableWhereZero whereZero noFact table tabulate sum product odd count present constant
 not-one-refuted h = true≢false (sym (h .none-on-list (ownLetters 1 1) (own-holds 1 1) .1 a-unsolved))
 
 -- ---- the state
@@ -207,7 +209,7 @@ later-archived =
     ∷ []
 
 pub later-refuted : Demand3 one-beside-a later-archived → ⊥
-unfolding records firstRecords next untilEnd kind size fields widths valueOf valueIn fromLowFirst among says unlessNone value odd count within present point
+unfolding records firstRecords next untilEnd kind size fields widths valueOf valueIn fromLowFirst among says unlessNone value odd count within present point tableWhereZero whereZero noFact table tabulate sum product constant
 later-refuted h =
     let smallest : SmallestBlocked 0 1 (polynomial one-beside-a) (record { 0 = 1 }) = h .smallest-state (record { 0 = 1 }) refl in
     smallest .smallest (record { 0 = 0 }) (omega arith) (λ choice l. refl)
@@ -222,7 +224,7 @@ open-archived =
     ∷ []
 
 pub open-refuted : Demand3 a open-archived → ⊥
-unfolding records firstRecords next untilEnd kind size fields widths valueOf valueIn fromLowFirst among says unlessNone value odd count within present point
+unfolding records firstRecords next untilEnd kind size fields widths valueOf valueIn fromLowFirst among says unlessNone value odd count within present point tableWhereZero whereZero noFact table tabulate sum product constant
 open-refuted h =
     let smallest : SmallestBlocked 1 1 (polynomial a) (record { 0 = 0 }) = h .smallest-state (record { 0 = 0 }) refl in
     true≢false (sym (smallest .blocked (record { 0 = 0 }) (omega arith)))
@@ -241,7 +243,7 @@ lowenheim-archived =
     ∷ []
 
 pub lowenheim-refuted : Demand3 u+v lowenheim-archived → ⊥
-unfolding hasNone records firstRecords next untilEnd kind size fields widths valueOf valueIn fromLowFirst among answersIn hasMonomial booleAnswers answerFrom nextCondition defaultOrder listed substitute monomial product restrict sum constant letter odd count bit present
+unfolding hasNone records firstRecords next untilEnd kind size fields widths valueOf valueIn fromLowFirst among answersIn hasMonomial booleAnswers answerFrom nextCondition defaultOrder listed substitute monomial product restrict sum constant letter odd count bit present tableWhereZero whereZero noFact table tabulate
 lowenheim-refuted h = true≢false (h .holds-booles refl 0 3 (omega arith) (omega arith))
 
 -- one monomial less in an answer: u = u for u*v, whose answer is u + u*v (holds-booles)
@@ -255,7 +257,7 @@ less-archived =
     ∷ []
 
 pub less-refuted : Demand3 u*v less-archived → ⊥
-unfolding hasNone records firstRecords next untilEnd kind size fields widths valueOf valueIn fromLowFirst among answersIn hasMonomial booleAnswers answerFrom nextCondition defaultOrder listed substitute monomial product restrict sum constant letter odd count bit present
+unfolding hasNone records firstRecords next untilEnd kind size fields widths valueOf valueIn fromLowFirst among answersIn hasMonomial booleAnswers answerFrom nextCondition defaultOrder listed substitute monomial product restrict sum constant letter odd count bit present tableWhereZero whereZero noFact table tabulate
 less-refuted h = true≢false (sym (h .holds-booles refl 0 3 (omega arith) (omega arith)))
 
 same-tables : {x y : List ℕ} → solved x ≡ solved y → x ≡ y
@@ -274,7 +276,7 @@ more-archived =
     ∷ []
 
 pub more-refuted : Demand3 u+v more-archived → ⊥
-unfolding records firstRecords next untilEnd kind size fields widths valueOf valueIn fromLowFirst among heldVerdict unlessNone answersIn hasMonomial answerTable tabulate solve booleTable solvable isZero everyBelow remains booleAnswers answerFrom nextCondition defaultOrder listed substitute monomial product restrict sum constant letter odd count bit present
+unfolding records firstRecords next untilEnd kind size fields widths valueOf valueIn fromLowFirst among heldVerdict unlessNone answersIn hasMonomial answerTable tabulate solve booleTable solvable isZero everyBelow remains booleAnswers answerFrom nextCondition defaultOrder listed substitute monomial product restrict sum constant letter odd count bit present tableWhereZero whereZero noFact table
 more-refuted h = true≢false (ap (λ (tables : List ℕ). present tables 7) (same-tables (h .verdict-read)))
 
 -- U and G exchanged in the record of kind 1: reading u+v finds no answer tables (verdict-read)
@@ -289,7 +291,7 @@ counts-exchanged-archived =
     ∷ []
 
 pub counts-exchanged-refuted : Demand3 u+v counts-exchanged-archived → ⊥
-unfolding records firstRecords next untilEnd kind size fields widths valueOf valueIn fromLowFirst among heldVerdict unlessNone answersIn hasMonomial answerTable tabulate solve booleTable solvable isZero everyBelow remains booleAnswers answerFrom nextCondition defaultOrder listed substitute monomial product restrict sum constant letter odd count bit present
+unfolding records firstRecords next untilEnd kind size fields widths valueOf valueIn fromLowFirst among heldVerdict unlessNone answersIn hasMonomial answerTable tabulate solve booleTable solvable isZero everyBelow remains booleAnswers answerFrom nextCondition defaultOrder listed substitute monomial product restrict sum constant letter odd count bit present tableWhereZero whereZero noFact table
 counts-exchanged-refuted h = true≢false (sym (ap (λ (tables : List ℕ). present tables 2) (same-tables (h .verdict-read))))
 
 -- a monomial of the condition left out, v of u+v, beside the right answers (condition-read)
@@ -303,8 +305,8 @@ condition-less-archived =
     ∷ []
 
 pub condition-less-refuted : Demand3 u+v condition-less-archived → ⊥
-unfolding records firstRecords next untilEnd kind size fields widths valueOf valueIn fromLowFirst among heldCondition conditionIn hasMonomial table tabulate present
-condition-less-refuted h = true≢false (sym (ap (λ (c : Condition). polynomial c 2) (h .condition-read)))
+unfolding records firstRecords next untilEnd kind size fields widths valueOf valueIn fromLowFirst among heldCondition conditionIn hasMonomial table tabulate present tableWhereZero whereZero noFact sum product odd count constant
+condition-less-refuted h = true≢false (sym (ap (λ (c : Condition). present (c .table) 2) (h .condition-read)))
 
 -- and one more, u*v (condition-read)
 abbrev condition-more-archived : List ℕ
@@ -319,8 +321,8 @@ condition-more-archived =
     ∷ []
 
 pub condition-more-refuted : Demand3 u+v condition-more-archived → ⊥
-unfolding records firstRecords next untilEnd kind size fields widths valueOf valueIn fromLowFirst among heldCondition conditionIn hasMonomial table tabulate present
-condition-more-refuted h = true≢false (ap (λ (c : Condition). polynomial c 3) (h .condition-read))
+unfolding records firstRecords next untilEnd kind size fields widths valueOf valueIn fromLowFirst among heldCondition conditionIn hasMonomial table tabulate present tableWhereZero whereZero noFact sum product odd count constant
+condition-more-refuted h = true≢false (ap (λ (c : Condition). present (c .table) 3) (h .condition-read))
 
 -- ---- the order
 
@@ -337,7 +339,7 @@ order-ignored-archived =
     ∷ []
 
 pub order-ignored-refuted : Demand3 u*v-v-first order-ignored-archived → ⊥
-unfolding hasNone records firstRecords next untilEnd kind size fields widths valueOf valueIn fromLowFirst among answersIn hasMonomial booleAnswers answerFrom nextCondition listed substitute monomial product restrict sum constant letter odd count bit present
+unfolding hasNone records firstRecords next untilEnd kind size fields widths valueOf valueIn fromLowFirst among answersIn hasMonomial booleAnswers answerFrom nextCondition listed substitute monomial product restrict sum constant letter odd count bit present tableWhereZero whereZero noFact table tabulate
 order-ignored-refuted h = true≢false (h .holds-booles refl 0 3 (omega arith) (omega arith))
 
 -- kind 6 left out: the answers of v first, u = u and v = v + u*v, as if u had gone first (condition-read)
@@ -352,7 +354,7 @@ order-left-out-archived =
     ∷ []
 
 pub order-left-out-refuted : Demand3 u*v-v-first order-left-out-archived → ⊥
-unfolding records firstRecords next untilEnd kind size fields widths valueOf valueIn fromLowFirst among heldCondition orderIn orderBytes defaultOrder listed
+unfolding records firstRecords next untilEnd kind size fields widths valueOf valueIn fromLowFirst among heldCondition orderIn orderBytes defaultOrder listed tableWhereZero whereZero noFact table tabulate sum product odd count present constant
 order-left-out-refuted h =
     let e : _≡_ {A = ℕ} 0 1 = ap (λ (c : Condition). getD (c .order) 0 0) (h .condition-read) in absurd (omega arith)
 
@@ -370,7 +372,93 @@ default-named-archived =
 
 pub default-named-refuted : (route : ℕ) (c : Condition) (behind : List ℕ) → Archivable route c
     → entry route c ++ behind ≡ default-named-archived → ⊥
-unfolding records firstRecords next untilEnd kind size fields widths valueOf valueIn fromLowFirst numbersFit allInBounds inBounds bodyFits isNeeded isDefault sameBytes orderBytes defaultOrder listed
+unfolding records firstRecords next untilEnd kind size fields widths valueOf valueIn fromLowFirst numbersFit allInBounds inBounds bodyFits isNeeded isDefault sameBytes orderBytes defaultOrder listed tableWhereZero whereZero noFact table tabulate sum product odd count present constant
 default-named-refuted route c behind a e =
     let fits : numbersFit (records default-named-archived) ≡ true = rw e at (reads-back route c behind a .passes .numbers) in
     true≢false (sym fits)
+
+-- ---- the fact
+
+-- (1,2) `a*u+b*u+b` under the fact `a*b`
+abbrev exclusive : Condition
+exclusive = underFact 1 2 (0 ∷ []) (0 ∷ 0 ∷ 0 ∷ 0 ∷ 0 ∷ 0 ∷ 1 ∷ 0 ∷ []) (0 ∷ 0 ∷ 0 ∷ 1 ∷ 1 ∷ 1 ∷ 0 ∷ 0 ∷ [])
+
+-- the fact ignored, or f*g solved: 'none' at state 3, which does not count (smallest-state)
+abbrev fact-ignored-archived : List ℕ
+fact-ignored-archived =
+    1 ∷ 7 ∷ 1 ∷ 2
+    ∷ 7 ∷ 6 ∷ 0
+    ∷ 2 ∷ 4 ∷ 0
+    ∷ 2 ∷ 3 ∷ 0
+    ∷ 2 ∷ 5 ∷ 0
+    ∷ 5 ∷ 3
+    ∷ 4 ∷ 7
+    ∷ []
+
+pub fact-ignored-refuted : Demand3 exclusive fact-ignored-archived → ⊥
+unfolding records firstRecords next untilEnd kind size fields widths valueOf valueIn fromLowFirst among says unlessNone value within point tableWhereZero whereZero table tabulate sum product odd count present constant
+fact-ignored-refuted h = true≢false (sym (h .smallest-state _ refl .blocked (record { 0 = 0 }) (omega arith)))
+
+-- the same in document 02's own words: g is 1 there (smallest-state)
+pub uncounted-refuted : Demand3Where exclusive fact-ignored-archived → ⊥
+unfolding records firstRecords next untilEnd kind size fields widths valueOf valueIn fromLowFirst among says unlessNone valueInState value within point odd count present
+uncounted-refuted h = true≢false (h .smallest-state _ refl .counts)
+
+-- f*(1 + g) in kind 2: one monomial more, a*b (condition-read)
+abbrev solved-one-archived : List ℕ
+solved-one-archived =
+    1 ∷ 7 ∷ 1 ∷ 2
+    ∷ 7 ∷ 6 ∷ 0
+    ∷ 2 ∷ 4 ∷ 0
+    ∷ 2 ∷ 3 ∷ 0
+    ∷ 2 ∷ 5 ∷ 0
+    ∷ 2 ∷ 6 ∷ 0
+    ∷ 3 ∷ 0 ∷ 1 ∷ 0
+    ∷ 3 ∷ 0 ∷ 4 ∷ 0
+    ∷ 3 ∷ 0 ∷ 3 ∷ 0
+    ∷ 3 ∷ 0 ∷ 5 ∷ 0
+    ∷ 3 ∷ 0 ∷ 6 ∷ 0
+    ∷ 4 ∷ 7
+    ∷ []
+
+pub solved-one-refuted : Demand3 exclusive solved-one-archived → ⊥
+unfolding records firstRecords next untilEnd kind size fields widths valueOf valueIn fromLowFirst among heldCondition conditionIn hasMonomial table tabulate present
+solved-one-refuted h = true≢false (ap (λ (c : Condition). present (c .table) 6) (h .condition-read))
+
+-- the fact left out of the entry: the answers are those of another condition (condition-read)
+abbrev fact-left-out-archived : List ℕ
+fact-left-out-archived =
+    1 ∷ 7 ∷ 1 ∷ 2
+    ∷ 2 ∷ 4 ∷ 0
+    ∷ 2 ∷ 3 ∷ 0
+    ∷ 2 ∷ 5 ∷ 0
+    ∷ 3 ∷ 0 ∷ 1 ∷ 0
+    ∷ 3 ∷ 0 ∷ 4 ∷ 0
+    ∷ 3 ∷ 0 ∷ 3 ∷ 0
+    ∷ 3 ∷ 0 ∷ 5 ∷ 0
+    ∷ 3 ∷ 0 ∷ 6 ∷ 0
+    ∷ 4 ∷ 7
+    ∷ []
+
+pub fact-left-out-refuted : Demand3 exclusive fact-left-out-archived → ⊥
+unfolding records firstRecords next untilEnd kind size fields widths valueOf valueIn fromLowFirst among heldCondition factIn hasMonomial table tabulate present
+fact-left-out-refuted h = true≢false (sym (ap (λ (c : Condition). present (c .fact) 6) (h .condition-read)))
+
+-- (1,1) `1` under the fact `1+a`, of which state 1 alone counts
+abbrev no-choice : Condition
+no-choice = underFact 1 1 (0 ∷ []) (1 ∷ 0 ∷ 1 ∷ 0 ∷ []) (1 ∷ 0 ∷ 0 ∷ 0 ∷ [])
+
+-- the smallest state in which f is blocked, where g is 1 (smallest-state)
+abbrev uncounted-archived : List ℕ
+uncounted-archived =
+    1 ∷ 7 ∷ 1 ∷ 1
+    ∷ 7 ∷ 0 ∷ 0
+    ∷ 7 ∷ 2 ∷ 0
+    ∷ 2 ∷ 0 ∷ 0
+    ∷ 5 ∷ 0
+    ∷ 4 ∷ 7
+    ∷ []
+
+pub uncounted-state-refuted : Demand3Where no-choice uncounted-archived → ⊥
+unfolding records firstRecords next untilEnd kind size fields widths valueOf valueIn fromLowFirst among says unlessNone valueInState value within point odd count present
+uncounted-state-refuted h = true≢false (h .smallest-state _ refl .counts)

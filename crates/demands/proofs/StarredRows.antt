@@ -10,9 +10,10 @@ use Rattle.ring.specs.Polynomial.{count, odd, constant, letter, sum, product}
 use Rattle.ring.specs.Table.{tabulate, table}
 use Rattle.tables.specs.Questions.{firstNo, lettersFit, hasRoom, roomQuestions, bitQuestions, bufferQuestions}
 use Rattle.solution.specs.BenchTable.{Row, starredRows, RowHolds, AllHold as RowsHold, _also_ as _and_}
-use Rattle.solution.specs.Condition.{Condition, conditionOf, defaultOrder}
+use Rattle.solution.specs.Condition.{Condition, conditionOf}
 use Rattle.solution.proofs.Rows.{starred-rows-hold}
 use Rattle.solution.proofs.Order.{default-each}
+use Rattle.solution.proofs.UnderFact.{no-fact-is}
 use Rattle.grammar.specs.Symbols.{symbol, symbols, isUnknown, isGiven, isSingle, isSign, isDeclared, every, allSigns, allDeclared}
 use Rattle.grammar.specs.Meaning.{normalForm}
 use Rattle.grammar.specs.Reader.{reads, readWith, andThen, grammarReads, treeOf}
@@ -38,7 +39,13 @@ archived text r reads holds =
     let c : Condition = r .condition in
     let accepted = done-exactly (c .U) (c .G) text (length (c .table)) .0 (reads .read) .0 in
     let fits : Archivable 1 (conditionOf (c .U) (c .G) (textTable (c .U) (c .G) text)) =
-    record { letters = accepted .letters; of-route = refl; of-order = default-each (c .U); of-table = text-is-table (c .U) (c .G) text } in
+    record {
+      letters = accepted .letters;
+      of-route = refl;
+      of-order = default-each (c .U);
+      of-table = text-is-table (c .U) (c .G) text;
+      of-fact = no-fact-is (c .U) (c .G);
+    } in
     let back = reads-back 1 c [] (rw (reads .table) at fits) in
     record {
       read = reads .read;

@@ -1,5 +1,5 @@
--- The sample of document 01, 'Programs', in bytes: the two lines' texts and the records that are printed for them, ten in all. And two
--- entries more: one with nine letters, in which a mask has two bytes that differ, and one with an order.
+-- The sample of document 01, 'Programs', in bytes: the two lines' texts and the records that are printed for them, ten in all. And further
+-- entries: one with nine letters, in which a mask has two bytes that differ, one with an order, and two with a fact.
 -- Assumes nothing.
 use mathlib.Core.List.{List, [], _∷_}
 use Prim.Native.Nat.{ℕ}
@@ -64,4 +64,47 @@ orderedEntry =
     ∷ 3 ∷ 1 ∷ 2 ∷ 0
     ∷ 3 ∷ 1 ∷ 3 ∷ 0
     ∷ 4 ∷ 10
+    ∷ []
+
+-- `a*u+b*u+b`, and the fact `a*b` (document 02, C-16)
+unfoldable pub exclusiveText : List ℕ
+exclusiveText = 97 ∷ 42 ∷ 117 ∷ 43 ∷ 98 ∷ 42 ∷ 117 ∷ 43 ∷ 98 ∷ []
+
+unfoldable pub exclusiveFact : List ℕ
+exclusiveFact = 97 ∷ 42 ∷ 98 ∷ []
+
+-- the entry for route 11: 010b0102, 070600, 020400, 020300, 020500, 03000100, 03000400, 03000300, 03000500, 03000600, 040b (start, fact a*b,
+-- monomials b, u*a, u*b, 'u = b + u + a*b + a*u + b*u', end)
+unfoldable pub exclusiveEntry : List ℕ
+exclusiveEntry =
+    1 ∷ 11 ∷ 1 ∷ 2
+    ∷ 7 ∷ 6 ∷ 0
+    ∷ 2 ∷ 4 ∷ 0
+    ∷ 2 ∷ 3 ∷ 0
+    ∷ 2 ∷ 5 ∷ 0
+    ∷ 3 ∷ 0 ∷ 1 ∷ 0
+    ∷ 3 ∷ 0 ∷ 4 ∷ 0
+    ∷ 3 ∷ 0 ∷ 3 ∷ 0
+    ∷ 3 ∷ 0 ∷ 5 ∷ 0
+    ∷ 3 ∷ 0 ∷ 6 ∷ 0
+    ∷ 4 ∷ 11
+    ∷ []
+
+-- `1` under the fact `1+a`, which leaves state 1, v first: 010c0201, 060100ffffffff, 070000, 070400, 020000, 0501, 040c (start, order, fact,
+-- monomial, 'none' at state 1, end)
+unfoldable pub noChoiceText : List ℕ
+noChoiceText = 49 ∷ []
+
+unfoldable pub noChoiceFact : List ℕ
+noChoiceFact = 49 ∷ 43 ∷ 97 ∷ []
+
+unfoldable pub noChoiceEntry : List ℕ
+noChoiceEntry =
+    1 ∷ 12 ∷ 2 ∷ 1
+    ∷ 6 ∷ 1 ∷ 0 ∷ 255 ∷ 255 ∷ 255 ∷ 255
+    ∷ 7 ∷ 0 ∷ 0
+    ∷ 7 ∷ 4 ∷ 0
+    ∷ 2 ∷ 0 ∷ 0
+    ∷ 5 ∷ 1
+    ∷ 4 ∷ 12
     ∷ []
