@@ -1,6 +1,6 @@
 -- The ways out of the audit: refused by one of the questions that reading puts too, by 13, and passed.
 -- Assumes nothing.
-use mathlib.Core.Path.{_≡_, refl, sym, ap, _∙_}
+use mathlib.Core.Path.{_≡_, refl, ap, _∙_}
 use mathlib.Core.Bool.{true, false}
 use mathlib.Core.List.{List, []}
 use Prim.Native.Nat.{ℕ}
@@ -14,7 +14,7 @@ use Rattle.entry.specs.Questions.{answersHold}
 use Rattle.calls.specs.declared.Heading.{Heading}
 use Rattle.calls.specs.declared.Verdict.{Verdict}
 use Rattle.calls.specs.declared.Read.the-variants.{Entry, Refused}
-use Rattle.calls.specs.Questions.{entryQuestions, auditQuestions}
+use Rattle.calls.specs.Questions.{factQuestions, recordQuestions, entryQuestions, auditQuestions}
 use Rattle.calls.specs.Entries.{reading, readValues, stateOf, stateSaid, auditCall}
 use Rattle.calls.proofs.Questions.{passes-exactly, audit-exactly}
 use Rattle.records.specs.Inner.Headings.{lengthUsed, headingOf, said}
@@ -22,7 +22,7 @@ use Rattle.audit.specs.Inner.Answers.{Audits}
 
 pub refused-before : (bs : List ℕ) {q : ℕ} → q ≡ firstNo (entryQuestions (records bs)) → (q ≡ 0 → ⊥)
     → answered (reading (Refused q)) [] ≡ auditCall bs
-unfolding auditQuestions entryQuestions
+unfolding auditQuestions entryQuestions recordQuestions factQuestions
 refused-before bs {q} e n = call-stops (entryQuestions (records bs)) _ (readValues (records bs)) [] q refl e n
 
 -- the state that an entry says

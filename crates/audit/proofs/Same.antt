@@ -26,20 +26,25 @@ use Rattle.words.specs.Inner.Words.{wordsOf, bitAt, answerWords}
 use Rattle.words.proofs.Letters.{room, count-small}
 use Rattle.words.proofs.Parts.{part-fits}
 use Rattle.words.proofs.Words.{words-cong, at-words}
-use Rattle.solution.specs.Condition.{Condition, ordered}
+use Rattle.solution.specs.Condition.{Condition, polynomial, underFact}
 use Rattle.solution.specs.Order.{orderFits}
+use Rattle.solution.specs.Fact.{noFact}
+use Rattle.solution.proofs.UnderFact.{no-fact}
 use Rattle.tables.specs.Questions.{firstNo}
-use Rattle.calls.specs.Questions.{entryQuestions}
+use Rattle.tables.proofs.FirstNo.{asked-behind}
+use Rattle.calls.specs.Questions.{factQuestions, recordQuestions, entryQuestions}
 use Rattle.calls.proofs.Questions.{passes-exactly}
 use Rattle.solution.specs.Elimination.{Verdict, solved, none, booleAnswers, booleTable, solve}
 use Rattle.elimination.proofs.Slots.{part-listed, answer-part}
 use Rattle.entry.specs.Record.{Record, sameBytes}
-use Rattle.entry.specs.Held.{records, orderIn, conditionIn, answersIn, heldCondition, heldVerdict}
+use Rattle.entry.specs.Held.{records, unknownsOf, givensOf, orderIn, conditionIn, answersIn, heldCondition, heldVerdict}
 use Rattle.entry.specs.Questions.{sameVerdict, answersHold}
 use Rattle.entry.proofs.SameBytes.{bytes-same, same-bytes}
 use Rattle.calls.specs.declared.Heading.{Heading}
 use Rattle.calls.specs.declared.Verdict.the-variants.{Solved, None}
+use Rattle.facts.specs.Inner.Kept.{whereWords}
 use Rattle.records.specs.Inner.Headings.{headingOf, said}
+use Rattle.records.specs.Inner.Filling.{Passed}
 use Rattle.records.proofs.Headings.{heading-u, heading-g, said-none, said-solved}
 use Rattle.calls.specs.declared.Verdict.{Verdict as Afresh}
 use Rattle.solver.specs.Inner.Methods.{verdict, solveWords}
@@ -150,25 +155,25 @@ module _ (u n : ℕ) (hs fresh : List ℕ) (is : AreAnswers u n hs) (j : ℕ) (i
             never (rw (← c) (same-bytes own)) s
 
 -- ---- against the verdict solved afresh
-module _ (u g : ℕ) (o t hs fresh : List ℕ) {v : Afresh} (e : verdict v fresh ≡ solveWords (ordered u g o t)) where
+module _ (u g : ℕ) (o f t hs fresh : List ℕ) {v : Afresh} (e : verdict v fresh ≡ solveWords (underFact u g o f t)) where
   pub against-solved : {b : Bool} → v ≡ Solved
       → ((p : ℕ → Polynomial) → fresh ≡ answerWords u (2 ^ (u + g - 6)) (λ j. value (u + g) (p j))
       → b ≡ sameBytes hs (answerTable u (u + g) p))
-      → b ≡ sameVerdict (solved hs) (solve (ordered u g o t))
+      → b ≡ sameVerdict (solved hs) (solve (underFact u g o f t))
   unfolding booleTable
   against-solved told same =
-      let w = solved-by-values (ordered u g o t) fresh (rw told at e) in
-      same (booleAnswers (u + g) (present t) o) (w .1) ∙ rw (w .0)
+      let w = solved-by-values (underFact u g o f t) fresh (rw told at e) in
+      same (booleAnswers (u + g) (polynomial (underFact u g o f t)) o) (w .1) ∙ rw (w .0)
 
-  pub against-none : {state : State} → v ≡ None state → false ≡ sameVerdict (solved hs) (solve (ordered u g o t))
-  against-none {state} told = rw (none-by-values (ordered u g o t) state (rw told at e))
+  pub against-none : {state : State} → v ≡ None state → false ≡ sameVerdict (solved hs) (solve (underFact u g o f t))
+  against-none {state} told = rw (none-by-values (underFact u g o f t) state (rw told at e))
 
 against-state : (c : Condition) (held : State) (w : Verdict (List ℕ)) → w ≡ solveWords c
     → sameVerdict (none held) w ≡ sameVerdict (none held) (solve c)
 against-state c held (solved ws) e = rw (solved-by-values c ws e .0)
 against-state c held (none state) e = rw (none-by-values c state e)
 
--- ---- question 13, of an entry whose condition t was read, and solved afresh by its values
+-- ---- question 13, of an entry whose condition t was read, and solved afresh by its values where the fact is 0
 module _ (rs : List Record) (h : Heading) (eh : h ≡ headingOf rs) (t : List ℕ)
     (et : t ≡ table (h .unknowns + h .givens) (conditionIn rs)) where
   pub condition-table : IsTable (h .unknowns + h .givens) t
@@ -176,21 +181,25 @@ module _ (rs : List Record) (h : Heading) (eh : h ≡ headingOf rs) (t : List �
   condition-table = rw et (is-table (h .unknowns + h .givens) (conditionIn rs))
 
   module _ (o : List ℕ) (eo : o ≡ orderIn rs) where
-    read-back : ordered (h .unknowns) (h .givens) (take (h .unknowns) o) t ≡ heldCondition rs
+    abbrev afresh : Condition
+    afresh = underFact (h .unknowns) (h .givens) (take (h .unknowns) o) (heldCondition rs .fact) t
+
+    read-back : afresh ≡ heldCondition rs
     unfolding heldCondition
     read-back = rw (eo, et, heading-u rs eh, heading-g rs eh)
 
     pub hold-none : (state : State) (b : Bool) (w : Verdict (List ℕ))
-        → w ≡ solveWords (ordered (h .unknowns) (h .givens) (take (h .unknowns) o) t)
+        → w ≡ solveWords (underFact (h .unknowns) (h .givens) (take (h .unknowns) o) (heldCondition rs .fact) t)
         → said (heldVerdict rs) ≡ None state → b ≡ sameVerdict (none state) w → b ≡ answersHold rs
     unfolding answersHold
     hold-none state b w ew es eb =
-        eb ∙ against-state (ordered (h .unknowns) (h .givens) (take (h .unknowns) o) t) state w ew
+        eb ∙ against-state afresh state w ew
         ∙ ap₂ sameVerdict (sym (said-none (heldVerdict rs) state es)) (ap solve read-back)
 
     pub hold-solved : (a : List ℕ) (b : Bool) → said (heldVerdict rs) ≡ Solved
         → a ≡ answerTable (h .unknowns) (h .unknowns + h .givens) (answersIn rs)
-        → b ≡ sameVerdict (solved a) (solve (ordered (h .unknowns) (h .givens) (take (h .unknowns) o) t)) → b ≡ answersHold rs
+        → b ≡ sameVerdict (solved a) (solve (underFact (h .unknowns) (h .givens) (take (h .unknowns) o) (heldCondition rs .fact) t))
+        → b ≡ answersHold rs
     unfolding answersHold heldVerdict
     hold-solved a b es ea eb =
         eb ∙ ap₂ sameVerdict (ap solved (ea ∙ rw (heading-u rs eh, heading-g rs eh)) ∙ sym (said-solved _ rs es)) (ap solve read-back)
@@ -199,3 +208,15 @@ module _ (rs : List Record) (h : Heading) (eh : h ≡ headingOf rs) (t : List �
 pub order-passes : (bs : List ℕ) → firstNo (entryQuestions (records bs)) ≡ 0 → {h : Heading} → h ≡ headingOf (records bs)
     → {o : List ℕ} → o ≡ orderIn (records bs) → orderFits (h .unknowns) o ≡ true
 order-passes bs p eh eo = rw (heading-u (records bs) eh, eo) (passes-exactly (records bs) .0 p .order)
+
+-- 22 and 23 too
+pub facts-pass : (bs : List ℕ) → firstNo (entryQuestions (records bs)) ≡ 0 → {h : Heading} → h ≡ headingOf (records bs)
+    → firstNo (factQuestions (h .unknowns) (h .givens) (heldCondition (records bs) .fact)) ≡ 0
+unfolding entryQuestions
+facts-pass bs p eh = rw (heading-u (records bs) eh, heading-g (records bs) eh) (asked-behind (recordQuestions (records bs)) _ p)
+
+-- without a fact every point counts
+pub all-count : (bs : List ℕ) {u g : ℕ} → Passed bs u g → (t values : List ℕ) → IsTable (u + g) t
+    → heldCondition (records bs) .fact ≡ noFact (unknownsOf (records bs) + givensOf (records bs))
+    → values ≡ wordsOf (2 ^ (u + g - 6)) (value (u + g) (present t)) → values ≡ whereWords (u + g) t (heldCondition (records bs) .fact)
+all-count bs {u} {g} p t values is e ev = ev ∙ rw (e, ← p .of-unknowns, ← p .of-givens, no-fact (u + g) t is)

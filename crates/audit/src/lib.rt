@@ -1,5 +1,5 @@
-// The audit of an archive entry: it is read, its condition is solved afresh by its own order, and the two are compared, by values that
-// stand 64 to a word. `audit` is the public call of the library; the other functions are its own, and what these require it meets.
+// The audit of an archive entry: it is read, its condition is solved afresh by its own order and under its own fact, and the two are
+// compared, by values that stand 64 to a word. `audit` is the public call of the library; the other functions are its own, and what these require it meets.
 use calls::Heading;
 use calls::Read;
 use calls::Verdict;
@@ -13,14 +13,15 @@ ghost use Rattle.ring.specs.Polynomial.{Polynomial, value};
 ghost use Rattle.ring.specs.Table.{answerTable};
 ghost use Rattle.tables.specs.Answered.{answered};
 ghost use Rattle.words.specs.Inner.Words.{answerWords};
-ghost use Rattle.solution.specs.Condition.{ordered};
+ghost use Rattle.solution.specs.Condition.{underFact};
 ghost use Rattle.solution.specs.Elimination.{solved, none, solve};
-ghost use Rattle.entry.specs.Held.{records};
+ghost use Rattle.entry.specs.Held.{records, heldCondition};
 ghost use Rattle.entry.specs.Record.{sameBytes};
 ghost use Rattle.entry.specs.Questions.{sameVerdict, answersHold};
 ghost use Rattle.calls.specs.Entries.{reading, auditCall};
+ghost use Rattle.facts.specs.Inner.Kept.{whereWords};
 ghost use Rattle.solver.specs.Inner.Methods.{verdict, solveWords};
-ghost use Rattle.audit.specs.Inner.Answers.{AreAnswers, Audits};
+ghost use Rattle.audit.specs.Inner.Answers.{AreAnswers, Audits, Counted};
 
 fn same_words(held: &[u64], fresh: &[u64]) -> bool
     requires { ⌜ length (now held) ≡ length (now fresh) ⌝ }
@@ -71,8 +72,8 @@ fn same_answers(
 ) -> bool
     requires { ⌜ (u ≤ 6) × (u + g ≤ 10) × AreAnswers u (u + g) (now held)
         × (length (now fresh) ≡ u * 2 ^ (u + g - 6)) × (length (now own) ≡ 2 ^ (u + g - 6)) ⌝ }
-    ensures { λ r. ⌜ ((order t : List ℕ) → verdict afresh (now (fresh .entry)) ≡ solveWords (ordered u g order t)
-        → r ≡ sameVerdict (solved (now (held .entry))) (solve (ordered u g order t))) ⌝ }
+    ensures { λ r. ⌜ ((order fact t : List ℕ) → verdict afresh (now (fresh .entry)) ≡ solveWords (underFact u g order fact t)
+        → r ≡ sameVerdict (solved (now (held .entry))) (solve (underFact u g order fact t))) ⌝ }
 {
     match afresh {
         Verdict::Solved => same_values(u, u + g, held, fresh, own),
@@ -87,6 +88,26 @@ fn same_state(held: State, afresh: Verdict) -> bool
     match afresh {
         Verdict::Solved => false,
         Verdict::None(state) => held.0 == state.0,
+    }
+}
+
+// The values of f*(1 + g) for the condition f and the fact g of an entry that passes the questions before 13: those of f, without the
+// points that do not count. Uses up `kept`.
+fn take_counted(
+    bytes: &[u8],
+    u: usize,
+    g: usize,
+    condition: &[u8],
+    values: &mut [u64],
+    kept: &mut [u64],
+)
+    requires { ⌜ Counted (now bytes) u g (now condition) (now values) (now kept) ⌝ }
+    ensures { λ _. ⌜ now (values .exit) ≡ whereWords (u + g) (now (condition .entry)) (heldCondition (records (now (bytes .entry))) .fact) ⌝ }
+{
+    words::take_values(u + g, condition, values);
+    if records::has_fact(bytes) {
+        records::keep_fact(bytes, u, g, kept);
+        words::multiply_into(values, kept);
     }
 }
 
@@ -113,7 +134,7 @@ fn answers_hold(
     let u = heading.unknowns;
     let g = heading.givens;
     reader::fill_tables(bytes, u, g, condition, held);
-    words::take_values(u + g, condition, values);
+    take_counted(bytes, u, g, condition, values, own);
     let afresh = solver::solve_values(u, g, order, values, fresh);
     match told {
         Verdict::Solved => same_answers(u, g, held, afresh, fresh, own),
@@ -121,7 +142,8 @@ fn answers_hold(
     }
 }
 
-// The scratch lives here: the tables of the entry, the condition's values, those of the answers solved afresh, and those of one answer held.
+// The scratch lives here: the tables of the entry, the condition's values, those of the answers solved afresh, and those of 1 + g and then
+// of one answer held.
 fn holds_afresh(bytes: &[u8], heading: Heading, told: Verdict, order: [u8; 6]) -> bool
     requires { ⌜ Audits (now bytes) heading told order ⌝ }
     ensures { λ r. ⌜ r ≡ answersHold (records (now (bytes .entry))) ⌝ }

@@ -1,30 +1,30 @@
 -- No answer is lost in its code: taken apart, the code that an exported function returns gives back the answer that its contract names,
--- whatever the caller lends. For numbers of questions are bytes, a state is below 256, an entry has at most 27,661 bytes, and a volume
+-- whatever the caller lends. For numbers of questions are bytes, a state is below 256, an entry has at most 27,709 bytes, and a volume
 -- at most 250 entries, since their routes rise.
 -- Assumes nothing.
 use mathlib.Core.Path.{_≡_, refl, sym, ap, _∙_, subst}
-use mathlib.Core.Bool.{Bool, true, false, not, _&&_, cond}
+use mathlib.Core.Bool.{Bool, true, false, cond}
 use mathlib.Core.List.{List, [], _∷_, _++_}
 use Prim.Native.Nat.{ℕ, zero, suc, _+_, _*_, _/_, _%_, _^_, _≤_, _<_}
 use native.Mathlib.Decide.{ℕ-discrete}
 use native.Mathlib.Omega.{arith}
-use lib.Dec.{eqb, leb}
+use lib.Dec.{leb}
 use lib.ListN.{length, drop}
 use lib.Pow.{pow-mono}
-use borrow.Author.Tests.{leb-true, eq-eqb, ne-eqb}
+use borrow.Author.Tests.{leb-true, ne-eqb}
 use Rattle.ring.specs.declared.State.{State}
 use Rattle.ring.specs.declared.Choice.{Choice}
 use Rattle.ring.specs.Polynomial.{value}
 use Rattle.ring.specs.Letters.{point}
 use Rattle.ring.specs.Table.{present}
-use Rattle.ring.proofs.Bool.{and-left, and-right, digit-lt, never}
+use Rattle.ring.proofs.Bool.{and-right, digit-lt}
 use Rattle.tables.specs.declared.Question.the-variants.{Letters, Solution, Order}
-use Rattle.tables.specs.Questions.{Asked, asks, asksGiving, number, firstNo, lettersFit, reads, writes, roomQuestions, bitQuestions}
+use Rattle.tables.specs.Questions.{Asked, asks, asksGiving, number, firstNo, lettersFit, roomQuestions, bitQuestions}
 use Rattle.tables.specs.Questions.{bufferQuestions}
 use Rattle.tables.specs.Answered.{Reply, accepted, refused, reply}
-use Rattle.tables.proofs.FirstNo.{number-some, first-small, yes-to, asked-before}
+use Rattle.tables.proofs.FirstNo.{number-some, first-small, first-other, yes-to, asked-before}
 use Rattle.tables.proofs.Answered.{givesNothing, reply-behind, reply-stops}
-use Rattle.tables.proofs.Questions.{letters-small, unknowns-small}
+use Rattle.tables.proofs.Questions.{letters-small, unknowns-small, givens-small}
 use Rattle.solution.specs.Condition.{polynomial}
 use Rattle.solution.specs.Order.{orderFits, lentCondition}
 use Rattle.solution.specs.Elimination.{Verdict, solved, none, smallestBelow, blocked, smallestBlocked}
@@ -39,12 +39,13 @@ use Rattle.entry.proofs.Passes.{Passes}
 use Rattle.entry.proofs.Verdicts.{VerdictFits}
 use Rattle.entry.proofs.Theorems.{entry-bound}
 use Rattle.calls.specs.Questions.{valueQuestions, pairQuestions, substituteQuestions, derivativeQuestions, textQuestions}
-use Rattle.calls.specs.Questions.{solvingQuestions, handedQuestions, writeQuestions, entryQuestions, readQuestions, auditQuestions}
+use Rattle.calls.specs.Questions.{factQuestions, solvingBuffers, solvingQuestions, handedQuestions, writeQuestions, recordQuestions}
+use Rattle.calls.specs.Questions.{entryQuestions, readQuestions, auditQuestions}
 use Rattle.calls.specs.Questions.{walkQuestions, startQuestions, addQuestions, markQuestions, returnQuestions}
 use Rattle.calls.specs.Operations.{outcome, valueAt}
 use Rattle.calls.specs.Entries.{lentEntry, readValues, stateOf}
 use Rattle.calls.specs.Walk.{walkRefusal, walkReply, Ends, at-end, refused-at, Walks}
-use Rattle.calls.proofs.Questions.{passes-exactly}
+use Rattle.calls.proofs.Questions.{written-exactly, writable-archivable, passes-exactly}
 use Rattle.calls.proofs.Volume.{walk-exact, entries-most}
 use Rattle.session.specs.declared.Session.{Session}
 use Rattle.session.specs.Session.{newSession, askedTables, under, added, marked, returned, stepped, startStep}
@@ -91,19 +92,6 @@ value-back questions v p f = rw (reply-numbered questions (v ∷ []) p) (go (fir
         let d : 256 * v / 256 ≡ v = omega arith in
         rw (narrow-small v (small refl), e, d)
     go (suc n) l small = let e : suc n % 256 ≡ suc n = omega arith in rw e
-
--- no question of the list has the number k; then neither has the first no
-lacks : ℕ → List Asked → Bool
-lacks k [] = true
-lacks k (asksGiving question answer given ∷ rest) = not (eqb (number question) k) && lacks k rest
-
-first-other : (k : ℕ) (questions : List Asked) → (0 ≡ k → ⊥) → lacks k questions ≡ true → firstNo questions ≡ k → ⊥
-unfolding lacks firstNo
-first-other k [] n h e = n e
-first-other k (asksGiving question true given ∷ rest) n h e =
-    first-other k rest n (and-right (not (eqb (number question) k)) (lacks k rest) h) e
-first-other k (asksGiving question false given ∷ rest) n h e =
-    never (and-left (not (eqb (number question) k)) (lacks k rest) h) (rw (eq-eqb (number question) k e))
 
 -- question 9 behind questions with other numbers
 state-back : (front : List Asked) (answer : Bool) (s : ℕ) → givesNothing front ≡ true → (firstNo front ≡ 9 → ⊥)
@@ -227,11 +215,11 @@ unfolding textQuestions bufferQuestions roomQuestions bitQuestions
 text-decoded U G text room =
     plain-back (textQuestions U G text room) refl
 
-pub handed-decoded : (U G : ℕ) (condition handed : List ℕ) (room : ℕ)
-    → plainReply (code (reply (handedQuestions U G condition handed room) [])) ≡ reply (handedQuestions U G condition handed room) []
-unfolding handedQuestions bufferQuestions roomQuestions bitQuestions
-handed-decoded U G condition handed room =
-    plain-back (handedQuestions U G condition handed room) refl
+pub handed-decoded : (U G : ℕ) (fact condition handed : List ℕ) (room : ℕ)
+    → plainReply (code (reply (handedQuestions U G fact condition handed room) [])) ≡ reply (handedQuestions U G fact condition handed room) []
+unfolding handedQuestions bufferQuestions roomQuestions bitQuestions factQuestions
+handed-decoded U G fact condition handed room =
+    plain-back (handedQuestions U G fact condition handed room) refl
 
 -- the value of a table, 0 or 1
 pub value-decoded : (U G : ℕ) (t : List ℕ) (state : State) (choice : Choice)
@@ -243,18 +231,19 @@ value-decoded U G t state choice =
     (λ z. omega (arith, digit-lt (value (U + G) (present t) (point U state choice))))
 
 -- the length written, which is an entry's
-pub written-decoded : (route U G : ℕ) (order condition : List ℕ) (room : ℕ)
-    → valueReply (code (reply (writeQuestions route U G order condition room) (length (lentEntry route U G order condition) ∷ [])))
-    ≡ reply (writeQuestions route U G order condition room) (length (lentEntry route U G order condition) ∷ [])
-unfolding writeQuestions bufferQuestions roomQuestions bitQuestions
-written-decoded route U G order condition room =
-    value-back (writeQuestions route U G order condition room) _ refl
-    (λ z. omega (arith, entry-bound route (lentCondition U G order condition) (yes-to Letters (lettersFit U G) [] _ z .0)))
+pub written-decoded : (route U G : ℕ) (order fact condition : List ℕ) (room : ℕ)
+    → valueReply (code (reply (writeQuestions route U G order fact condition room) (length (lentEntry route U G order fact condition) ∷ [])))
+    ≡ reply (writeQuestions route U G order fact condition room) (length (lentEntry route U G order fact condition) ∷ [])
+unfolding writeQuestions bufferQuestions roomQuestions bitQuestions factQuestions
+written-decoded route U G order fact condition room =
+    value-back (writeQuestions route U G order fact condition room) _ refl
+    (λ z.
+    let a = writable-archivable route U G order fact condition room (written-exactly route U G order fact condition room .0 z) in
+    omega (arith, entry-bound route (lentCondition U G order fact condition) (a .letters) (a .of-fact .givens)))
 
 -- Boole, the particular solution, own Löwenheim: the state is one of G givens, at most 8
 givens-few : (U G : ℕ) → lettersFit U G ≡ true → 2 ^ G ≤ 256
-unfolding lettersFit
-givens-few U G e = let l : G ≤ 8 = leb-true _ _ (and-left (leb G 8) (leb (U + G) 10) (and-right (leb U 6) _ e)) in pow-mono l
+givens-few U G e = pow-mono (givens-small U G e)
 
 smallest-most : (k : ℕ) (test : ℕ → Bool) → smallestBelow k test ≤ k
 unfolding smallestBelow
@@ -265,29 +254,28 @@ smallest-most (suc k) test = go (test 0) (smallest-most k (λ i. test (suc i)))
     go true l = omega arith
     go false l = omega arith
 
-module _ (U G : ℕ) (order condition : List ℕ) (room : ℕ) where
+module _ (U G : ℕ) (order fact condition : List ℕ) (room : ℕ) where
   -- those before question 9
   before-solution : List Asked
   before-solution =
       asks Letters (lettersFit U G)
       ∷ asks Order (orderFits U order)
-      ∷ bufferQuestions (reads (2 ^ (U + G)) condition ∷ writes (U * 2 ^ (U + G)) room ∷ [])
+      ∷ (bufferQuestions (solvingBuffers U G fact condition room) ++ factQuestions U G fact)
 
-  state-small : firstNo before-solution ≡ 0 → smallestBlocked U G (polynomial (lentCondition U G order condition)) .0 < 4294967296
+  state-small : firstNo before-solution ≡ 0 → smallestBlocked U G (polynomial (lentCondition U G order fact condition)) .0 < 4294967296
   unfolding before-solution smallestBlocked
   state-small z =
       let letters = yes-to Letters (lettersFit U G) [] _ z .0 in
-      let most = smallest-most (2 ^ G) (λ s. blocked U G (polynomial (lentCondition U G order condition)) (record { 0 = s })) in
+      let most = smallest-most (2 ^ G) (λ s. blocked U G (polynomial (lentCondition U G order fact condition)) (record { 0 = s })) in
       omega (arith, most, givens-few U G letters)
 
-  pub solving-decoded : stateReply (code (reply (solvingQuestions U G order condition room) []))
-      ≡ reply (solvingQuestions U G order condition room) []
-  unfolding before-solution solvingQuestions bufferQuestions roomQuestions bitQuestions lacks
+  pub solving-decoded : stateReply (code (reply (solvingQuestions U G order fact condition room) []))
+      ≡ reply (solvingQuestions U G order fact condition room) []
+  unfolding before-solution solvingQuestions bufferQuestions roomQuestions bitQuestions factQuestions
   solving-decoded =
-      state-back before-solution _ _ refl
-      (first-other 9 before-solution (λ z. omega arith) refl) state-small
+      state-back before-solution _ _ refl (λ e. omega (arith, e, first-other 9 before-solution refl e)) state-small
 
--- reading and the audit: what passes 10, 11, 1, 2, 12 and 17 is an entry of what it holds
+-- reading and the audit: what passes 10, 11, 1, 2, 12, 17, 22 and 23 is an entry of what it holds
 module _ (bs : List ℕ) (are : AreBytes bs) where
   entry-fits : firstNo (entryQuestions (records bs)) ≡ 0
       → let rs : List Record = records bs in
@@ -305,24 +293,28 @@ module _ (bs : List ℕ) (are : AreBytes bs) where
         of-route = omega (arith, leb-true (routeOf rs) 250 (and-right (leb 1 (routeOf rs)) (leb (routeOf rs) 250) (p .route)));
         of-unknowns = omega arith;
         of-givens = omega arith;
-        of-length = omega (arith, entry-most (routeOf rs) (heldCondition rs) (heldVerdict rs) (unknowns-small _ _ (p .letters)) n);
+        of-length = omega (
+          arith,
+          entry-most (routeOf rs) (heldCondition rs) (heldVerdict rs) (unknowns-small _ _ (p .letters)) (givens-small _ _ (p .letters)) n
+              (p .fact-letters),
+        );
         of-state = λ state e.
             let held = held-fits rs (records-made bs are) (p .kinds) (records-end bs) n (p .numbers) (p .order) in
             let f : state .0 < 2 ^ givensOf rs = subst (VerdictFits (unknownsOf rs) (givensOf rs)) e held in
             omega (arith, givens-few (unknownsOf rs) (givensOf rs) (p .letters));
       }
 
-  pub read-decoded : (room answerRoom : ℕ)
-      → entryReply (entryCode (reply (readQuestions (records bs) room answerRoom) (readValues (records bs))))
-      ≡ reply (readQuestions (records bs) room answerRoom) (readValues (records bs))
-  unfolding readQuestions readValues entryQuestions bufferQuestions roomQuestions bitQuestions
-  read-decoded room answerRoom =
-      entry-back _ _ _ _ (readQuestions (records bs) room answerRoom) (heldVerdict (records bs)) refl
+  pub read-decoded : (factRoom room answerRoom : ℕ)
+      → entryReply (entryCode (reply (readQuestions (records bs) factRoom room answerRoom) (readValues (records bs))))
+      ≡ reply (readQuestions (records bs) factRoom room answerRoom) (readValues (records bs))
+  unfolding readQuestions readValues entryQuestions recordQuestions factQuestions bufferQuestions roomQuestions bitQuestions
+  read-decoded factRoom room answerRoom =
+      entry-back _ _ _ _ (readQuestions (records bs) factRoom room answerRoom) (heldVerdict (records bs)) refl
       (λ z. entry-fits (asked-before (entryQuestions (records bs)) _ z))
 
   pub audit-decoded : entryReply (entryCode (reply (auditQuestions (records bs)) (readValues (records bs))))
       ≡ reply (auditQuestions (records bs)) (readValues (records bs))
-  unfolding auditQuestions readValues entryQuestions
+  unfolding auditQuestions readValues entryQuestions recordQuestions factQuestions
   audit-decoded =
       entry-back _ _ _ _ (auditQuestions (records bs)) (heldVerdict (records bs)) refl
       (λ z. entry-fits (asked-before (entryQuestions (records bs)) _ z))

@@ -25,7 +25,7 @@ abbrev pub stateCode : List ℕ → ℕ
 stateCode [] = 0
 stateCode (state ∷ _) = 1 + state % 256
 
--- a byte each, from the second on, for the route, U and G, and two bytes for the length used. Every value fits: an entry has at most 27,661
+-- a byte each, from the second on, for the route, U and G, and two bytes for the length used. Every value fits: an entry has at most 27,709
 -- bytes
 abbrev pub headingCode : ℕ → ℕ → ℕ → ℕ → ℕ
 headingCode route U G used = 256 * route + 65536 * (U % 256) + 16777216 * (G % 256) + 4294967296 * (used % 65536)

@@ -196,13 +196,14 @@ pub extern "C" fn layodegi_boole(
     u: usize,
     g: usize,
     order: &[u8; 6],
+    fact: &[u8],
     condition: &[u8],
     answers: &mut [u8],
 ) -> u64
     ensures { λ c. ⌜ answered c (now (answers .exit) ∷ [])
-        ≡ coded code (booleCall u g (now (order .entry)) (now (condition .entry)) (now (answers .entry))) ⌝ }
+        ≡ coded code (booleCall u g (now (order .entry)) (now (fact .entry)) (now (condition .entry)) (now (answers .entry))) ⌝ }
 {
-    solving_code(solver::boole(u, g, *order, condition, answers))
+    solving_code(solver::boole(u, g, *order, fact, condition, answers))
 }
 
 // The particular solution.
@@ -211,13 +212,14 @@ pub extern "C" fn layodegi_particular(
     u: usize,
     g: usize,
     order: &[u8; 6],
+    fact: &[u8],
     condition: &[u8],
     answers: &mut [u8],
 ) -> u64
     ensures { λ c. ⌜ answered c (now (answers .exit) ∷ [])
-        ≡ coded code (particularCall u g (now (order .entry)) (now (condition .entry)) (now (answers .entry))) ⌝ }
+        ≡ coded code (particularCall u g (now (order .entry)) (now (fact .entry)) (now (condition .entry)) (now (answers .entry))) ⌝ }
 {
-    solving_code(solver::particular(u, g, *order, condition, answers))
+    solving_code(solver::particular(u, g, *order, fact, condition, answers))
 }
 
 // Löwenheim's answers from the particular solution.
@@ -226,13 +228,14 @@ pub extern "C" fn layodegi_lowenheim(
     u: usize,
     g: usize,
     order: &[u8; 6],
+    fact: &[u8],
     condition: &[u8],
     answers: &mut [u8],
 ) -> u64
     ensures { λ c. ⌜ answered c (now (answers .exit) ∷ [])
-        ≡ coded code (lowenheimCall u g (now (order .entry)) (now (condition .entry)) (now (answers .entry))) ⌝ }
+        ≡ coded code (lowenheimCall u g (now (order .entry)) (now (fact .entry)) (now (condition .entry)) (now (answers .entry))) ⌝ }
 {
-    solving_code(solver::lowenheim(u, g, *order, condition, answers))
+    solving_code(solver::lowenheim(u, g, *order, fact, condition, answers))
 }
 
 // Löwenheim's formula on handed polynomials that solve the condition.
@@ -240,44 +243,48 @@ pub extern "C" fn layodegi_lowenheim(
 pub extern "C" fn layodegi_lowenheim_handed(
     u: usize,
     g: usize,
+    fact: &[u8],
     condition: &[u8],
     handed: &[u8],
     answers: &mut [u8],
 ) -> u64
     ensures { λ c. ⌜ answered c (now (answers .exit) ∷ [])
-        ≡ coded code (handedCall u g (now (condition .entry)) (now (handed .entry)) (now (answers .entry))) ⌝ }
+        ≡ coded code (handedCall u g (now (fact .entry)) (now (condition .entry)) (now (handed .entry)) (now (answers .entry))) ⌝ }
 {
-    outcome_code(solver::lowenheim_handed(u, g, condition, handed, answers))
+    outcome_code(solver::lowenheim_handed(u, g, fact, condition, handed, answers))
 }
 
-// Writes the entry of a condition: the code has its length.
+// Writes the entry of a condition under a fact: the code has its length.
 #[no_mangle]
 pub extern "C" fn layodegi_write_entry(
     route: usize,
     u: usize,
     g: usize,
     order: &[u8; 6],
+    fact: &[u8],
     condition: &[u8],
     out: &mut [u8],
 ) -> u64
     ensures { λ c. ⌜ answered c (now (out .exit) ∷ [])
-        ≡ coded code (writeCall route u g (now (order .entry)) (now (condition .entry)) (now (out .entry))) ⌝ }
+        ≡ coded code (writeCall route u g (now (order .entry)) (now (fact .entry)) (now (condition .entry)) (now (out .entry))) ⌝ }
 {
-    written_code(writer::write_entry(route, u, g, *order, condition, out))
+    written_code(writer::write_entry(route, u, g, *order, fact, condition, out))
 }
 
-// Reads an entry: its order, its condition table and, if it is solved, its answer tables.
+// Reads an entry: its order, its fact, its condition table and, if it is solved, its answer tables.
 #[no_mangle]
 pub extern "C" fn layodegi_read_entry(
     bytes: &[u8],
     order: &mut [u8; 6],
+    fact: &mut [u8],
     condition: &mut [u8],
     answers: &mut [u8],
 ) -> u64
-    ensures { λ c. ⌜ answered c (now (order .exit) ∷ now (condition .exit) ∷ now (answers .exit) ∷ [])
-        ≡ coded entryCode (readCall (now (bytes .entry)) (now (order .entry)) (now (condition .entry)) (now (answers .entry))) ⌝ }
+    ensures { λ c. ⌜ answered c (now (order .exit) ∷ now (fact .exit) ∷ now (condition .exit) ∷ now (answers .exit) ∷ [])
+        ≡ coded entryCode (readCall (now (bytes .entry)) (now (order .entry)) (now (fact .entry)) (now (condition .entry))
+        (now (answers .entry))) ⌝ }
 {
-    read_code(reader::read_entry(bytes, order, condition, answers))
+    read_code(reader::read_entry(bytes, order, fact, condition, answers))
 }
 
 // Audits an entry.

@@ -1,7 +1,7 @@
 -- The ways out of reading: refused by one of the questions before 4, by 4, and with the tables written.
 -- Assumes nothing.
 use mathlib.Core.Path.{_≡_, refl, sym, ap, _∙_}
-use mathlib.Core.Bool.{Bool, true, false}
+use mathlib.Core.Bool.{Bool, false}
 use mathlib.Core.List.{List, [], _∷_, _++_, append-nil}
 use mathlib.Core.Logic.{_⊎_, inl, inr}
 use Prim.Native.Nat.{ℕ, _+_, _*_, _^_, _≤_}
@@ -9,31 +9,30 @@ use native.Mathlib.Omega.{arith}
 use lib.ListN.{length, take, drop, length-append, take-append-drop, drop-of-length-le}
 use lib.Seq.{length-take-le, take-append-seam, drop-append-seam}
 use Rattle.ring.specs.declared.State.{State}
-use Rattle.ring.specs.Table.{tabulate, table, answerTable}
+use Rattle.ring.specs.Table.{table, answerTable}
 use Rattle.ring.proofs.Table.{length-tabulate, length-table, length-answerTable}
 use Rattle.tables.specs.declared.Question.the-variants.{Room}
-use Rattle.tables.specs.Questions.{Asked, asks, firstNo, lettersFit, hasRoom, writes, roomQuestions, bitQuestions, bufferQuestions}
-use Rattle.tables.specs.Answered.{Reply, accepted, refused, after, Answered, answered, Buffer, _into_, call}
+use Rattle.tables.specs.Questions.{Asked, asks, firstNo, hasRoom, writes, roomQuestions, bitQuestions, bufferQuestions}
+use Rattle.tables.specs.Answered.{accepted, refused, answered, _into_}
 use Rattle.tables.specs.Inner.Asking.{also}
-use Rattle.tables.proofs.FirstNo.{also-none, ask-then, ask-last, then-further}
+use Rattle.tables.proofs.FirstNo.{also-none, ask-then, ask-last, then-further, asked-before}
 use Rattle.tables.proofs.Answered.{call-stops, call-refused, call-done-none, call-also}
 use Rattle.tables.proofs.Parts.{answers-fit}
-use Rattle.tables.proofs.Questions.{letters-small, unknowns-small}
 use Rattle.solution.specs.Elimination.{solved, none, Verdict as Said}
 use Rattle.entry.specs.Held.{records, orderIn, unknownsOf, givensOf, conditionIn, answersIn, unlessNone, heldCondition, heldVerdict}
-use Rattle.entry.specs.Questions.{numbersFit}
-use Rattle.entry.proofs.Places.{numbers-by-places}
 use Rattle.entry.proofs.Canonical.{unless-cases}
-use Rattle.entry.proofs.Passes.{Passes}
 use Rattle.calls.specs.declared.Heading.{Heading}
 use Rattle.calls.specs.declared.Verdict.{Verdict}
 use Rattle.calls.specs.declared.Verdict.the-variants.{Solved, None}
-use Rattle.calls.specs.Questions.{entryQuestions, readQuestions}
+use Rattle.calls.specs.Questions.{factQuestions, recordQuestions, entryQuestions, readQuestions}
 use Rattle.calls.specs.Entries.{readValues, readCall, stateOf, stateSaid, answersOf}
 use Rattle.calls.proofs.Questions.{passes-exactly, read-exactly}
 use Rattle.records.specs.Inner.Headings.{lengthUsed, headingOf, said}
 use Rattle.records.proofs.Headings.{heading-u, heading-g}
-use Rattle.reader.specs.Inner.Filling.{zeros, putMonomial, filled, roomFor, Fitting}
+use Rattle.records.specs.Inner.Filling.{zeros, putMonomial, filled, Fitting, Passed}
+use Rattle.records.proofs.Filling.{cleared-length}
+use Rattle.records.proofs.Facts.{passed-fits, fact-table}
+use Rattle.reader.specs.Inner.Filling.{roomFor}
 use Rattle.reader.proofs.Filling.{filled-condition, filled-answers, filled-nothing}
 
 -- ---- a buffer whose front was cleared
@@ -53,7 +52,7 @@ part-long k l h = sym (length-take-le k l h)
 module _ (j : ℕ) (c c₁ : List ℕ) (e : c₁ ≡ zeros (length (take j c))) where
   again-whole : length (c₁ ++ drop j c) ≡ length c
   again-whole =
-      let h : length c₁ ≡ length (take j c) = ap length e ∙ length-tabulate (length (take j c)) (λ i. false) in
+      let h : length c₁ ≡ length (take j c) = cleared-length (length (take j c)) e in
       length-append c₁ (drop j c) ∙ ap (λ (i : ℕ). i + length (drop j c)) h
       ∙ sym (length-append (take j c) (drop j c)) ∙ ap length (take-append-drop j c)
 
@@ -72,18 +71,18 @@ state-told (solved a) = refl
 state-told (none state) = refl
 
 -- ---- question 4, as the code asks it
-pub room-asked : (k room size answerRoom : ℕ) {q r : ℕ} {a b : Bool} → a ≡ hasRoom k room → q ≡ also 0 (asks Room a ∷ [])
-    → b ≡ hasRoom size answerRoom
-    → r ≡ also q (asks Room b ∷ []) → r ≡ firstNo (bufferQuestions (writes k room ∷ writes size answerRoom ∷ []))
+pub room-asked : (k factRoom room size answerRoom : ℕ) {p q r : ℕ} {a b d : Bool} → a ≡ hasRoom k factRoom → p ≡ also 0 (asks Room a ∷ [])
+    → b ≡ hasRoom k room → q ≡ also p (asks Room b ∷ []) → d ≡ hasRoom size answerRoom
+    → r ≡ also q (asks Room d ∷ []) → r ≡ firstNo (bufferQuestions (writes k factRoom ∷ writes k room ∷ writes size answerRoom ∷ []))
 unfolding bufferQuestions roomQuestions bitQuestions
-room-asked k room size answerRoom {q} {r} ea eq eb er =
-    ask-then 0 q r Room _ _ _ eq ea (ask-last q r Room _ _ er eb) ∙ sym (also-none _)
+room-asked k factRoom room size answerRoom {p} {q} {r} ea ep eb eq ed er =
+    ask-then 0 p r Room _ _ _ ep ea (ask-then p q r Room _ _ _ eq eb (ask-last q r Room _ _ er ed)) ∙ sym (also-none _)
 
 -- ---- refused before question 4
-pub read-refused : (bs o c a : List ℕ) {q : ℕ} → q ≡ firstNo (entryQuestions (records bs)) → (q ≡ 0 → ⊥)
-    → answered (refused q []) (o ∷ c ∷ a ∷ []) ≡ readCall bs o c a
-unfolding readQuestions entryQuestions
-read-refused bs o c a {q} e n = call-stops (entryQuestions (records bs)) _ _ (_ into o ∷ _ into c ∷ _ into a ∷ []) q refl e n
+pub read-refused : (bs o f c a : List ℕ) {q : ℕ} → q ≡ firstNo (entryQuestions (records bs)) → (q ≡ 0 → ⊥)
+    → answered (refused q []) (o ∷ f ∷ c ∷ a ∷ []) ≡ readCall bs o f c a
+unfolding readQuestions entryQuestions recordQuestions factQuestions
+read-refused bs o f c a {q} e n = call-stops (entryQuestions (records bs)) _ _ (_ into o ∷ _ into f ∷ _ into c ∷ _ into a ∷ []) q refl e n
 
 -- an order in six bytes
 pub order-done : (order lent : List ℕ) → length order ≡ 6 → length lent ≡ 6 → order ≡ order ++ drop (length order) lent
@@ -91,61 +90,50 @@ order-done order lent e f = let l : length lent ≤ length order = omega arith i
 
 -- ---- behind the questions before it
 module _ (bs : List ℕ) (p : firstNo (entryQuestions (records bs)) ≡ 0) {h : Heading} (eh : h ≡ headingOf (records bs)) where
-  held : Passes (records bs)
-  held = passes-exactly (records bs) .0 p
-
   of-u : h .unknowns ≡ unknownsOf (records bs)
   of-u = heading-u (records bs) eh
 
   of-g : h .givens ≡ givensOf (records bs)
   of-g = heading-g (records bs) eh
 
-  letters : lettersFit (h .unknowns) (h .givens) ≡ true
-  letters = rw (of-u, of-g) (held .letters)
-
-  pub heading-small : h .unknowns + h .givens ≤ 10
-  heading-small = letters-small (h .unknowns) (h .givens) letters
-
-  pub heading-unknowns : h .unknowns ≤ 6
-  heading-unknowns = unknowns-small (h .unknowns) (h .givens) letters
+  pub heading-passed : Passed bs (h .unknowns) (h .givens)
+  unfolding entryQuestions
+  heading-passed = record { yes = asked-before (recordQuestions (records bs)) _ p; of-unknowns = of-u; of-givens = of-g }
 
   pub heading-fits : Fitting (h .unknowns) (h .givens) (records bs)
-  unfolding numbersFit
-  heading-fits =
-      record {
-        unknowns = heading-unknowns;
-        letters = heading-small;
-        from = 0;
-        fits = numbers-by-places (h .unknowns) (h .givens) heading-small (records bs) ∙ rw (of-u, of-g) (held .numbers);
-      }
+  heading-fits = passed-fits bs heading-passed
 
   pub size-small : {k : ℕ} → k ≡ 2 ^ (h .unknowns + h .givens) → h .unknowns * k ≤ 6144
-  size-small ek = answers-fit heading-unknowns ek heading-small
+  size-small ek = answers-fit (heading-fits .unknowns) ek (heading-fits .letters)
 
-  module _ (lent c a : List ℕ) {k : ℕ} (ek : k ≡ 2 ^ (h .unknowns + h .givens)) {q : ℕ}
-      (eq : q ≡ firstNo (bufferQuestions (writes k (length c) ∷ writes (h .unknowns * k) (length a) ∷ []))) where
-    refusal : q ≡ firstNo (readQuestions (records bs) (length c) (length a))
+  module _ (lent f c a : List ℕ) {k : ℕ} (ek : k ≡ 2 ^ (h .unknowns + h .givens)) {q : ℕ}
+      (eq : q ≡ firstNo (bufferQuestions (writes k (length f) ∷ writes k (length c) ∷ writes (h .unknowns * k) (length a) ∷ []))) where
+    refusal : q ≡ firstNo (readQuestions (records bs) (length f) (length c) (length a))
     unfolding readQuestions
     refusal = eq ∙ rw (ek, of-u, of-g) (sym (then-further (entryQuestions (records bs)) _ p))
 
-    pub read-short : (q ≡ 0 → ⊥) → answered (refused q []) (lent ∷ c ∷ a ∷ []) ≡ readCall bs lent c a
-    unfolding readQuestions entryQuestions bufferQuestions roomQuestions bitQuestions
-    read-short n = call-refused (readQuestions (records bs) (length c) (length a)) _
-        (_ into lent ∷ _ into c ∷ _ into a ∷ []) q refl refusal n
+    pub read-short : (q ≡ 0 → ⊥) → answered (refused q []) (lent ∷ f ∷ c ∷ a ∷ []) ≡ readCall bs lent f c a
+    unfolding readQuestions entryQuestions recordQuestions factQuestions bufferQuestions roomQuestions bitQuestions
+    read-short n = call-refused (readQuestions (records bs) (length f) (length c) (length a)) _
+        (_ into lent ∷ _ into f ∷ _ into c ∷ _ into a ∷ []) q refl refusal n
 
     module _ (z : q ≡ 0) where
-      roomy : (2 ^ (unknownsOf (records bs) + givensOf (records bs)) ≤ length c)
+      roomy : (2 ^ (unknownsOf (records bs) + givensOf (records bs)) ≤ length f)
+          × (2 ^ (unknownsOf (records bs) + givensOf (records bs)) ≤ length c)
           × (unknownsOf (records bs) * 2 ^ (unknownsOf (records bs) + givensOf (records bs)) ≤ length a)
-      roomy = read-exactly (records bs) (length c) (length a) .0 (sym refusal ∙ z) .1
+      roomy = read-exactly (records bs) (length f) (length c) (length a) .0 (sym refusal ∙ z) .1
+
+      pub fact-fits : k ≤ length f
+      fact-fits = rw (ek, of-u, of-g) (roomy .0)
 
       pub condition-fits : k ≤ length c
-      condition-fits = rw (ek, of-u, of-g) (roomy .0)
+      condition-fits = rw (ek, of-u, of-g) (roomy .1)
 
       pub answers-fits : (v : Verdict) {room : ℕ} → room ≡ roomFor v (h .unknowns * k) → room ≤ length a
       answers-fits v er = rw er (go v)
         where
           all : h .unknowns * k ≤ length a
-          all = rw (ek, of-u, of-g) (roomy .1)
+          all = rw (ek, of-u, of-g) (roomy .2)
 
           go : (v : Verdict) → roomFor v (h .unknowns * k) ≤ length a
           go Solved = all
@@ -153,11 +141,15 @@ module _ (bs : List ℕ) (p : firstNo (entryQuestions (records bs)) ≡ 0) {h : 
 
       -- cleared, filled from the records, and back in place
       module _ {v : Verdict} (ev : v ≡ said (heldVerdict (records bs))) {room : ℕ}
-          (er : room ≡ roomFor v (h .unknowns * k)) {c₁ c₂ a₁ a₂ : List ℕ}
+          (er : room ≡ roomFor v (h .unknowns * k)) {f₁ c₁ c₂ a₁ a₂ : List ℕ} (ef₁ : f₁ ≡ heldCondition (records bs) .fact)
           (ec₁ : c₁ ≡ zeros (length (take k c)))
-          (ec₂ : c₂ ≡ filled (putMonomial 0 (2 ^ (h .unknowns + h .givens))) (records bs) (take k (c₁ ++ drop k c)))
+          (ec₂ : c₂ ≡ filled (putMonomial 1 (2 ^ (h .unknowns + h .givens))) (records bs) (take k (c₁ ++ drop k c)))
           (ea₁ : a₁ ≡ zeros (length (take room a)))
-          (ea₂ : a₂ ≡ filled (putMonomial 1 (2 ^ (h .unknowns + h .givens))) (records bs) (take room (a₁ ++ drop room a))) where
+          (ea₂ : a₂ ≡ filled (putMonomial 2 (2 ^ (h .unknowns + h .givens))) (records bs) (take room (a₁ ++ drop room a))) where
+        fact-done : f₁ ++ drop k f ≡ heldCondition (records bs) .fact ++ drop (length (heldCondition (records bs) .fact)) f
+        fact-done =
+            let l : k ≡ length (heldCondition (records bs) .fact) = ek ∙ sym (fact-table bs heading-passed .size) in rw (ef₁, ← l)
+
         cleared-c : c₁ ≡ zeros k
         cleared-c = ec₁ ∙ ap zeros (length-take-le k c condition-fits)
 
@@ -179,7 +171,7 @@ module _ (bs : List ℕ) (p : firstNo (entryQuestions (records bs)) ≡ 0) {h : 
 
         values : (h .route ∷ h .unknowns ∷ h .givens ∷ h .used ∷ stateSaid v) ≡ readValues (records bs)
         unfolding readValues headingOf lengthUsed
-        values = rw (ev, state-told (heldVerdict (records bs)), eh, held .whole)
+        values = rw (ev, state-told (heldVerdict (records bs)), eh, passes-exactly (records bs) .0 p .whole)
 
         cleared-a : a₁ ≡ zeros room
         cleared-a = ea₁ ∙ ap zeros (length-take-le room a (answers-fits v er))
@@ -209,7 +201,7 @@ module _ (bs : List ℕ) (p : firstNo (entryQuestions (records bs)) ≡ 0) {h : 
                 rw e (is ∙ rw (of-u, of-g), z ∙ rw (ek, of-u, of-g) (sym l))
             go (inr e) =
                 let z : room ≡ 0 = room-is (none (e .0)) (e .1) in
-                rw (e .1) (ea₂ ∙ rw z (filled-nothing 1 (2 ^ (h .unknowns + h .givens)) (records bs)), z)
+                rw (e .1) (ea₂ ∙ rw z (filled-nothing 2 (2 ^ (h .unknowns + h .givens)) (records bs)), z)
 
         answers-done : a₂ ++ drop room (a₁ ++ drop room a)
             ≡ answersOf (heldVerdict (records bs)) ++ drop (length (answersOf (heldVerdict (records bs)))) a
@@ -217,11 +209,12 @@ module _ (bs : List ℕ) (p : firstNo (entryQuestions (records bs)) ≡ 0) {h : 
 
         pub read-done : {o order : List ℕ} → order ≡ orderIn (records bs) → o ≡ order ++ drop (length order) lent
             → answered (accepted (h .route ∷ h .unknowns ∷ h .givens ∷ h .used ∷ stateSaid v))
-            (o ∷ (c₂ ++ drop k (c₁ ++ drop k c)) ∷ (a₂ ++ drop room (a₁ ++ drop room a)) ∷ []) ≡ readCall bs lent c a
+            (o ∷ (f₁ ++ drop k f) ∷ (c₂ ++ drop k (c₁ ++ drop k c)) ∷ (a₂ ++ drop room (a₁ ++ drop room a)) ∷ []) ≡ readCall bs lent f c a
         read-done {o} eo en =
-            let done : firstNo (readQuestions (records bs) (length c) (length a)) ≡ 0 = sym refusal ∙ z in
-            call-also (readQuestions (records bs) (length c) (length a)) (readValues (records bs)) _ lent o _ done (en ∙ rw eo)
-            (call-also (readQuestions (records bs) (length c) (length a)) (readValues (records bs)) _ c _ _ done condition-done
-            (call-also (readQuestions (records bs) (length c) (length a)) (readValues (records bs)) _ a _ _ done answers-done
-            (ap (λ (x : List ℕ). answered (accepted x) []) values
-            ∙ call-done-none (readQuestions (records bs) (length c) (length a)) (readValues (records bs)) done)))
+            let asked : List Asked = readQuestions (records bs) (length f) (length c) (length a) in
+            let done : firstNo asked ≡ 0 = sym refusal ∙ z in
+            call-also asked (readValues (records bs)) _ lent o _ done (en ∙ rw eo)
+            (call-also asked (readValues (records bs)) _ f _ _ done fact-done
+            (call-also asked (readValues (records bs)) _ c _ _ done condition-done
+            (call-also asked (readValues (records bs)) _ a _ _ done answers-done
+            (ap (λ (x : List ℕ). answered (accepted x) []) values ∙ call-done-none asked (readValues (records bs)) done))))

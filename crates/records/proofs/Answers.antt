@@ -25,7 +25,7 @@ use Rattle.entry.proofs.Records.{first-next, next-front, next-whole, size-fits,
 use Rattle.entry.proofs.Records.{there, there-whole}
 use Rattle.entry.proofs.Canonical.{endsThere, records-end, isEmpty}
 use Rattle.entry.proofs.Places.{numbers-by-places}
-use Rattle.calls.specs.Questions.{entryQuestions}
+use Rattle.calls.specs.Questions.{recordQuestions, entryQuestions}
 use Rattle.calls.specs.declared.Heading.{Heading}
 use Rattle.calls.specs.declared.Verdict.{Verdict}
 use Rattle.calls.specs.declared.Verdict.the-variants.{Solved, None}
@@ -110,8 +110,8 @@ module _ (rs : List Record) (ends : endsThere rs ≡ true) {fits : Bool} (ef : f
   abbrev all : Gathered
   all = gathered (routeOf rs) u g rs
 
-  no-end : hasEnd rs ≡ false → firstNo (gatheredQuestions all fits (routeOf rs) inOrder) ≡ firstNo (entryQuestions rs)
-  unfolding firstNo entryQuestions gathered lengthUsed
+  no-end : hasEnd rs ≡ false → firstNo (gatheredQuestions all fits (routeOf rs) inOrder) ≡ firstNo (recordQuestions rs)
+  unfolding firstNo recordQuestions gathered lengthUsed
   no-end h = rw h
 
   module _ (h : hasEnd rs ≡ true) where
@@ -123,8 +123,8 @@ module _ (rs : List Record) (ends : endsThere rs ≡ true) {fits : Bool} (ef : f
     unfolding gathered kindsFit
     kinds = kinds-all (routeOf rs) u g nothingSeen rs ends h
 
-    no-fit : fits ≡ false → firstNo (gatheredQuestions all fits (routeOf rs) inOrder) ≡ firstNo (entryQuestions rs)
-    unfolding firstNo entryQuestions
+    no-fit : fits ≡ false → firstNo (gatheredQuestions all fits (routeOf rs) inOrder) ≡ firstNo (recordQuestions rs)
+    unfolding firstNo recordQuestions
     no-fit f = rw (used, kinds, h, ← ef, f)
 
     module _ (f : fits ≡ true) where
@@ -137,15 +137,15 @@ module _ (rs : List Record) (ends : endsThere rs ≡ true) {fits : Bool} (ef : f
           numbers-all (routeOf rs) u g nothingSeen rs
           ∙ rw (eu, eg, f) (numbers-by-places (unknownsOf rs) (givensOf rs) (letters-small (unknownsOf rs) (givensOf rs) letters) rs)
 
-      all-fit : firstNo (gatheredQuestions all fits (routeOf rs) inOrder) ≡ firstNo (entryQuestions rs)
-      unfolding firstNo entryQuestions
+      all-fit : firstNo (gatheredQuestions all fits (routeOf rs) inOrder) ≡ firstNo (recordQuestions rs)
+      unfolding firstNo recordQuestions
       all-fit = rw (used, kinds, h, numbers, ← ef, ← eo)
 
-  first-no : firstNo (gatheredQuestions all fits (routeOf rs) inOrder) ≡ firstNo (entryQuestions rs)
+  first-no : firstNo (gatheredQuestions all fits (routeOf rs) inOrder) ≡ firstNo (recordQuestions rs)
   first-no = go (bool-cases (hasEnd rs)) (bool-cases fits)
     where
       go : (hasEnd rs ≡ true) ⊎ (hasEnd rs ≡ false) → (fits ≡ true) ⊎ (fits ≡ false)
-          → firstNo (gatheredQuestions all fits (routeOf rs) inOrder) ≡ firstNo (entryQuestions rs)
+          → firstNo (gatheredQuestions all fits (routeOf rs) inOrder) ≡ firstNo (recordQuestions rs)
       go (inr h) f = no-end h
       go (inl h) (inr f) = no-fit h f
       go (inl h) (inl f) = all-fit h f
@@ -245,9 +245,7 @@ module _ (bs : List ℕ) {h : Heading} (eh : h ≡ startOf (records bs)) {u g : 
   pub survey-bounds : {masks states : ℕ} → masks ≡ 2 ^ (u + g) → states ≡ 2 ^ g → Bounds u g masks states
   survey-bounds em es = record { few = few-letters; of-masks = em; of-states = es }
 
-  module _ {x : Gathered} (ex : x ≡ gathered (h .route) u g (records bs)) {o : List ℕ} (eo : o ≡ orderBehind (h .unknowns) (records bs))
-      {inOrder : Bool} (ei : inOrder ≡ orderFits (h .unknowns) o) {q : ℕ}
-      (eq : q ≡ firstNo (gatheredQuestions x fits (h .route) inOrder)) {v : Verdict} (ev : v ≡ saidBy (x .none)) where
+  module _ {x : Gathered} (ex : x ≡ gathered (h .route) u g (records bs)) {o : List ℕ} (eo : o ≡ orderBehind (h .unknowns) (records bs)) where
     over : x ≡ gathered (routeOf (records bs)) u g (records bs)
     over = ex ∙ rw eh
 
@@ -255,23 +253,30 @@ module _ (bs : List ℕ) {h : Heading} (eh : h ≡ startOf (records bs)) {u g : 
     unfolding orderBehind orderIn
     order-is = eo ∙ rw eh
 
-    refusal-is : q ≡ firstNo (entryQuestions (records bs))
-    refusal-is =
-        eq ∙ rw (over, eh) (first-no (records bs) (records-end bs) (rw eh at ef) (rw eh at eu) (rw eh at eg) (ei ∙ rw (order-is, eh)))
+    -- what 22 and 23 are asked behind
+    pub asked-before-facts : {inOrder : Bool} → inOrder ≡ orderFits (h .unknowns) o → {q : ℕ}
+        → q ≡ firstNo (gatheredQuestions x fits (h .route) inOrder)
+        → (h .unknowns ≡ unknownsOf (records bs)) × (h .givens ≡ givensOf (records bs)) × (q ≡ firstNo (recordQuestions (records bs)))
+    asked-before-facts ei eq = (
+      rw eh,
+      rw eh,
+      eq ∙ rw (over, eh) (first-no (records bs) (records-end bs) (rw eh at ef) (rw eh at eu) (rw eh at eg) (ei ∙ rw (order-is, eh))),
+    )
 
     heading-is : record { route = h .route; unknowns = h .unknowns; givens = h .givens; used = x .used } ≡ headingOf (records bs)
     unfolding headingOf gathered
     heading-is = rw (over, eh)
 
-    verdict-is : v ≡ said (heldVerdict (records bs))
+    verdict-is : {v : Verdict} → v ≡ saidBy (x .none) → v ≡ said (heldVerdict (records bs))
     unfolding gathered heldVerdict orElse
-    verdict-is = ev ∙ rw over (said-all _ (routeOf (records bs)) u g nothingSeen (records bs))
+    verdict-is ev = ev ∙ rw over (said-all _ (routeOf (records bs)) u g nothingSeen (records bs))
 
-    pub survey-is : record {
-      refusal = q;
-      heading = record { route = h .route; unknowns = h .unknowns; givens = h .givens; used = x .used };
-      verdict = v;
-      order = o;
-    }
+    pub survey-is : {q : ℕ} → q ≡ firstNo (entryQuestions (records bs)) → {v : Verdict} → v ≡ saidBy (x .none)
+        → record {
+          refusal = q;
+          heading = record { route = h .route; unknowns = h .unknowns; givens = h .givens; used = x .used };
+          verdict = v;
+          order = o;
+        }
         ≡ surveyOf (records bs)
-    survey-is = rw (refusal-is, heading-is, verdict-is, order-is)
+    survey-is eq ev = rw (eq, heading-is, verdict-is ev, order-is)

@@ -3,16 +3,17 @@
 use mathlib.Core.Path.{_≡_, refl, sym, ap, _∙_}
 use mathlib.Core.Bool.{Bool, true, false, cond, not, _&&_, _||_, and-true, or-false}
 use mathlib.Core.List.{List, [], _∷_}
+use mathlib.Core.Logic.{_⊎_, inl, inr}
 use Prim.Native.Nat.{ℕ, zero, suc, _+_, _-_, _*_, _^_, _≤_, _<_}
 use native.Mathlib.Numerals.{add-one}
 use native.Mathlib.Omega.{arith}
 use lib.Dec.{ltb, eqb}
-use lib.ListN.{length, getD, drop}
+use lib.ListN.{length, getD, drop, List·getD-eq-default}
 use lib.Pow.{pow-mono}
-use borrow.Author.Tests.{ltb-true, eqb-true, ne-eqb, not-true, not-false}
+use borrow.Author.Tests.{ltb-true, eqb-true, eqb-false, ne-eqb, not-true, not-false}
 use Rattle.ring.specs.Polynomial.{everyBelow}
 use Rattle.ring.specs.Lists.{listed, has}
-use Rattle.ring.proofs.Bool.{and-right}
+use Rattle.ring.proofs.Bool.{and-right, bool-cases}
 use Rattle.ring.proofs.Every.{every-all}
 use Rattle.ring.proofs.Lists.{listed-getD}
 use Rattle.tables.specs.declared.Question.the-variants.{Letters, Route, Records, Kinds, Numbers, Order}
@@ -21,11 +22,11 @@ use Rattle.tables.specs.Inner.Asking.{also}
 use Rattle.tables.proofs.FirstNo.{also-none, ask-then}
 use Rattle.order.specs.Inner.Place.{rank}
 use Rattle.entry.specs.Record.{Record, routeField, unknownsField, givensField, unknownField, maskField, stateField, fields, widths, size}
-use Rattle.entry.specs.Record.{kind, among, valueOf, isEnd, isNone, isOrder, isMonomial, isDefault, inBounds}
-use Rattle.entry.specs.Questions.{routeFits, mayFollow}
+use Rattle.entry.specs.Record.{kind, among, valueOf, isEnd, isNone, isOrder, isMonomial, tableIn, isDefault, inBounds}
+use Rattle.entry.specs.Questions.{routeFits, followers, mayFollow}
 use Rattle.entry.specs.Inner.Places.{place, placeOf, standsBehind}
-use Rattle.entry.proofs.Fields.{start-route, start-unknowns, start-givens, condition-mask, answer-unknown, answer-mask, end-route}
-use Rattle.entry.proofs.Fields.{none-state, lacks, lacking, of-every, unbounded, in-bounds, condition-fits, answer-fits, none-fits}
+use Rattle.entry.proofs.Fields.{start-route, start-unknowns, start-givens, mask-alone, answer-unknown, answer-mask, end-route}
+use Rattle.entry.proofs.Fields.{none-state, lacks, lacking, of-every, unbounded, in-bounds, mask-fits, answer-fits, none-fits}
 use Rattle.entry.proofs.Fields.{order-fits, no-size}
 use Rattle.entry.proofs.Made.{needed-other}
 use Rattle.entry.proofs.Places.{rank-small, place-monomial, place-other}
@@ -41,17 +42,17 @@ same false a = refl
 -- ---- sizes
 -- those of the kinds, as the code lists them
 abbrev pub sizes : List ℕ
-sizes = 0 ∷ 4 ∷ 3 ∷ 4 ∷ 2 ∷ 2 ∷ 7 ∷ []
+sizes = 0 ∷ 4 ∷ 3 ∷ 4 ∷ 2 ∷ 2 ∷ 7 ∷ 3 ∷ []
 
-pub sized : (k : ℕ) {w : ℕ} → w ≡ k → w < 7 → getD sizes w 0 ≡ size k
+pub sized : (k : ℕ) {w : ℕ} → w ≡ k → w < 8 → getD sizes w 0 ≡ size k
 unfolding everyBelow size fields widths
-sized k {w} e h = eqb-true _ _ (every-all 7 (λ k. eqb (getD sizes k 0) (size k)) refl w h) ∙ ap size e
+sized k {w} e h = eqb-true _ _ (every-all 8 (λ k. eqb (getD sizes k 0) (size k)) refl w h) ∙ ap size e
 
-pub no-kind : (k : ℕ) {w : ℕ} → w ≡ k → 7 ≤ w → 0 ≡ size k
+pub no-kind : (k : ℕ) {w : ℕ} → w ≡ k → 8 ≤ w → 0 ≡ size k
 unfolding everyBelow has size fields widths
-no-kind k q h = sym (no-size (0 ∷ 1 ∷ 2 ∷ 3 ∷ 4 ∷ 5 ∷ 6 ∷ []) refl k far)
+no-kind k q h = sym (no-size (0 ∷ 1 ∷ 2 ∷ 3 ∷ 4 ∷ 5 ∷ 6 ∷ 7 ∷ []) refl k far)
   where
-    far : has k (0 ∷ 1 ∷ 2 ∷ 3 ∷ 4 ∷ 5 ∷ 6 ∷ []) ≡ false
+    far : has k (0 ∷ 1 ∷ 2 ∷ 3 ∷ 4 ∷ 5 ∷ 6 ∷ 7 ∷ []) ≡ false
     far =
         rw (
           ne-eqb k 0 (λ e. absurd (omega arith)),
@@ -63,6 +64,7 @@ no-kind k q h = sym (no-size (0 ∷ 1 ∷ 2 ∷ 3 ∷ 4 ∷ 5 ∷ 6 ∷ []) refl
           ne-eqb k 5
               (λ e. absurd (omega arith)),
           ne-eqb k 6 (λ e. absurd (omega arith)),
+          ne-eqb k 7 (λ e. absurd (omega arith)),
         )
 
 -- how many bytes a record of a kind has
@@ -90,6 +92,10 @@ module _ (r : Record) (w : length r ≡ size (kind r)) where
   pub long-6 : getD r 0 0 ≡ 6 → length r ≡ 7
   unfolding kind size fields widths
   long-6 e = w ∙ rw e
+
+  pub long-7 : getD r 0 0 ≡ 7 → length r ≡ 3
+  unfolding kind size fields widths
+  long-7 e = w ∙ rw e
 
 -- the six bytes of an order
 pub six-of : (r : Record) → length r ≡ 7
@@ -154,10 +160,10 @@ module _ (p k : ℕ) where
   unfolding mayFollow
   follow-first e = rw e
 
-  pub follow-start : {a b c d : Bool} → p ≡ 1 → a ≡ (eqb k 5 || eqb k 6) → b ≡ (eqb k 4 || a) → c ≡ (eqb k 3 || b) → d ≡ (eqb k 2 || c)
-      → d ≡ mayFollow p k
+  pub follow-start : {a b c d f : Bool} → p ≡ 1 → a ≡ (eqb k 6 || eqb k 7) → b ≡ (eqb k 5 || a) → c ≡ (eqb k 4 || b) → d ≡ (eqb k 3 || c)
+      → f ≡ (eqb k 2 || d) → f ≡ mayFollow p k
   unfolding mayFollow has
-  follow-start e ea eb ec ed = rw (e, ed, ec, eb, ea, or-false (eqb k 6))
+  follow-start e ea eb ec ed ef = rw (e, ef, ed, ec, eb, ea, or-false (eqb k 7))
 
   pub follow-condition : {a b c : Bool} → p ≡ 2 → a ≡ (eqb k 4 || eqb k 5) → b ≡ (eqb k 3 || a) → c ≡ (eqb k 2 || b) → c ≡ mayFollow p k
   unfolding mayFollow has
@@ -171,20 +177,24 @@ module _ (p k : ℕ) where
   unfolding mayFollow has
   follow-none e = rw (e, or-false (eqb k 4))
 
-  pub follow-order : {a b c : Bool} → p ≡ 6 → a ≡ (eqb k 4 || eqb k 5) → b ≡ (eqb k 3 || a) → c ≡ (eqb k 2 || b) → c ≡ mayFollow p k
+  -- behind the order, and behind a monomial of the fact
+  pub follow-order : {a b c d : Bool} → (p ≡ 5 → ⊥) → 5 ≤ p → p < 8 → a ≡ (eqb k 5 || eqb k 7) → b ≡ (eqb k 4 || a) → c ≡ (eqb k 3 || b)
+      → d ≡ (eqb k 2 || c) → d ≡ mayFollow p k
   unfolding mayFollow has
-  follow-order e ea eb ec = rw (e, ec, eb, ea, or-false (eqb k 5))
+  follow-order n l h ea eb ec ed = rw (ed, ec, eb, ea) (sym (go (bool-cases (eqb p 6)) ∙ rw (or-false (eqb k 7))))
+    where
+      go : (eqb p 6 ≡ true) ⊎ (eqb p 6 ≡ false) → mayFollow p k ≡ has k (2 ∷ 3 ∷ 4 ∷ 5 ∷ 7 ∷ [])
+      go (inl e) = rw (eqb-true p 6 e)
+      go (inr e) = let seven : p ≡ 7 = omega (arith, eqb-false p 6 e) in rw seven
 
-pub follow-other : (p k : ℕ) → (p ≡ 0 → ⊥) → (p ≡ 1 → ⊥) → (p ≡ 2 → ⊥) → (p ≡ 3 → ⊥) → (p ≡ 5 → ⊥) → (p ≡ 6 → ⊥) → false ≡ mayFollow p k
+  pub follow-end : (p ≡ 0 → ⊥) → (p ≡ 1 → ⊥) → (p ≡ 2 → ⊥) → (p ≡ 3 → ⊥) → p < 5 → false ≡ mayFollow p k
+  unfolding mayFollow has
+  follow-end n0 n1 n2 n3 h = let four : p ≡ 4 = omega arith in rw four
+
+pub follow-other : (p k : ℕ) → 8 ≤ p → false ≡ mayFollow p k
 unfolding mayFollow has
-follow-other zero k a b c d e f = absurd (a refl)
-follow-other (suc zero) k a b c d e f = absurd (b refl)
-follow-other (suc (suc zero)) k a b c d e f = absurd (c refl)
-follow-other (suc (suc (suc zero))) k a b c d e f = absurd (d refl)
-follow-other (suc (suc (suc (suc zero)))) k a b c d e f = refl
-follow-other (suc (suc (suc (suc (suc zero))))) k a b c d e f = absurd (e refl)
-follow-other (suc (suc (suc (suc (suc (suc zero)))))) k a b c d e f = absurd (f refl)
-follow-other (suc (suc (suc (suc (suc (suc (suc p))))))) k a b c d e f = refl
+follow-other zero k h = absurd (omega arith)
+follow-other (suc p) k h = let far : 8 ≤ suc p = h in rw (List·getD-eq-default followers [] {n = p} (omega arith))
 
 -- ---- what is said
 pub said-now : (state : ℕ) {none v : ℕ} → none ≡ 0 → v ≡ state → v + 1 ≡ saidFirst none state
@@ -251,25 +261,36 @@ module _ (route U G : ℕ) (x : Seen) (r : Record) where
   seen-other follows fits ek em ef ei en =
       rw (ef, en, place-other r em, ← ei, behind-none (x .place), ek, and-true fits, same {A = ℕ} fits 0)
 
+  -- a mask alone, of table i
+  see-mask : (k i : ℕ) {y : Seen} {m masks states : ℕ} → Bounds U G masks states → kind r ≡ k → fields (kind r) ≡ maskField ∷ []
+      → isEnd r ≡ false → isNone r ≡ false → isOrder r ≡ false → tableIn r ≡ i → m ≡ getD r 1 0 + 256 * getD r 2 0
+      → y ≡ seenMonomial x k i m (ltb m masks) → y ≡ seenRecord route U G x r
+  unfolding among
+  see-mask k i {m = m} b ek ef ee en eo ei em e =
+      let v : valueOf maskField r ≡ m = mask-alone r ef ∙ sym em in
+      e ∙ seen-monomial k i m _ ek ee en (mask-fits U G r ef eo ∙ rw (v, ← b .of-masks))
+      (place-monomial r (rw ef) ∙ rw (v, ei))
+
   pub see-condition : {y : Seen} {m masks states : ℕ} → Bounds U G masks states → getD r 0 0 ≡ 2 → m ≡ getD r 1 0 + 256 * getD r 2 0
-      → y ≡ seenMonomial x 2 0 m (ltb m masks) → y ≡ seenRecord route U G x r
+      → y ≡ seenMonomial x 2 1 m (ltb m masks) → y ≡ seenRecord route U G x r
   unfolding among fields
-  see-condition {m = m} b ek em e =
-      let k : kind r ≡ 2 = kind-is r 2 ek in
-      let v : valueOf maskField r ≡ m = condition-mask r k ∙ sym em in
-      e ∙ seen-monomial 2 0 m _ k (rw k) (rw k) (condition-fits U G r k ∙ rw (v, ← b .of-masks))
-      (place-monomial r (rw k) ∙ rw (v, k))
+  see-condition b ek em e = let k : kind r ≡ 2 = kind-is r 2 ek in see-mask 2 1 b k (rw k) (rw k) (rw k) (rw k) (rw k) em e
+
+  pub see-fact : {y : Seen} {m masks states : ℕ} → Bounds U G masks states → getD r 0 0 ≡ 7 → m ≡ getD r 1 0 + 256 * getD r 2 0
+      → y ≡ seenMonomial x 7 0 m (ltb m masks) → y ≡ seenRecord route U G x r
+  unfolding among fields
+  see-fact b ek em e = let k : kind r ≡ 7 = kind-is r 7 ek in see-mask 7 0 b k (rw k) (rw k) (rw k) (rw k) (rw k) em e
 
   pub see-answer : {y : Seen} {j m masks states : ℕ} {f : Bool} → Bounds U G masks states → getD r 0 0 ≡ 3 → j ≡ getD r 1 0
       → m ≡ getD r 2 0 + 256 * getD r 3 0
-      → f ≡ (ltb j U && ltb m masks) → y ≡ seenMonomial x 3 (j + 1) m f → y ≡ seenRecord route U G x r
+      → f ≡ (ltb j U && ltb m masks) → y ≡ seenMonomial x 3 (j + 2) m f → y ≡ seenRecord route U G x r
   unfolding among fields
   see-answer {j = j} {m = m} b ek ej em ef e =
       let k : kind r ≡ 3 = kind-is r 3 ek in
       let v : valueOf maskField r ≡ m = answer-mask r k ∙ sym em in
       let u : valueOf unknownField r ≡ j = answer-unknown r k ∙ sym ej in
-      e ∙ seen-monomial 3 (j + 1) m _ k (rw k) (rw k) (answer-fits U G r k ∙ rw (v, u, ← b .of-masks) (sym ef))
-      (place-monomial r (rw k) ∙ rw (k, u, v, add-one))
+      e ∙ seen-monomial 3 (j + 2) m _ k (rw k) (rw k) (answer-fits U G r k ∙ rw (v, u, ← b .of-masks) (sym ef))
+      (let two : j + 2 ≡ suc (suc j) = omega arith in place-monomial r (rw k) ∙ rw (k, u, v, two))
 
   pub see-end : {y : Seen} {f g : Bool} → getD r 0 0 ≡ 4 → f ≡ mayFollow (x .kind) 4 → g ≡ (f && eqb (getD r 1 0) route)
       → y ≡ record { kind = 4; place = 0; kinds = x .kinds && g; numbers = x .numbers && true; none = x .none }
@@ -299,15 +320,15 @@ module _ (route U G : ℕ) (x : Seen) (r : Record) where
       e ∙ seen-other _ _ k (rw k) (ef ∙ rw k (sym (and-true _))) (rw (ed, eo) (sym (order-fits U G r k))) (rw k)
 
   pub see-other : {y : Seen} {f : Bool} → (getD r 0 0 ≡ 2 → ⊥) → (getD r 0 0 ≡ 3 → ⊥) → (getD r 0 0 ≡ 4 → ⊥) → (getD r 0 0 ≡ 5 → ⊥)
-      → (getD r 0 0 ≡ 6 → ⊥) → f ≡ mayFollow (x .kind) (getD r 0 0)
+      → (getD r 0 0 ≡ 6 → ⊥) → (getD r 0 0 ≡ 7 → ⊥) → f ≡ mayFollow (x .kind) (getD r 0 0)
       → y ≡ record { kind = getD r 0 0; place = 0; kinds = x .kinds && f; numbers = x .numbers && true; none = x .none }
       → y ≡ seenRecord route U G x r
   unfolding kind everyBelow among fields unbounded has
-  see-other n2 n3 n4 n5 n6 ef e =
-      e ∙ seen-other _ true refl (lacks maskField (2 ∷ 3 ∷ []) refl (kind r) (rw (ne-eqb (kind r) 2 n2, ne-eqb (kind r) 3 n3)))
+  see-other n2 n3 n4 n5 n6 n7 ef e =
+      e ∙ seen-other _ true refl (lacks maskField (2 ∷ 3 ∷ 7 ∷ []) refl (kind r) (rw (ne-eqb (kind r) 2 n2, ne-eqb (kind r) 3 n3, ne-eqb (kind r) 7 n7)))
       (ef ∙ rw (ne-eqb (kind r) 4 n4) (sym (and-true _)))
       (sym (in-bounds U G r
-      (free (of-every (λ k. has k (2 ∷ 3 ∷ 5 ∷ []) || unbounded (fields k)) refl (λ k z. right (has k (2 ∷ 3 ∷ 5 ∷ [])) (rw z)) (kind r)))
+      (free (of-every (λ k. has k (2 ∷ 3 ∷ 5 ∷ 7 ∷ []) || unbounded (fields k)) refl (λ k z. right (has k (2 ∷ 3 ∷ 5 ∷ 7 ∷ [])) (rw z)) (kind r)))
       ∙ needed-other U r (ne-eqb (kind r) 6 n6)))
       (rw (ne-eqb (kind r) 5 n5))
     where
@@ -315,8 +336,8 @@ module _ (route U G : ℕ) (x : Seen) (r : Record) where
       right true f = refl
       right false f = f
 
-      free : (has (kind r) (2 ∷ 3 ∷ 5 ∷ []) || unbounded (fields (kind r))) ≡ true → unbounded (fields (kind r)) ≡ true
-      free t = rw (ne-eqb (kind r) 2 n2, ne-eqb (kind r) 3 n3, ne-eqb (kind r) 5 n5) at t
+      free : (has (kind r) (2 ∷ 3 ∷ 5 ∷ 7 ∷ []) || unbounded (fields (kind r))) ≡ true → unbounded (fields (kind r)) ≡ true
+      free t = rw (ne-eqb (kind r) 2 n2, ne-eqb (kind r) 3 n3, ne-eqb (kind r) 5 n5, ne-eqb (kind r) 7 n7) at t
 
 -- a mask within its bounds is one of the ten-letter order
 pub mask-below : (U G : ℕ) {m masks states : ℕ} → Bounds U G masks states → ltb m masks ≡ true → m < 1024

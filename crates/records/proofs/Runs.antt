@@ -25,6 +25,10 @@ use Rattle.records.proofs.OneRecord.{see-condition, see-answer, mask-be
 use Rattle.records.proofs.Loops.{gather-next}
 
 -- ---- a whole record of kind k, which has n bytes
+pub size-start : 4 ≡ size 1
+unfolding size fields widths
+size-start = refl
+
 pub size-condition : 3 ≡ size 2
 unfolding size fields widths
 size-condition = refl
@@ -32,6 +36,14 @@ size-condition = refl
 pub size-answer : 4 ≡ size 3
 unfolding size fields widths
 size-answer = refl
+
+pub size-order : 7 ≡ size 6
+unfolding size fields widths
+size-order = refl
+
+pub size-fact : 3 ≡ size 7
+unfolding size fields widths
+size-fact = refl
 
 module _ (bs : List ℕ) (at k : ℕ) {n : ℕ} (en : n ≡ size k) where
   there-long : kind (next (drop at bs)) ≡ k → n ≡ length (next (drop at bs))
@@ -85,18 +97,18 @@ stays x k i m {q} {p} ek ef et ep l =
 module _ (bs : List ℕ) (route U G : ℕ) {x₀ : Seen} {from : ℕ} (x : Seen) (q at : ℕ) (w : Further bs route U G x₀ from (placed x q) at)
     {masks : ℕ} (bounds : Bounds U G masks (2 ^ G)) where
   pub condition-next : {b : Bool} {m p : ℕ} → b ≡ eqb (kind (next (drop at bs))) 2 → b ≡ true → x .kind ≡ 2
-      → m ≡ getD bs (at + 1) 0 + 256 * getD bs (at + 2) 0 → m < masks → p ≡ place 0 m → q < p
+      → m ≡ getD bs (at + 1) 0 + 256 * getD bs (at + 2) 0 → m < masks → p ≡ place 1 m → q < p
       → Further bs route U G x₀ from (placed x p) (at + 3)
   unfolding mayFollow has
   condition-next {m = m} {p = p} eb t ek em l ep h =
       gather-next bs route U G (placed x q) at w (stands-long bs at 2 size-condition eb t) (λ z. omega arith) refl
       (see-condition route U G (placed x q) _ bounds (kind-of bs at 2 size-condition (omega arith) eb t)
       (em ∙ rw (byte-of bs at 3 1 (omega arith), byte-of bs at 3 2 (omega arith)))
-      (stays x 2 0 m ek refl (lt-ltb m masks l) ep h))
+      (stays x 2 1 m ek refl (lt-ltb m masks l) ep h))
       (λ z. omega (arith, ek))
 
   pub answer-next : {b f : Bool} {j m p : ℕ} → b ≡ eqb (kind (next (drop at bs))) 3 → b ≡ true → x .kind ≡ 3 → j ≡ getD bs (at + 1) 0
-      → m ≡ getD bs (at + 2) 0 + 256 * getD bs (at + 3) 0 → f ≡ (ltb j U && ltb m masks) → f ≡ true → p ≡ place (j + 1) m → q < p
+      → m ≡ getD bs (at + 2) 0 + 256 * getD bs (at + 3) 0 → f ≡ (ltb j U && ltb m masks) → f ≡ true → p ≡ place (j + 2) m → q < p
       → Further bs route U G x₀ from (placed x p) (at + 4)
   unfolding mayFollow has
   answer-next {j = j} {m = m} {p = p} eb t ek ej em ef f ep h =
@@ -104,7 +116,7 @@ module _ (bs : List ℕ) (route U G : ℕ) {x₀ : Seen} {from : ℕ} (x : Seen)
       (see-answer route U G (placed x q) _ bounds (kind-of bs at 3 size-answer (omega arith) eb t)
       (ej ∙ sym (byte-of bs at 4 1 (omega arith)))
       (em ∙ rw (byte-of bs at 4 2 (omega arith), byte-of bs at 4 3 (omega arith))) ef
-      (stays x 3 (j + 1) m ek refl f ep h))
+      (stays x 3 (j + 2) m ek refl f ep h))
       (λ z. omega (arith, ek))
 
 -- what the loops answer

@@ -2,25 +2,30 @@
 // A record is its slice of the bytes. Nothing here is a public call of the library: the functions are for the crates above, which meet
 // what they require.
 ghost use mathlib.Core.Path.{_≡_};
-ghost use mathlib.Core.Bool.{true, _&&_, _||_, cond};
-ghost use Prim.Native.Nat.{_+_, _*_, _^_, _≤_, _<_};
+ghost use mathlib.Core.Bool.{true, false, _&&_, _||_, cond};
+ghost use mathlib.Core.List.{List};
+ghost use Prim.Native.Nat.{ℕ, _+_, _-_, _*_, _^_, _≤_, _<_};
 ghost use lib.Dec.{eqb};
-ghost use lib.ListN.{length, drop};
+ghost use lib.ListN.{length, drop, set};
 ghost use Rattle.tables.specs.Questions.{firstNo};
 ghost use Rattle.order.specs.Inner.Place.{AreLetters};
+ghost use Rattle.solution.specs.Fact.{noFact};
 ghost use Rattle.entry.specs.Record.{routeField, unknownsField, givensField, size, kind, valueOf};
-ghost use Rattle.entry.specs.Held.{next, records};
-ghost use Rattle.entry.specs.Questions.{mayFollow};
+ghost use Rattle.entry.specs.Held.{next, records, unknownsOf, givensOf, heldCondition};
+ghost use Rattle.entry.specs.Questions.{mayFollow, kindsFit};
 ghost use Rattle.entry.specs.Inner.Places.{place};
+ghost use Rattle.calls.specs.Questions.{factQuestions, recordQuestions, entryQuestions};
+ghost use Rattle.facts.specs.Inner.Kept.{keptWords};
 ghost use Rattle.records.specs.Inner.Headings.{startOf, orderBehind};
 ghost use Rattle.records.specs.Inner.Gathering.{Whole, Bounds, saidFirst, seenMonomial, seenRecord, gathered, saidBy};
 ghost use Rattle.records.specs.Inner.Gathering.{Further, placed, gatheredQuestions, surveyOf};
+ghost use Rattle.records.specs.Inner.Filling.{zeros, Fitting, FactFilling, Passed};
 use calls::Heading;
 use calls::Verdict;
 use ring::State;
 use tables::Question;
 
-// What going over an entry gives: the first no of 10, 11, 1, 2, 12 and 17, or 0, and what the entry says.
+// What going over an entry gives: the first no of 10, 11, 1, 2, 12, 17, 22 and 23, or 0, and what the entry says.
 pub struct Survey {
     pub refusal: u8,
     pub heading: Heading,
@@ -65,13 +70,13 @@ pub fn mask_of(low: u8, high: u8) -> usize
 }
 
 // 'one byte of kind, then a body whose length the kind fixes': the sizes of the kinds, 0 where there is no such kind.
-const SIZES: [usize; 7] = [0, 4, 3, 4, 2, 2, 7];
+const SIZES: [usize; 8] = [0, 4, 3, 4, 2, 2, 7, 3];
 
 fn size_of(kind: u8) -> usize
     ensures { λ n. ⌜ n ≡ size kind ⌝ }
 {
     let k = wide(kind);
-    if k < 7 {
+    if k < 8 {
         return SIZES[k];
     }
     0
@@ -161,12 +166,18 @@ fn may_follow(p: u8, k: u8) -> bool
         0 => k == 1,
         1 => either(
             k == 2,
-            either(k == 3, either(k == 4, either(k == 5, k == 6))),
+            either(
+                k == 3,
+                either(k == 4, either(k == 5, either(k == 6, k == 7))),
+            ),
         ),
         2 => either(k == 2, either(k == 3, either(k == 4, k == 5))),
         3 => either(k == 3, k == 4),
         5 => k == 4,
-        6 => either(k == 2, either(k == 3, either(k == 4, k == 5))),
+        6 | 7 => either(
+            k == 2,
+            either(k == 3, either(k == 4, either(k == 5, k == 7))),
+        ),
         _ => false,
     }
 }
@@ -206,7 +217,7 @@ fn seen_next(seen: Seen, k: u8, p: usize, follows: bool, fits: bool, none: usize
 
 // The place of the monomial m of table i. One rising number tells it: the table, then the rank in the written order.
 fn place_of(counts: &[u8; 32], i: usize, m: usize) -> usize
-    requires { ⌜ AreLetters (now counts) × (i ≤ 256) × (m < 1024) ⌝ }
+    requires { ⌜ AreLetters (now counts) × (i ≤ 257) × (m < 1024) ⌝ }
     ensures { λ p. ⌜ p ≡ place i m ⌝ }
 {
     16384 * i + order::rank_of(counts, m) + 1
@@ -214,7 +225,7 @@ fn place_of(counts: &[u8; 32], i: usize, m: usize) -> usize
 
 // A monomial of table i.
 fn see_monomial(seen: Seen, k: u8, i: usize, m: usize, fits: bool, counts: &[u8; 32]) -> Seen
-    requires { ⌜ (i ≤ 256) × (fits ≡ true → m < 1024) × AreLetters (now counts) ⌝ }
+    requires { ⌜ (i ≤ 257) × (fits ≡ true → m < 1024) × AreLetters (now counts) ⌝ }
     ensures { λ x. ⌜ x ≡ seenMonomial seen k i m fits ⌝ }
 {
     let follows = may_follow(seen.kind, k);
@@ -254,12 +265,12 @@ fn see(
     match k {
         2 => {
             let m = mask_of(r[1], r[2]);
-            see_monomial(seen, 2, 0, m, m < masks, counts)
+            see_monomial(seen, 2, 1, m, m < masks, counts)
         }
         3 => {
             let j = wide(r[1]);
             let m = mask_of(r[2], r[3]);
-            see_monomial(seen, 3, j + 1, m, both(j < u, m < masks), counts)
+            see_monomial(seen, 3, j + 2, m, both(j < u, m < masks), counts)
         }
         4 => {
             let follows = both(may_follow(seen.kind, 4), r[1] == route);
@@ -274,6 +285,10 @@ fn see(
             let follows = may_follow(seen.kind, 6);
             let is_default = entry::is_default(u, order_in(r));
             seen_next(seen, 6, 0, follows, !is_default, none)
+        }
+        7 => {
+            let m = mask_of(r[1], r[2]);
+            see_monomial(seen, 7, 0, m, m < masks, counts)
         }
         _ => {
             let follows = may_follow(seen.kind, k);
@@ -337,7 +352,7 @@ fn pass_conditions(
         if masks <= m {
             return position_at(at, seen, place);
         }
-        let p = place_of(counts, 0, m);
+        let p = place_of(counts, 1, m);
         if p <= place {
             return position_at(at, seen, place);
         }
@@ -369,7 +384,7 @@ fn pass_answers(
         if !both(j < u, m < masks) {
             return position_at(at, seen, place);
         }
-        let p = place_of(counts, j + 1, m);
+        let p = place_of(counts, j + 2, m);
         if p <= place {
             return position_at(at, seen, place);
         }
@@ -501,6 +516,95 @@ fn order_of(s: &[u8], u: usize) -> [u8; 6]
     order_in(&s[n..end])
 }
 
+pub fn clear(t: &mut [u8])
+    ensures { λ _. ⌜ now (t .exit) ≡ zeros (length (now (t .entry))) ⌝ }
+{
+    for i in 0..t.len() {
+        t[i] = 0;
+    }
+}
+
+// A monomial of another table may lie past the end.
+pub fn put_one(t: &mut [u8], p: usize)
+    ensures { λ _. ⌜ now (t .exit) ≡ set (now (t .entry)) p 1 ⌝ }
+{
+    if p < t.len() {
+        t[p] = 1;
+    }
+}
+
+// Where the monomials of the fact stand in a row, if there are any: behind the start, and behind the kind 6 if there is one.
+fn fact_at(s: &[u8]) -> usize
+    requires { ⌜ kindsFit (records (now s)) ≡ true ⌝ }
+    ensures { λ at. ⌜ ((U G : ℕ) (t : List ℕ) → Fitting U G (records (now (s .entry))) → FactFilling (now (s .entry)) U G t t at) ⌝ }
+{
+    if is_there(s, 4, 6, 7) {
+        return 11;
+    }
+    4
+}
+
+// Has an entry that passes the questions before 22 a fact other than 0?
+pub fn has_fact(s: &[u8]) -> bool
+    requires { ⌜ firstNo (recordQuestions (records (now s))) ≡ 0 ⌝ }
+    ensures { λ b. ⌜ (b ≡ false → heldCondition (records (now (s .entry))) .fact
+        ≡ noFact (unknownsOf (records (now (s .entry))) + givensOf (records (now (s .entry))))) ⌝ }
+{
+    let at = fact_at(s);
+    is_there(s, at, 7, 3)
+}
+
+// The fact that an entry holds which passes the questions before 22.
+pub fn fill_fact(s: &[u8], u: usize, g: usize, fact: &mut [u8])
+    requires { ⌜ Passed (now s) u g × (length (now fact) ≡ 2 ^ (u + g)) ⌝ }
+    ensures { λ _. ⌜ now (fact .exit) ≡ heldCondition (records (now (s .entry))) .fact ⌝ }
+{
+    clear(fact);
+    let mut at = fact_at(s);
+    while is_there(s, at, 7, 3) {
+        put_one(fact, mask_of(s[at + 1], s[at + 2]));
+        at += 3;
+    }
+}
+
+// Questions 22 and 23: the first no, or 0 and the values of 1 + g in `kept`. The table lives here, so that an entry without a fact does
+// not clear it.
+pub fn keep_fact(s: &[u8], u: usize, g: usize, kept: &mut [u64]) -> u8
+    requires { ⌜ Passed (now s) u g × (length (now kept) ≡ 2 ^ (u + g - 6)) ⌝ }
+    ensures { λ r. ⌜ r ≡ firstNo (factQuestions u g (heldCondition (records (now (s .entry))) .fact)) ⌝ }
+    ensures { λ r. ⌜ (r ≡ 0 → now (kept .exit) ≡ keptWords (u + g) (heldCondition (records (now (s .entry))) .fact)) ⌝ }
+{
+    let k = tables::pow2(u + g);
+    let mut fact = [0u8; 1024];
+    fill_fact(s, u, g, &mut fact[..k]);
+    facts::keep(u, g, &fact[..k], kept)
+}
+
+// The answer alone.
+fn fact_refusal(s: &[u8], u: usize, g: usize) -> u8
+    requires { ⌜ Passed (now s) u g ⌝ }
+    ensures { λ r. ⌜ r ≡ firstNo (factQuestions u g (heldCondition (records (now (s .entry))) .fact)) ⌝ }
+{
+    let w = words::word_count(u + g);
+    let mut kept = [0u64; 16];
+    keep_fact(s, u, g, &mut kept[..w])
+}
+
+// Questions 22 and 23 behind those before them: the first no counts, and most entries have no fact to ask about.
+fn then_facts(s: &[u8], refusal: u8, u: usize, g: usize) -> u8
+    requires { ⌜ (u ≡ unknownsOf (records (now s))) × (g ≡ givensOf (records (now s)))
+        × (refusal ≡ firstNo (recordQuestions (records (now s)))) ⌝ }
+    ensures { λ r. ⌜ r ≡ firstNo (entryQuestions (records (now (s .entry)))) ⌝ }
+{
+    if refusal != 0 {
+        return refusal;
+    }
+    if !has_fact(s) {
+        return 0;
+    }
+    fact_refusal(s, u, g)
+}
+
 // Goes over the entry that the bytes begin with.
 pub fn survey_entry(s: &[u8]) -> Survey
     ensures { λ r. ⌜ r ≡ surveyOf (records (now (s .entry))) ⌝ }
@@ -515,7 +619,8 @@ pub fn survey_entry(s: &[u8]) -> Survey
     let gathered = gather(s, route, u, g, tables::pow2(u + g), tables::pow2(g));
     let order = order_of(s, unknowns);
     let ordered = solution::order_fits(unknowns, order);
-    let refusal = refusal_of(gathered, fits, route, ordered);
+    let before = refusal_of(gathered, fits, route, ordered);
+    let refusal = then_facts(s, before, unknowns, givens);
     let used = gathered.used;
     let heading = Heading {
         route,

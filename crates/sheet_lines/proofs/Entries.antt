@@ -12,13 +12,13 @@ use lib.Seq.{take-all}
 use borrow.Author.Tests.{leb-true}
 use Rattle.ring.specs.Polynomial.{value}
 use Rattle.ring.specs.Table.{table, present}
-use Rattle.ring.proofs.Bool.{and-left, and-right}
-use Rattle.ring.proofs.Table.{table-cong}
+use Rattle.ring.proofs.Bool.{and-right}
+use Rattle.ring.proofs.Table.{is-table, present-table, table-cong}
 use Rattle.ring.proofs.Value.{value-cong, involution}
 use Rattle.tables.specs.Inner.Put.{Put}
 use Rattle.tables.specs.Questions.{lettersFit}
 use Rattle.tables.proofs.Put.{put-length, put-both, put-same}
-use Rattle.tables.proofs.Questions.{letters-small, unknowns-small, pow-small}
+use Rattle.tables.proofs.Questions.{letters-small, unknowns-small, givens-small, pow-small}
 use Rattle.words.specs.Inner.Words.{wordsOf, bitAt}
 use Rattle.words.proofs.Words.{at-known, words-cong, size-words}
 use Rattle.words.proofs.Letters.{room}
@@ -26,29 +26,29 @@ use Rattle.grammar.specs.Text.{textTable}
 use Rattle.notation.specs.Inner.Work.{textWords}
 use Rattle.notation.proofs.Values.{table-text}
 use Rattle.order.specs.Order.{order}
+use Rattle.order.proofs.Order.{monomials-none}
+use Rattle.solution.specs.Fact.{noFact}
 use Rattle.solution.specs.Condition.{Condition, ordered, defaultOrder, conditionOf}
 use Rattle.solution.specs.Order.{defaultBytes, orderFits}
 use Rattle.solution.specs.Elimination.{solve}
 use Rattle.solution.proofs.Order.{default-each, default-fits, take-orderBytes}
+use Rattle.solution.proofs.UnderFact.{no-fact, no-fact-empty}
+use Rattle.solver.specs.Inner.Methods.{valueWords}
 use Rattle.entry.specs.Record.{Record, fields, lowFirst, bodyOf, startRecord, endRecord, noneRecord, bytes}
 use Rattle.entry.specs.Inner.Codes.{listedRecord}
-use Rattle.entry.specs.Entry.{archivedRecords}
+use Rattle.entry.specs.Entry.{orderRecords, factRecords, archivedRecords}
 use Rattle.entry.specs.Questions.{routeFits}
 use Rattle.entry.proofs.Back.{written-whole}
 use Rattle.entry.proofs.OrderRecord.{default-left-out}
-use Rattle.entry.proofs.Bound.{entry-without}
+use Rattle.entry.proofs.Bound.{length-bytes, entry-without}
 use Rattle.writer.specs.declared.Listing.{Listing}
 use Rattle.writer.specs.declared.Listing.the-variants.{Solved, None}
-use Rattle.writer.specs.Inner.Steps.{countOf, noneOf, entryFrom, Lists, Listable}
+use Rattle.writer.specs.Inner.Steps.{countOf, noneOf, entryFrom, Lists, packedCondition, Listable}
 use Rattle.writer.proofs.Monomials.{transformed}
 use Rattle.writer.proofs.Parts.{ordered as masks-ordered}
 use Rattle.printing.specs.Print.{lineFeed, hexadecimal, recordLines}
 use Rattle.printing.proofs.Records.{lines-append, line-of, line-length, lines-most}
 use Rattle.sheet_lines.specs.Inner.Feeding.{lineRoom, tableOf, IsValues}
-
-pub givens-small : (U G : ℕ) → lettersFit U G ≡ true → G ≤ 8
-unfolding lettersFit
-givens-small U G e = leb-true _ _ (and-left (leb G 8) (leb (U + G) 10) (and-right (leb U 6) _ e))
 
 pub route-small : (route : ℕ) → routeFits route ≡ true → route < 256
 unfolding routeFits
@@ -83,16 +83,28 @@ module _ (n : ℕ) (values : List ℕ) {coefficients : List ℕ}
 pub values-size : (n : ℕ) {values : List ℕ} → IsValues n values → length values ≡ 2 ^ (n - 6)
 values-size n h = size-words _ _ _ h
 
-pub listable : {U G : ℕ} {coefficients values masks : List ℕ} → lettersFit U G ≡ true
+-- no fact is lent: the values are those of the condition itself
+pub without-facts : (U G : ℕ) (order₁ : List ℕ) {coefficients values : List ℕ}
     → coefficients ≡ wordsOf (2 ^ (U + G - 6)) (value (6 + (U + G - 6)) (bitAt values))
-    → IsValues (U + G) values → masks ≡ order (U + G) → Listable U G coefficients values masks
-listable {U} {G} {coefficients} {values} l e h m =
+    → IsValues (U + G) values → values ≡ valueWords (packedCondition U G order₁ (noFact (U + G)) coefficients)
+unfolding table
+without-facts U G order₁ {coefficients} {values} e h =
+    same-values (U + G) values e h
+    ∙ words-cong (2 ^ (U + G - 6)) _ _ (λ p l. value-cong (U + G) _ _ p (λ m k. sym (present-table (U + G) (bitAt coefficients) m k)))
+    ∙ ap (λ (t : List ℕ). wordsOf (2 ^ (U + G - 6)) (value (U + G) (present t)))
+    (sym (no-fact (U + G) (table (U + G) (bitAt coefficients)) (is-table (U + G) (bitAt coefficients))))
+
+pub listable : {U G : ℕ} {order₁ coefficients values masks : List ℕ} → lettersFit U G ≡ true
+    → coefficients ≡ wordsOf (2 ^ (U + G - 6)) (value (6 + (U + G - 6)) (bitAt values))
+    → IsValues (U + G) values → masks ≡ order (U + G) → Listable U G order₁ coefficients values masks
+listable {U} {G} {order₁} {coefficients} {values} l e h m =
     record {
       unknowns = unknowns-small U G l;
       givens = givens-small U G l;
       letters = letters-small U G l;
       words = coefficients-size (U + G) values e;
-      values-are = same-values (U + G) values e h;
+      fact = noFact (U + G);
+      values-are = without-facts U G order₁ e h;
       ordered = m;
     }
 
@@ -230,9 +242,13 @@ pub default-lists : (U G : ℕ) (t : List ℕ) {order : List ℕ} → order ≡ 
 default-lists U G t e few w = rw (e, take-orderBytes U (defaultOrder U) few (default-each U)) at w
 
 module _ (route U G : ℕ) (t : List ℕ) {found : Listing} {codes : List ℕ} (w : Lists (conditionOf U G t) found codes) where
+  -- neither an order nor a fact has a record
+  nothing-before : orderRecords (conditionOf U G t) ++ factRecords (conditionOf U G t) ≡ []
+  unfolding factRecords
+  nothing-before = rw (default-left-out U G t, monomials-none (U + G) (present (noFact (U + G))) (no-fact-empty (U + G)))
+
   archived : entryFrom route U G [] found codes ≡ archivedRecords route (conditionOf U G t)
-  archived =
-      ap (λ (orders : List Record). entryFrom route U G orders found codes) (sym (default-left-out U G t)) ∙ w .records route
+  archived = ap (λ (heads : List Record). entryFrom route U G heads found codes) (sym nothing-before) ∙ w .records route
 
   pub archived-put : {s : List ℕ} → t ≡ s → {at r : ℕ} {old new : List ℕ}
       → Put old at (recordLines (entryFrom route U G [] found codes)) r new
@@ -249,7 +265,8 @@ module _ (route U G : ℕ) (t : List ℕ) {found : Listing} {codes : List ℕ} (
         ap (λ (rs : List Record). length (recordLines rs)) archived,
         lines-most (archivedRecords route c) (written-whole route c _),
         entry-without route c (solve c) (unknowns-small U G l) (letters-small U G l),
-        ap (λ (rs : List Record). length (bytes rs)) (default-left-out U G t),
+        ap (λ (rs : List Record). length (bytes rs)) nothing-before,
+        length-bytes (orderRecords c) (factRecords c),
       )
 
 -- ---- the written order

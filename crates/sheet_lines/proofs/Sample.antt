@@ -14,12 +14,13 @@ use Rattle.grammar.specs.Reader.{reads, readWith, andThen, grammarReads, treeOf
 use Rattle.grammar.specs.Text.{textTable}
 use Rattle.calls.specs.Questions.{hasTextLength}
 use Rattle.order.specs.Order.{letters, keep, below, groups, order, monomials}
-use Rattle.solution.specs.Condition.{defaultOrder}
+use Rattle.solution.specs.Fact.{whereZero, noFact}
+use Rattle.solution.specs.Condition.{tableWhereZero, defaultOrder}
 use Rattle.solution.specs.Order.{orderBytes}
 use Rattle.solution.specs.Elimination.{nextCondition, remains, answerFrom, booleAnswers, smallestBelow, blocked, smallestBlocked, isZero}
 use Rattle.solution.specs.Elimination.{solvable, booleTable, solve}
 use Rattle.entry.specs.Record.{fields as layoutFields, lowFirst, bodyOf, sameBytes, isDefault}
-use Rattle.entry.specs.Entry.{orderRecords, conditionRecords, answerRecords, verdictRecords, entryRecords}
+use Rattle.entry.specs.Entry.{orderRecords, factRecords, conditionRecords, answerRecords, verdictRecords, entryRecords}
 use Rattle.entry.specs.Questions.{routeFits}
 use Rattle.printing.specs.Print.{digitByte, hexadecimal, recordLines}
 use Rattle.sheet_lines.specs.Fields.{isDigit, digitsAhead, numberBehind, hasLetters, isReadable, fields, readLine}
@@ -59,5 +60,5 @@ tenLines =
     ∷ []
 
 pub sample-printed : sheet sample ≡ tenLines
-unfolding sample tenLines sheet printedLines linesOf inFront printed printedFor lastBehind lastFor routeBehind answerLines lineRefusal lineQuestions firstNo lettersFit routeFits hasTextLength allSigns allDeclared every isSign isDeclared readLine fields isReadable hasLetters numberBehind digitsAhead isDigit recordLines hexadecimal digitByte textTable table tabulate normalForm treeOf grammarReads symbols symbol isUnknown isGiven isSingle reads readWith andThen entryRecords orderRecords isDefault sameBytes orderBytes conditionRecords answerRecords verdictRecords monomials order groups below keep letters solve solvable isZero everyBelow remains nextCondition product restrict odd count present held bit defaultOrder listed answerTable booleAnswers answerFrom sum letter constant substitute monomial smallestBlocked smallestBelow blocked point value within booleTable layoutFields lowFirst bodyOf
+unfolding sample tenLines sheet printedLines linesOf inFront printed printedFor lastBehind lastFor routeBehind answerLines lineRefusal lineQuestions firstNo lettersFit routeFits hasTextLength allSigns allDeclared every isSign isDeclared readLine fields isReadable hasLetters numberBehind digitsAhead isDigit recordLines hexadecimal digitByte textTable table tabulate normalForm treeOf grammarReads symbols symbol isUnknown isGiven isSingle reads readWith andThen entryRecords orderRecords factRecords tableWhereZero whereZero noFact isDefault sameBytes orderBytes conditionRecords answerRecords verdictRecords monomials order groups below keep letters solve solvable isZero everyBelow remains nextCondition product restrict odd count present held bit defaultOrder listed answerTable booleAnswers answerFrom sum letter constant substitute monomial smallestBlocked smallestBelow blocked point value within booleTable layoutFields lowFirst bodyOf
 sample-printed = refl

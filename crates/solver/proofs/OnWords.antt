@@ -2,7 +2,7 @@
 -- Assumes nothing.
 use mathlib.Core.Path.{_≡_, refl, sym, ap, _∙_}
 use mathlib.Core.Bool.{Bool, true, false, cond}
-use mathlib.Core.List.{List, [], _∷_}
+use mathlib.Core.List.{List, [], _∷_, _++_}
 use Prim.Native.Nat.{ℕ, _+_, _-_, _*_, _^_, _≤_, _<_}
 use native.Mathlib.Omega.{arith}
 use lib.Pow.{pow-pos}
@@ -13,7 +13,8 @@ use Rattle.ring.specs.Polynomial.{Polynomial, value}
 use Rattle.ring.proofs.Table.{length-answerTable}
 use Rattle.tables.specs.declared.Question.the-variants.{Solution}
 use Rattle.tables.specs.Questions.{firstNo}
-use Rattle.tables.specs.Answered.{answered, _into_}
+use Rattle.tables.specs.Answered.{refused, answered, _into_}
+use Rattle.tables.proofs.FirstNo.{none-no, then-further}
 use Rattle.tables.proofs.Answered.{call-last-no, call-whole}
 use Rattle.words.specs.Inner.Words.{bitAt, answerWords}
 use Rattle.words.proofs.Letters.{room, points}
@@ -30,10 +31,11 @@ use Rattle.elimination.proofs.AnyOrder.{Agree, remains-agree, answered-agree}
 use Rattle.elimination.proofs.Beyond.{value-answers-all}
 use Rattle.elimination.proofs.Slots.{answers-cong}
 use Rattle.elimination.proofs.States.{state-room}
+use Rattle.facts.proofs.Asked.{fact-stops}
 use Rattle.calls.specs.declared.Verdict.{Verdict}
 use Rattle.calls.specs.declared.Verdict.the-variants.{Solved, None}
 use Rattle.calls.specs.declared.Solving.the-variants.{Said}
-use Rattle.calls.specs.Questions.{asksSolution}
+use Rattle.calls.specs.Questions.{factQuestions, asksSolution}
 use Rattle.calls.specs.Solving.{solving}
 use Rattle.solver.specs.declared.Method.{Method}
 use Rattle.solver.specs.declared.Method.the-variants.{Boole, Particular, Lowenheim}
@@ -144,19 +146,29 @@ length-tableBy Boole c = length-answerTable (c .U) (width c) _
 length-tableBy Particular c = length-answerTable (c .U) (width c) _
 length-tableBy Lowenheim c = length-answerTable (c .U) (width c) _
 
--- as the code comes to it, from a copy of the condition's values
-module _ (method : Method) (c : Condition) (v : Verdict) (ws lent : List ℕ) {values used : List ℕ}
-    (copied : used ≡ values) (taken : values ≡ valueWords c) (said : used ≡ valueWords c → verdict v ws ≡ solveWords c) where
-  pub none-by : {state : State} → v ≡ None state → answered (solving (Said (None state))) (lent ∷ []) ≡ solveBy method c lent
-  unfolding solveBy firstNo
-  none-by {state} told =
-      let r = none-is c state (rw told at (said (copied ∙ taken))) in
-      rw (r .1) (call-last-no [] Solution (solvable (width c) (polynomial c) (c .order)) _ [] (tableBy method c into lent ∷ []) refl (r .0))
+-- as the code comes to it: a no to 22 or 23 ..
+module _ (method : Method) (c : Condition) (lent : List ℕ) {q : ℕ} (found : q ≡ firstNo (factQuestions (c .U) (c .G) (c .fact))) where
+  pub fact-refused : (q ≡ 0 → ⊥) → answered (refused q []) (lent ∷ []) ≡ solveBy method c lent
+  unfolding solveBy
+  fact-refused n = fact-stops (c .U) (c .G) (c .fact) (asksSolution c ∷ []) [] (tableBy method c into lent ∷ []) q found n
 
-  pub solved-by : {answers : List ℕ} → v ≡ Solved → (values ≡ valueWords c → ws ≡ booleWords c → answers ≡ tableBy method c)
-      → length lent ≡ c .U * 2 ^ width c → answered (solving (Said Solved)) (answers ∷ []) ≡ solveBy method c lent
-  unfolding solveBy firstNo
-  solved-by {answers} told written size =
-      let r = solved-is c ws (rw told at (said (copied ∙ taken))) in
-      call-whole (asksSolution c ∷ []) [] (tableBy method c) lent answers (rw (r .0)) (written taken (r .1))
-      (size ∙ sym (length-tableBy method c))
+  -- .. or a verdict, from a copy of the condition's values
+  module _ (z : q ≡ 0) (v : Verdict) (ws : List ℕ) {values used : List ℕ}
+      (copied : used ≡ values) (taken : values ≡ valueWords c) (said : used ≡ valueWords c → verdict v ws ≡ solveWords c) where
+    pub none-by : {state : State} → v ≡ None state → answered (solving (Said (None state))) (lent ∷ []) ≡ solveBy method c lent
+    unfolding solveBy
+    none-by {state} told =
+        let r = none-is c state (rw told at (said (copied ∙ taken))) in
+        rw (r .1)
+        (call-last-no (factQuestions (c .U) (c .G) (c .fact)) Solution (solvable (width c) (polynomial c) (c .order)) _ []
+        (tableBy method c into lent ∷ []) (sym found ∙ z) (r .0))
+
+    pub solved-by : {answers : List ℕ} → v ≡ Solved → (values ≡ valueWords c → ws ≡ booleWords c → answers ≡ tableBy method c)
+        → length lent ≡ c .U * 2 ^ width c → answered (solving (Said Solved)) (answers ∷ []) ≡ solveBy method c lent
+    unfolding solveBy
+    solved-by {answers} told written size =
+        let r = solved-is c ws (rw told at (said (copied ∙ taken))) in
+        call-whole (factQuestions (c .U) (c .G) (c .fact) ++ (asksSolution c ∷ [])) [] (tableBy method c) lent answers
+        (then-further (factQuestions (c .U) (c .G) (c .fact)) (asksSolution c ∷ []) (sym found ∙ z)
+        ∙ none-no (asksSolution c ∷ []) (r .0, tt))
+        (written taken (r .1)) (size ∙ sym (length-tableBy method c))

@@ -1,7 +1,8 @@
 // Solving a condition: Boole's answers, the particular solution, Löwenheim's formula on that solution or on handed polynomials that solve it.
 // Public calls, none with a `requires`: `boole`, `particular`, `lowenheim`, `lowenheim_handed`. `solve_values` is Boole's method for the
 // crates above, which ask the questions first; the other functions are theirs alone.
-// An order comes as six bytes, first eliminated first, with 255 behind its unknowns; the handed form needs none.
+// An order comes as six bytes, first eliminated first, with 255 behind its unknowns; the handed form needs none. A fact comes as a table
+// g: what is solved is f*(1 + g).
 // The work is done on truth values, 64 points to a word (`elimination`). It comes back to polynomials, and the contracts cite the
 // polynomials' own definitions.
 use calls::Outcome;
@@ -19,10 +20,9 @@ ghost use Rattle.ring.specs.Table.{IsTable, AreBits, answerTable};
 ghost use Rattle.tables.specs.Questions.{firstNo};
 ghost use Rattle.tables.specs.Answered.{answered};
 ghost use Rattle.words.specs.Inner.Words.{wordsOf, bitAt};
-ghost use Rattle.solution.specs.Condition.{ordered};
+ghost use Rattle.solution.specs.Condition.{underFact};
 ghost use Rattle.solution.specs.Order.{orderFits};
 ghost use Rattle.solution.specs.Inner.ByPoints.{zeroChoice};
-ghost use Rattle.calls.specs.declared.Solving.the-variants.{Said};
 ghost use Rattle.calls.specs.Operations.{outcome};
 ghost use Rattle.calls.specs.Solving.{solving, solvingCall, booleCall, particularCall, lowenheimCall, handedCall};
 ghost use Rattle.solver.specs.Inner.Methods.{tableQuestions, tableBy, solveBy, valueWords, booleWords, solveWords, verdict};
@@ -37,11 +37,18 @@ pub enum Method {
 }
 
 // Boole's answers.
-pub fn boole(u: usize, g: usize, order: [u8; 6], condition: &[u8], answers: &mut [u8]) -> Solving
+pub fn boole(
+    u: usize,
+    g: usize,
+    order: [u8; 6],
+    fact: &[u8],
+    condition: &[u8],
+    answers: &mut [u8],
+) -> Solving
     ensures { λ r. ⌜ answered (solving r) (now (answers .exit) ∷ [])
-        ≡ booleCall u g order (now (condition .entry)) (now (answers .entry)) ⌝ }
+        ≡ booleCall u g order (now (fact .entry)) (now (condition .entry)) (now (answers .entry)) ⌝ }
 {
-    ask_and_solve(Method::Boole, u, g, order, condition, answers)
+    ask_and_solve(Method::Boole, u, g, order, fact, condition, answers)
 }
 
 // The particular solution.
@@ -49,13 +56,14 @@ pub fn particular(
     u: usize,
     g: usize,
     order: [u8; 6],
+    fact: &[u8],
     condition: &[u8],
     answers: &mut [u8],
 ) -> Solving
     ensures { λ r. ⌜ answered (solving r) (now (answers .exit) ∷ [])
-        ≡ particularCall u g order (now (condition .entry)) (now (answers .entry)) ⌝ }
+        ≡ particularCall u g order (now (fact .entry)) (now (condition .entry)) (now (answers .entry)) ⌝ }
 {
-    ask_and_solve(Method::Particular, u, g, order, condition, answers)
+    ask_and_solve(Method::Particular, u, g, order, fact, condition, answers)
 }
 
 // Löwenheim's answers from the particular solution.
@@ -63,13 +71,14 @@ pub fn lowenheim(
     u: usize,
     g: usize,
     order: [u8; 6],
+    fact: &[u8],
     condition: &[u8],
     answers: &mut [u8],
 ) -> Solving
     ensures { λ r. ⌜ answered (solving r) (now (answers .exit) ∷ [])
-        ≡ lowenheimCall u g order (now (condition .entry)) (now (answers .entry)) ⌝ }
+        ≡ lowenheimCall u g order (now (fact .entry)) (now (condition .entry)) (now (answers .entry)) ⌝ }
 {
-    ask_and_solve(Method::Lowenheim, u, g, order, condition, answers)
+    ask_and_solve(Method::Lowenheim, u, g, order, fact, condition, answers)
 }
 
 fn wide(x: u8) -> usize
@@ -91,9 +100,9 @@ fn widened(order: [u8; 6]) -> [usize; 6]
     ]
 }
 
-// The verdict by the values of a condition that has passed the questions: if there is a solution, the values of Boole's answer for
-// unknown j are in the words j * k to (j + 1) * k of `answers`, k words holding the values of one polynomial. Uses up the condition's
-// values.
+// The verdict by the values of f*(1 + g), of a condition f and a fact g that have passed the questions: if there is a solution, the values
+// of Boole's answer for unknown j are in the words j * k to (j + 1) * k of `answers`, k words holding the values of one polynomial. Uses
+// up the values of f*(1 + g).
 pub fn solve_values(
     u: usize,
     g: usize,
@@ -103,8 +112,8 @@ pub fn solve_values(
 ) -> Verdict
     requires { ⌜ (u ≤ 6) × (u + g ≤ 10) × (orderFits u order ≡ true)
         × (length (now values) ≡ 2 ^ (u + g - 6)) × (length (now answers) ≡ u * 2 ^ (u + g - 6)) ⌝ }
-    ensures { λ r. ⌜ ((t : List ℕ) → now (values .entry) ≡ valueWords (ordered u g (take u order) t)
-        → verdict r (now (answers .exit)) ≡ solveWords (ordered u g (take u order) t)) ⌝ }
+    ensures { λ r. ⌜ ((fact t : List ℕ) → now (values .entry) ≡ valueWords (underFact u g (take u order) fact t)
+        → verdict r (now (answers .exit)) ≡ solveWords (underFact u g (take u order) fact t)) ⌝ }
 {
     let unknowns = widened(order);
     let state = elimination::solve_words(u, g, &unknowns[..u], values, answers);
@@ -116,8 +125,15 @@ pub fn solve_values(
 }
 
 // Questions 1, 17, 4 and 8 of a call that solves: the first no, or 0.
-fn solving_refusal(u: usize, g: usize, order: [u8; 6], condition: &[u8], room: usize) -> u8
-    ensures { λ r. ⌜ r ≡ firstNo (tableQuestions u g order (now (condition .entry)) room) ⌝ }
+fn solving_refusal(
+    u: usize,
+    g: usize,
+    order: [u8; 6],
+    fact: &[u8],
+    condition: &[u8],
+    room: usize,
+) -> u8
+    ensures { λ r. ⌜ r ≡ firstNo (tableQuestions u g order (now (fact .entry)) (now (condition .entry)) room) ⌝ }
 {
     if !tables::letters_fit(u, g) {
         return tables::number(Question::Letters);
@@ -125,45 +141,57 @@ fn solving_refusal(u: usize, g: usize, order: [u8; 6], condition: &[u8], room: u
     let k = tables::pow2(u + g);
     let all = u * k;
     let first = tables::ask(0, Question::Order, solution::order_fits(u, order));
-    let second = tables::ask(first, Question::Room, tables::has_room(k, condition.len()));
-    let third = tables::ask(second, Question::Room, tables::has_room(all, room));
-    tables::ask(third, Question::Bits, tables::holds_bits(k, condition))
+    let second = tables::ask(first, Question::Room, tables::has_room(k, fact.len()));
+    let third = tables::ask(second, Question::Room, tables::has_room(k, condition.len()));
+    let fourth = tables::ask(third, Question::Room, tables::has_room(all, room));
+    let fifth = tables::ask(fourth, Question::Bits, tables::holds_bits(k, fact));
+    tables::ask(fifth, Question::Bits, tables::holds_bits(k, condition))
 }
 
-// Questions 1, 17, 4 and 8, then solving, which answers question 9.
+// Questions 1, 17, 4 and 8, then 22, 23 and 9.
 fn ask_and_solve(
     method: Method,
     u: usize,
     g: usize,
     order: [u8; 6],
+    fact: &[u8],
     condition: &[u8],
     answers: &mut [u8],
 ) -> Solving
     ensures { λ r. ⌜ answered (solving r) (now (answers .exit) ∷ [])
-        ≡ solvingCall (tableBy method) u g order (now (condition .entry)) (now (answers .entry)) ⌝ }
+        ≡ solvingCall (tableBy method) u g order (now (fact .entry)) (now (condition .entry)) (now (answers .entry)) ⌝ }
 {
-    let q = solving_refusal(u, g, order, condition, answers.len());
+    let q = solving_refusal(u, g, order, fact, condition, answers.len());
     if q != 0 {
         return Solving::Refused(q);
     }
     let k = tables::pow2(u + g);
     let all = u * k;
-    Solving::Said(solve_by(method, u, g, order, &condition[..k], &mut answers[..all]))
+    solve_by(
+        method,
+        u,
+        g,
+        order,
+        &fact[..k],
+        &condition[..k],
+        &mut answers[..all],
+    )
 }
 
-// The answers of a method, from a condition's table to theirs. The scratch words live here.
+// Questions 22, 23 and 9, and the answers of a method if all are answered yes. The scratch words live here.
 fn solve_by(
     method: Method,
     u: usize,
     g: usize,
     order: [u8; 6],
+    fact: &[u8],
     condition: &[u8],
     answers: &mut [u8],
-) -> Verdict
-    requires { ⌜ (u ≤ 6) × (u + g ≤ 10) × (orderFits u order ≡ true)
+) -> Solving
+    requires { ⌜ (u ≤ 6) × (u + g ≤ 10) × (orderFits u order ≡ true) × IsTable (u + g) (now fact)
         × IsTable (u + g) (now condition) × (length (now answers) ≡ u * 2 ^ (u + g)) ⌝ }
-    ensures { λ r. ⌜ answered (solving (Said r)) (now (answers .exit) ∷ [])
-        ≡ solveBy method (ordered u g (take u order) (now (condition .entry))) (now (answers .entry)) ⌝ }
+    ensures { λ r. ⌜ answered (solving r) (now (answers .exit) ∷ [])
+        ≡ solveBy method (underFact u g (take u order) (now (fact .entry)) (now (condition .entry))) (now (answers .entry)) ⌝ }
 {
     let k = words::word_count(u + g);
     let all = u * k;
@@ -175,6 +203,7 @@ fn solve_by(
         u,
         g,
         order,
+        fact,
         condition,
         answers,
         &mut values[..k],
@@ -188,28 +217,32 @@ fn solve_with(
     u: usize,
     g: usize,
     order: [u8; 6],
+    fact: &[u8],
     condition: &[u8],
     answers: &mut [u8],
     values: &mut [u64],
     used: &mut [u64],
     found: &mut [u64],
-) -> Verdict
-    requires { ⌜ (u ≤ 6) × (u + g ≤ 10) × (orderFits u order ≡ true)
+) -> Solving
+    requires { ⌜ (u ≤ 6) × (u + g ≤ 10) × (orderFits u order ≡ true) × IsTable (u + g) (now fact)
         × IsTable (u + g) (now condition) × (length (now answers) ≡ u * 2 ^ (u + g)) ⌝ }
     requires { ⌜ (length (now values) ≡ 2 ^ (u + g - 6)) × (length (now used) ≡ 2 ^ (u + g - 6))
         × (length (now found) ≡ u * 2 ^ (u + g - 6)) ⌝ }
-    ensures { λ r. ⌜ answered (solving (Said r)) (now (answers .exit) ∷ [])
-        ≡ solveBy method (ordered u g (take u order) (now (condition .entry))) (now (answers .entry)) ⌝ }
+    ensures { λ r. ⌜ answered (solving r) (now (answers .exit) ∷ [])
+        ≡ solveBy method (underFact u g (take u order) (now (fact .entry)) (now (condition .entry))) (now (answers .entry)) ⌝ }
 {
-    words::take_values(u + g, condition, values);
+    let q = facts::take_where_zero(u, g, fact, condition, values, used);
+    if q != 0 {
+        return Solving::Refused(q);
+    }
     words::copy(used, values);
     let verdict = solve_values(u, g, order, used, found);
     match verdict {
         Verdict::Solved => {
             write_by(method, u, g, values, found, used, answers);
-            Verdict::Solved
+            Solving::Said(Verdict::Solved)
         }
-        Verdict::None(state) => Verdict::None(state),
+        Verdict::None(state) => Solving::Said(Verdict::None(state)),
     }
 }
 
@@ -225,8 +258,9 @@ fn write_by(
 )
     requires { ⌜ (u ≤ 6) × (u + g ≤ 10) × (length (now values) ≡ 2 ^ (u + g - 6)) × (length (now found) ≡ u * 2 ^ (u + g - 6))
         × (length (now own) ≡ 2 ^ (u + g - 6)) × (length (now answers) ≡ u * 2 ^ (u + g)) ⌝ }
-    ensures { λ _. ⌜ ((order t : List ℕ) → now (values .entry) ≡ valueWords (ordered u g order t)
-        → now (found .entry) ≡ booleWords (ordered u g order t) → now (answers .exit) ≡ tableBy method (ordered u g order t)) ⌝ }
+    ensures { λ _. ⌜ ((order fact t : List ℕ) → now (values .entry) ≡ valueWords (underFact u g order fact t)
+        → now (found .entry) ≡ booleWords (underFact u g order fact t)
+        → now (answers .exit) ≡ tableBy method (underFact u g order fact t)) ⌝ }
 {
     match method {
         Method::Boole => write_tables(u, u + g, found, answers),
@@ -287,47 +321,72 @@ fn write_mixed(u: usize, n: usize, values: &[u64], b: &[u64], own: &mut [u64], a
 }
 
 // Questions 1, 4 and 8 of handed polynomials: the first no, or 0.
-fn handed_refusal(u: usize, g: usize, condition: &[u8], handed: &[u8], room: usize) -> u8
-    ensures { λ r. ⌜ r ≡ firstNo (handedTableQuestions u g (now (condition .entry)) (now (handed .entry)) room) ⌝ }
+fn handed_refusal(
+    u: usize,
+    g: usize,
+    fact: &[u8],
+    condition: &[u8],
+    handed: &[u8],
+    room: usize,
+) -> u8
+    ensures { λ r. ⌜ r
+        ≡ firstNo (handedTableQuestions u g (now (fact .entry)) (now (condition .entry)) (now (handed .entry)) room) ⌝ }
 {
     if !tables::letters_fit(u, g) {
         return tables::number(Question::Letters);
     }
     let k = tables::pow2(u + g);
     let all = u * k;
-    let first = tables::ask(0, Question::Room, tables::has_room(k, condition.len()));
-    let second = tables::ask(first, Question::Room, tables::has_room(all, handed.len()));
-    let third = tables::ask(second, Question::Room, tables::has_room(all, room));
-    let fourth = tables::ask(third, Question::Bits, tables::holds_bits(k, condition));
-    tables::ask(fourth, Question::Bits, tables::holds_bits(all, handed))
+    let first = tables::ask(0, Question::Room, tables::has_room(k, fact.len()));
+    let second = tables::ask(first, Question::Room, tables::has_room(k, condition.len()));
+    let third = tables::ask(second, Question::Room, tables::has_room(all, handed.len()));
+    let fourth = tables::ask(third, Question::Room, tables::has_room(all, room));
+    let fifth = tables::ask(fourth, Question::Bits, tables::holds_bits(k, fact));
+    let sixth = tables::ask(fifth, Question::Bits, tables::holds_bits(k, condition));
+    tables::ask(sixth, Question::Bits, tables::holds_bits(all, handed))
 }
 
 // Löwenheim's answers from handed polynomials that solve the condition; others are refused.
 pub fn lowenheim_handed(
     u: usize,
     g: usize,
+    fact: &[u8],
     condition: &[u8],
     handed: &[u8],
     answers: &mut [u8],
 ) -> Outcome
     ensures { λ r. ⌜ answered (outcome r) (now (answers .exit) ∷ [])
-        ≡ handedCall u g (now (condition .entry)) (now (handed .entry)) (now (answers .entry)) ⌝ }
+        ≡ handedCall u g (now (fact .entry)) (now (condition .entry)) (now (handed .entry)) (now (answers .entry)) ⌝ }
 {
-    let q = handed_refusal(u, g, condition, handed, answers.len());
+    let q = handed_refusal(u, g, fact, condition, handed, answers.len());
     if q != 0 {
         return Outcome::Refused(q);
     }
     let k = tables::pow2(u + g);
     let all = u * k;
-    test_and_mix(u, g, &condition[..k], &handed[..all], &mut answers[..all])
+    test_and_mix(
+        u,
+        g,
+        &fact[..k],
+        &condition[..k],
+        &handed[..all],
+        &mut answers[..all],
+    )
 }
 
-// Question 21, and the answers if it is answered yes. The scratch words live here.
-fn test_and_mix(u: usize, g: usize, condition: &[u8], handed: &[u8], answers: &mut [u8]) -> Outcome
-    requires { ⌜ (u ≤ 6) × (u + g ≤ 10) × IsTable (u + g) (now condition)
+// Questions 22, 23 and 21, and the answers if all are answered yes. The scratch words live here.
+fn test_and_mix(
+    u: usize,
+    g: usize,
+    fact: &[u8],
+    condition: &[u8],
+    handed: &[u8],
+    answers: &mut [u8],
+) -> Outcome
+    requires { ⌜ (u ≤ 6) × (u + g ≤ 10) × IsTable (u + g) (now fact) × IsTable (u + g) (now condition)
         × (length (now handed) ≡ u * 2 ^ (u + g)) × AreBits (now handed) × (length (now answers) ≡ u * 2 ^ (u + g)) ⌝ }
     ensures { λ r. ⌜ answered (outcome r) (now (answers .exit) ∷ [])
-        ≡ handedBy u g (now (condition .entry)) (now (handed .entry)) (now (answers .entry)) ⌝ }
+        ≡ handedBy u g (now (fact .entry)) (now (condition .entry)) (now (handed .entry)) (now (answers .entry)) ⌝ }
 {
     let k = words::word_count(u + g);
     let all = 6 * k;
@@ -337,6 +396,7 @@ fn test_and_mix(u: usize, g: usize, condition: &[u8], handed: &[u8], answers: &m
     test_and_mix_with(
         u,
         g,
+        fact,
         condition,
         handed,
         answers,
@@ -350,6 +410,7 @@ fn test_and_mix(u: usize, g: usize, condition: &[u8], handed: &[u8], answers: &m
 fn test_and_mix_with(
     u: usize,
     g: usize,
+    fact: &[u8],
     condition: &[u8],
     handed: &[u8],
     answers: &mut [u8],
@@ -357,14 +418,17 @@ fn test_and_mix_with(
     own: &mut [u64],
     parts: &mut [u64],
 ) -> Outcome
-    requires { ⌜ (u ≤ 6) × (u + g ≤ 10) × IsTable (u + g) (now condition)
+    requires { ⌜ (u ≤ 6) × (u + g ≤ 10) × IsTable (u + g) (now fact) × IsTable (u + g) (now condition)
         × (length (now handed) ≡ u * 2 ^ (u + g)) × AreBits (now handed) × (length (now answers) ≡ u * 2 ^ (u + g)) ⌝ }
     requires { ⌜ (length (now values) ≡ 2 ^ (u + g - 6)) × (length (now own) ≡ 2 ^ (u + g - 6))
         × (length (now parts) ≡ 6 * 2 ^ (u + g - 6)) ⌝ }
     ensures { λ r. ⌜ answered (outcome r) (now (answers .exit) ∷ [])
-        ≡ handedBy u g (now (condition .entry)) (now (handed .entry)) (now (answers .entry)) ⌝ }
+        ≡ handedBy u g (now (fact .entry)) (now (condition .entry)) (now (handed .entry)) (now (answers .entry)) ⌝ }
 {
-    words::take_values(u + g, condition, values);
+    let q = facts::take_where_zero(u, g, fact, condition, values, own);
+    if q != 0 {
+        return Outcome::Refused(q);
+    }
     words::copy(own, values);
     polynomials::put_handed(u, u + g, handed, own, parts);
     if words::first_one(own) < tables::pow2(u + g) {

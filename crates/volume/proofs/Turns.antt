@@ -19,7 +19,7 @@ use Rattle.calls.specs.declared.Heading.{Heading}
 use Rattle.calls.specs.declared.Verdict.{Verdict}
 use Rattle.calls.specs.declared.Read.{Read}
 use Rattle.calls.specs.declared.Read.the-variants.{Entry, Refused}
-use Rattle.calls.specs.Questions.{entryQuestions, auditQuestions, routeRises, walkQuestions}
+use Rattle.calls.specs.Questions.{factQuestions, recordQuestions, entryQuestions, auditQuestions, routeRises, walkQuestions}
 use Rattle.calls.specs.Entries.{reading, readValues, stateSaid, auditCall}
 use Rattle.calls.specs.Walk.{walkRefusal, atEntry, walkBehind, walkReply, walkCall}
 use Rattle.calls.proofs.Questions.{walk-exactly}
@@ -49,7 +49,7 @@ module _ (questions : List Asked) (bs : List ℕ) (r : Read) (e : answered (read
 -- ---- the audit's questions, then 15
 module _ (before : ℕ) (bs : List ℕ) (r : Read) (e : answered (reading r) [] ≡ auditCall bs) where
   pub refused-first : {found : ℕ} → r ≡ Refused found → answered (reading (Refused found)) [] ≡ walkedAt before bs
-  unfolding walkQuestions auditQuestions entryQuestions
+  unfolding walkQuestions auditQuestions entryQuestions recordQuestions factQuestions
   refused-first {found} t =
       let y = first-no (auditQuestions (records bs)) bs r e t in
       call-stops (auditQuestions (records bs)) _ (readValues (records bs)) [] found refl (sym (y .0)) (y .1)

@@ -2,7 +2,7 @@
 -- and their bytes are three for each monomial of the condition and four for each of an answer.
 -- Assumes nothing.
 use mathlib.Core.Path.{_≡_, refl, sym, ap, ap₂, _∙_}
-use mathlib.Core.Bool.{true, cond}
+use mathlib.Core.Bool.{true, _&&_, cond}
 use mathlib.Core.List.{List, [], _∷_, _++_, append-assoc, map, map-append}
 use Prim.Native.Nat.{ℕ, zero, suc, _+_, _-_, _*_, _^_, _≤_, _<_}
 use native.Mathlib.Nat.{zero-add}
@@ -11,7 +11,7 @@ use lib.Pow.{pow-mono}
 use lib.ListN.{length, take, drop, length-append, length-map}
 use Rattle.ring.specs.declared.State.{State}
 use Rattle.ring.specs.Polynomial.{Polynomial, value}
-use Rattle.ring.specs.Table.{present, table, held, answerTable}
+use Rattle.ring.specs.Table.{IsTable, present, table, held, answerTable}
 use Rattle.ring.proofs.Table.{present-table, held-answerTable}
 use Rattle.ring.proofs.Value.{value-cong, involution}
 use Rattle.tables.specs.Answered.{Reply, Answered}
@@ -21,27 +21,29 @@ use Rattle.words.proofs.Letters.{room}
 use Rattle.order.specs.Order.{order, monomials}
 use Rattle.order.specs.Inner.Listing.{tagged, Listed}
 use Rattle.elimination.proofs.Slots.{answer-part}
-use Rattle.solution.specs.Condition.{Condition, ordered, width, polynomial, IsOrder}
+use Rattle.solution.specs.Condition.{Condition, underFact, width, tableWhereZero, polynomial, IsOrder}
 use Rattle.solution.specs.Order.{orderBytes, orderFits}
 use Rattle.solution.specs.Elimination.{Verdict, solved, none, booleAnswers, booleTable, solve}
 use Rattle.solution.proofs.Order.{fits-bytes}
+use Rattle.facts.specs.Inner.Kept.{keptWords}
+use Rattle.facts.proofs.Kept.{values-where}
 use Rattle.solver.specs.Inner.Methods.{valueWords, verdict, solveWords}
 use Rattle.solver.proofs.OnWords.{solved-by-values, none-by-values}
 use Rattle.entry.specs.Record.{Record, fields, lowFirst, bodyOf, conditionRecord, answerRecord, startRecord, endRecord}
 use Rattle.entry.specs.Record.{isDefault, bytes}
 use Rattle.entry.specs.Inner.Codes.{listedRecord}
-use Rattle.entry.specs.Entry.{orderRecords, conditionRecords, answerRecords, verdictRecords, entryRecords, entry}
+use Rattle.entry.specs.Entry.{orderRecords, factRecords, conditionRecords, answerRecords, verdictRecords, entryRecords, entry}
 use Rattle.entry.proofs.OrderRecord.{order-body}
 use Rattle.entry.proofs.Codes.{condition-codes, answer-codes}
-use Rattle.entry.proofs.Bound.{length-bytes, condition-bytes, answer-bytes, entry-most}
+use Rattle.entry.proofs.Bound.{length-bytes, condition-bytes, answer-bytes, entry-parts, entry-most}
 use Rattle.entry.proofs.Verdicts.{VerdictFits, solve-fits}
 use Rattle.calls.specs.declared.Verdict.{Verdict as Answer}
 use Rattle.calls.specs.declared.Verdict.the-variants as answers
 use Rattle.writer.specs.declared.Listing.{Listing}
 use Rattle.writer.specs.declared.Listing.the-variants.{Solved, None}
-use Rattle.writer.specs.Inner.Steps.{answerPart, answerCodes, sizeOf, archivedOrder, entryFrom, Lists, Listable}
-use Rattle.writer.specs.Inner.Steps.{Ready, Sized, handOut}
-use Rattle.writer.proofs.Monomials.{listed-both, packed-values, packed-table}
+use Rattle.writer.specs.Inner.Steps.{answerPart, answerCodes, sizeOf, archivedOrder, archivedFact, archivedHeads, entryFrom}
+use Rattle.writer.specs.Inner.Steps.{Lists, Listable, packedCondition, AreKept, Ready, Headed, Sized, handOut}
+use Rattle.writer.proofs.Monomials.{listed-both, packed, packed-values, packed-table}
 
 -- ---- the answers
 -- the monomials of the answer for unknown j
@@ -84,26 +86,14 @@ condition-size c =
     let ms : List ℕ = monomials (width c) (present (c .table)) in
     omega (arith, condition-bytes ms, length-map ms conditionRecord)
 
-entry-length : (route : ℕ) (c : Condition)
-    → length (entry route c)
-    ≡ 6 + (length (bytes (orderRecords c))
-    + (length (bytes (conditionRecords c)) + length (bytes (verdictRecords (c .U) (width c) (solve c)))))
-unfolding entry entryRecords bytes fields bodyOf lowFirst
-entry-length route c =
-    let orders : List Record = orderRecords c in
-    let told : List Record = conditionRecords c in
-    let said : List Record = verdictRecords (c .U) (width c) (solve c) in
-    omega (
-      arith,
-      length-bytes orders (told ++ (said ++ (endRecord route ∷ []))),
-      length-bytes told (said ++ (endRecord route ∷ [])),
-      length-bytes said (endRecord route ∷ []),
-    )
-
 -- ---- an entry, from the coefficients of its condition
-module _ (U G : ℕ) (o coefficients : List ℕ) where
+module _ (U G : ℕ) (o fact coefficients : List ℕ) where
   abbrev pub theCondition : Condition
-  theCondition = ordered U G o (table (U + G) (bitAt coefficients))
+  theCondition = underFact U G o fact (table (U + G) (bitAt coefficients))
+
+  -- what stands between the start and the condition
+  abbrev heads : List Record
+  heads = orderRecords theCondition ++ factRecords theCondition
 
   module _ (h : U + G ≤ 10) {old codes : List ℕ} {told : ℕ}
       (w : Listed old 0 (tagged 0 (monomials (U + G) (bitAt coefficients))) told codes) where
@@ -120,18 +110,26 @@ module _ (U G : ℕ) (o coefficients : List ℕ) where
     said-length e = ap (λ (v : Verdict (List ℕ)). length (bytes (verdictRecords U (U + G) v))) e
 
     pub none-lists : {state : State} {s : ℕ} → s ≡ state .0 → solve theCondition ≡ none state → Lists theCondition (None told s) codes
-    unfolding entryFrom entryRecords verdictRecords bytes fields bodyOf lowFirst
+    unfolding entry entryFrom entryRecords verdictRecords bytes fields bodyOf lowFirst
     none-lists {state} {s} es e =
         record {
           told = omega arith;
           count = omega (arith, w .inside, w .long);
-          records = λ route. rw (w .front, first-listed, e, es);
+          records = λ route. rw (w .front, first-listed, e, es) (ap (λ (l : List Record). startRecord route U G ∷ l)
+              (append-assoc (orderRecords theCondition) (factRecords theCondition) _));
           size = none-size;
         }
       where
-        none-size : (route : ℕ) → 6 + (length (bytes (orderRecords theCondition)) + (3 * told + 2)) ≡ length (entry route theCondition)
+        none-size : (route : ℕ) → 6 + (length (bytes heads) + (3 * told + 2)) ≡ length (entry route theCondition)
         none-size route =
-            omega (arith, entry-length route theCondition, condition-size theCondition, told-is, said-length e)
+            omega (
+              arith,
+              entry-parts route theCondition (solve theCondition),
+              length-bytes (orderRecords theCondition) (factRecords theCondition),
+              condition-size theCondition,
+              told-is,
+              said-length e,
+            )
 
     module _ {ws : List ℕ} {all : ℕ} {codes′ : List ℕ} (a : Listed codes told (answerCodes U (U + G) ws) all codes′) (b : ℕ → Polynomial)
         (ew : ws ≡ answerWords U (2 ^ (U + G - 6)) (λ j. value (U + G) (b j)))
@@ -146,23 +144,26 @@ module _ (U G : ℕ) (o coefficients : List ℕ) where
           ∙ ap₂ (λ (x y : List Record). x ++ y) first-listed then-listed
 
       pub solved-lists : Lists theCondition (Solved told all) codes′
-      unfolding entryFrom entryRecords verdictRecords
+      unfolding entry entryFrom entryRecords verdictRecords
       solved-lists =
           record {
             told = omega (arith, a .place);
             count = omega (arith, a .inside, a .long);
             records = λ route.
-                rw (e, both-listed) (ap (λ (l : List Record). startRecord route U G ∷ (orderRecords theCondition ++ l))
-                (append-assoc (conditionRecords theCondition) (answerRecords U (U + G) (answerTable U (U + G) b)) (endRecord route ∷ [])));
+                rw (e, both-listed) (ap (λ (l : List Record). startRecord route U G ∷ (heads ++ l))
+                (append-assoc (conditionRecords theCondition) (answerRecords U (U + G) (answerTable U (U + G) b)) (endRecord route ∷ []))
+                ∙ ap (λ (l : List Record). startRecord route U G ∷ l)
+                (append-assoc (orderRecords theCondition) (factRecords theCondition) _));
             size = solved-size;
           }
         where
           solved-size : (route : ℕ)
-              → 6 + (length (bytes (orderRecords theCondition)) + (3 * told + 4 * (all - told))) ≡ length (entry route theCondition)
+              → 6 + (length (bytes heads) + (3 * told + 4 * (all - told))) ≡ length (entry route theCondition)
           solved-size route =
               omega (
                 arith,
-                entry-length route theCondition,
+                entry-parts route theCondition (solve theCondition),
+                length-bytes (orderRecords theCondition) (factRecords theCondition),
                 condition-size theCondition,
                 told-is,
                 said-length e,
@@ -173,14 +174,10 @@ module _ (U G : ℕ) (o coefficients : List ℕ) where
               )
 
   -- the verdict by values is the entry's
-  module _ {values : List ℕ} (ev : values ≡ wordsOf (2 ^ (U + G - 6)) (value (U + G) (bitAt coefficients)))
-      (v : Answer) (ws : List ℕ)
-      (says : (t : List ℕ) → values ≡ valueWords (ordered U G o t) → verdict v ws ≡ solveWords (ordered U G o t)) where
+  module _ {values : List ℕ} (ev : values ≡ valueWords theCondition) (v : Answer) (ws : List ℕ)
+      (says : (fact t : List ℕ) → values ≡ valueWords (underFact U G o fact t) → verdict v ws ≡ solveWords (underFact U G o fact t)) where
     said : verdict v ws ≡ solveWords theCondition
-    said =
-        says (theCondition .table)
-        (ev ∙ words-cong (2 ^ (U + G - 6)) _ _
-        (λ p l. value-cong (U + G) _ _ p (λ m k. sym (present-table (U + G) (bitAt coefficients) m k))))
+    said = says fact (theCondition .table) ev
 
     pub said-none : {state : State} → v ≡ answers.None state → solve theCondition ≡ none state
     said-none {state} e = none-by-values theCondition state (rw e at said)
@@ -209,55 +206,88 @@ module _ (U G : ℕ) (o coefficients : List ℕ) where
       lists-none e = none-lists h w refl (said-none e)
 
 -- ---- what was listed is the entry
--- a condition's table in words
-module _ (U G : ℕ) (bs t coefficients values masks : List ℕ) (r : Ready U G bs t)
-    (e : coefficients ≡ wordsOf (2 ^ (U + G - 6)) (present t)) where
-  pub ready-listable : values ≡ wordsOf (2 ^ (U + G - 6)) (value (6 + (U + G - 6)) (bitAt coefficients)) → masks ≡ order (U + G)
-      → Listable U G coefficients values masks
-  ready-listable ev em =
+-- a condition's table in words, and the values of f*(1 + g)
+module _ (U G : ℕ) (bs t coefficients : List ℕ) (is : IsTable (U + G) t) (e : coefficients ≡ wordsOf (2 ^ (U + G - 6)) (present t)) where
+  again : table (U + G) (bitAt coefficients) ≡ t
+  again = packed-table (U + G) t coefficients is e
+
+  values-of : {kept before values : List ℕ} → before ≡ wordsOf (2 ^ (U + G - 6)) (value (6 + (U + G - 6)) (bitAt coefficients))
+      → values ≡ wordsOf (length before) (λ p. bitAt before p && bitAt kept p)
+      → (fact : List ℕ) → kept ≡ keptWords (U + G) fact → values ≡ valueWords (packedCondition U G bs fact coefficients)
+  values-of {kept} {before} {values} eb ev fact ek =
+      values-where (U + G) t fact kept before values ek
+      (packed-values (U + G) t coefficients is e before eb
+      ∙ words-cong (2 ^ (U + G - 6)) _ _ (λ p l. value-cong (U + G) _ _ p (λ m k. packed (U + G) t coefficients is e m k))) ev
+      ∙ ap (λ (f : List ℕ). wordsOf (2 ^ (U + G - 6)) (value (U + G) (present (tableWhereZero (U + G) f fact)))) (sym again)
+
+  pub table-listable : {kept before values masks : List ℕ} → U ≤ 6 → G ≤ 8 → U + G ≤ 10
+      → before ≡ wordsOf (2 ^ (U + G - 6)) (value (6 + (U + G - 6)) (bitAt coefficients))
+      → values ≡ wordsOf (length before) (λ p. bitAt before p && bitAt kept p) → AreKept (U + G) kept → masks ≡ order (U + G)
+      → Listable U G bs coefficients values masks
+  table-listable unknowns givens letters eb ev kept em =
       record {
-        unknowns = r .unknowns;
-        givens = r .givens;
-        letters = r .letters;
+        unknowns = unknowns;
+        givens = givens;
+        letters = letters;
         words = size-words _ _ _ e;
-        values-are = packed-values (U + G) t coefficients (r .is-table) e values ev;
+        fact = kept .fact;
+        values-are = values-of eb ev (kept .fact) (kept .are);
         ordered = em;
       }
 
-  pub ready-lists : {found : Listing} {codes : List ℕ} → Lists (ordered U G (take U bs) (table (U + G) (bitAt coefficients))) found codes
-      → Lists (ordered U G (take U bs) t) found codes
-  ready-lists w = rw (packed-table (U + G) t coefficients (r .is-table) e) at w
+  pub table-lists : {kept before values codes : List ℕ} {found : Listing}
+      → before ≡ wordsOf (2 ^ (U + G - 6)) (value (6 + (U + G - 6)) (bitAt coefficients))
+      → values ≡ wordsOf (length before) (λ p. bitAt before p && bitAt kept p)
+      → ((fact : List ℕ) → values ≡ valueWords (packedCondition U G bs fact coefficients)
+      → Lists (packedCondition U G bs fact coefficients) found codes)
+      → (fact : List ℕ) → kept ≡ keptWords (U + G) fact → Lists (underFact U G (take U bs) fact t) found codes
+  table-lists {kept} {before} {values} {codes} {found} eb ev lists fact ek =
+      rw again at (lists fact (values-of eb ev fact ek))
 
--- the record of an order that passes 17
-orders-are : (U G : ℕ) (bs t : List ℕ) → orderFits U bs ≡ true → orderRecords (ordered U G (take U bs) t) ≡ archivedOrder U bs
-unfolding orderRecords archivedOrder
-orders-are U G bs t fits =
-    ap (λ (r : Record). cond (isDefault U (orderBytes (take U bs))) [] (r ∷ [])) (order-body (take U bs))
-    ∙ ap (λ (l : List ℕ). cond (isDefault U l) [] ((6 ∷ l) ∷ [])) (sym (fits-bytes U bs fits))
+-- the records of an order that passes 17 and of a fact
+heads-are : (U G : ℕ) (bs fact t : List ℕ) → orderFits U bs ≡ true
+    → orderRecords (underFact U G (take U bs) fact t) ++ factRecords (underFact U G (take U bs) fact t) ≡ archivedHeads U G bs fact
+unfolding orderRecords archivedOrder factRecords archivedFact
+heads-are U G bs fact t fits =
+    ap (λ (l : List Record). l ++ archivedFact (U + G) fact)
+    (ap (λ (r : Record). cond (isDefault U (orderBytes (take U bs))) [] (r ∷ [])) (order-body (take U bs))
+    ∙ ap (λ (l : List ℕ). cond (isDefault U l) [] ((6 ∷ l) ∷ [])) (sym (fits-bytes U bs fits)))
 
-module _ (route U G : ℕ) (bs t : List ℕ) (r : Ready U G bs t) {found : Listing} {codes : List ℕ}
-    (w : Lists (ordered U G (take U bs) t) found codes) where
+-- the fact and the masks that its records are put by
+pub ready-headed : (U G : ℕ) (bs fact t : List ℕ) → Ready U G bs fact t → {k : ℕ} (masks : List ℕ) → k ≡ 2 ^ (U + G)
+    → take (2 ^ (U + G)) masks ≡ order (U + G) → Headed U G fact (take k masks)
+ready-headed U G bs fact t r {k} masks ek em =
+    record {
+      unknowns = r .unknowns;
+      givens = r .givens;
+      letters = r .letters;
+      of-fact = r .of-fact;
+      ordered = ap (λ (x : ℕ). take x masks) ek ∙ em;
+    }
+
+module _ (route U G : ℕ) (bs fact t : List ℕ) (r : Ready U G bs fact t) {found : Listing} {codes : List ℕ}
+    (w : Lists (underFact U G (take U bs) fact t) found codes) where
   abbrev made : List ℕ
-  made = bytes (entryFrom route U G (archivedOrder U bs) found codes)
+  made = bytes (entryFrom route U G (archivedHeads U G bs fact) found codes)
 
   abbrev c : Condition
-  c = ordered U G (take U bs) t
+  c = underFact U G (take U bs) fact t
 
   made-is : made ≡ entry route c
   unfolding entry
   made-is =
-      ap (λ (orders : List Record). bytes (entryFrom route U G orders found codes)) (sym (orders-are U G bs t (r .in-order)))
+      ap (λ (heads : List Record). bytes (entryFrom route U G heads found codes)) (sym (heads-are U G bs fact t (r .in-order)))
       ∙ ap bytes (w .records route)
 
-  pub lists-sized : Sized (archivedOrder U bs) found codes made
+  pub lists-sized : Sized (archivedHeads U G bs fact) found codes made
   unfolding entry
   lists-sized =
       record {
         told = w .told;
         count = w .count;
-        size = ap (λ (orders : List Record). 6 + (length (bytes orders) + sizeOf found)) (sym (orders-are U G bs t (r .in-order)))
+        size = ap (λ (heads : List Record). 6 + (length (bytes heads) + sizeOf found)) (sym (heads-are U G bs fact t (r .in-order)))
             ∙ w .size route ∙ sym (ap length made-is);
-        small = omega (arith, ap length made-is, entry-most route c (solve c) (r .unknowns) (r .letters));
+        small = omega (arith, ap length made-is, entry-most route c (solve c) (r .unknowns) (r .givens) (r .letters) (r .fact-letters));
       }
 
   -- question 14 of its bytes is that of the entry

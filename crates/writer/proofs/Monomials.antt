@@ -16,11 +16,11 @@ use Rattle.ring.proofs.Value.{value-cong}
 use Rattle.words.specs.Inner.Words.{wordsOf, bitAt}
 use Rattle.words.proofs.Words.{at-known, words-cong}
 use Rattle.words.proofs.Letters.{room, value-low, values-taken, count-small}
-use Rattle.order.specs.Order.{order, monomials}
+use Rattle.order.specs.Order.{monomials}
 use Rattle.order.specs.Inner.Listing.{tagged, Listed}
-use Rattle.order.proofs.Lists.{length-keep}
-use Rattle.order.proofs.Order.{length-order, monomials-same}
+use Rattle.order.proofs.Order.{monomials-same}
 use Rattle.order.proofs.Listing.{length-tagged}
+use Rattle.entry.proofs.Bound.{monomials-most}
 use Rattle.writer.specs.Inner.Steps.{answerPart, answerCodes}
 
 -- ---- words that are turned over
@@ -58,10 +58,6 @@ listed-both {old} {mid} {new} {vs} {ws} {from} {at} {r} v w =
     }
 
 -- ---- the answers
-monomials-most : (n : ℕ) (f : Polynomial) → length (monomials n f) ≤ 2 ^ n
-unfolding monomials
-monomials-most n f = omega (arith, length-keep f (order n), length-order n)
-
 codes-most : (j n : ℕ) (a : List ℕ) → length (answerCodes j n a) ≤ j * 2 ^ n
 unfolding answerCodes
 codes-most zero n a = omega arith
@@ -152,7 +148,7 @@ module _ (n : ℕ) (l : List ℕ) (h : n ≤ 6) where
 
 -- ---- a table, packed
 module _ (n : ℕ) (t ws : List ℕ) (is : IsTable n t) (e : ws ≡ wordsOf (2 ^ (n - 6)) (present t)) where
-  packed : (m : ℕ) → m < 2 ^ n → bitAt ws m ≡ present t m
+  pub packed : (m : ℕ) → m < 2 ^ n → bitAt ws m ≡ present t m
   packed m l = at-known (2 ^ (n - 6)) (present t) ws e m (omega (arith, room n))
 
   pub packed-values : (vs : List ℕ) → vs ≡ wordsOf (2 ^ (n - 6)) (value (6 + (n - 6)) (bitAt ws))

@@ -2,24 +2,36 @@
 -- bytes take.
 -- Assumes nothing.
 use mathlib.Core.Path.{_≡_, refl, sym, ap, _∙_}
-use mathlib.Core.Bool.{Bool, true, false}
+use mathlib.Core.Bool.{Bool, true, false, cond}
 use mathlib.Core.List.{List, [], _∷_, _++_, map, append-nil, append-assoc}
-use Prim.Native.Nat.{ℕ, _+_, _-_, _*_, _/_, _%_, _^_, _≤_, _<_}
+use mathlib.Core.Logic.{_⊎_, inl, inr}
+use Prim.Native.Nat.{ℕ, zero, suc, _+_, _-_, _*_, _/_, _%_, _^_, _≤_, _<_}
+use native.Mathlib.Numerals.{add-one}
 use native.Mathlib.Omega.{arith}
-use lib.ListN.{length, getD, take, length-append}
+use lib.Pow.{pow-mono}
+use lib.Dec.{eqb, ltb}
+use lib.ListN.{length, getD, take, drop, length-append, length-drop}
+use borrow.Author.Tests.{eq-eqb, ne-eqb, ltb-true, ltb-false}
 use lib.Seq.{take-at, length-take-le}
+use Rattle.ring.specs.Letters.{digit}
+use Rattle.ring.specs.Polynomial.{count}
+use Rattle.ring.specs.Table.{AreBits, present}
+use Rattle.ring.proofs.Bool.{bool-cases}
 use Rattle.tables.specs.Inner.Put.{Put}
-use Rattle.tables.proofs.Put.{put-length, put-both, put-same}
-use Rattle.order.specs.Order.{order as writtenOrder}
-use Rattle.order.proofs.Order.{length-order}
+use Rattle.tables.proofs.Put.{put-length, put-both, put-same, put-none}
+use Rattle.order.specs.Order.{order as writtenOrder, keep, monomials}
+use Rattle.order.proofs.Order.{length-order, order-below, length-monomials}
 use Rattle.solution.proofs.OrderAsked.{six-members}
-use Rattle.entry.specs.Record.{Record, fields, lowFirst, bodyOf, endRecord, bytes, isDefault}
+use Rattle.entry.specs.Record.{Record, fields, lowFirst, bodyOf, endRecord, factRecord, bytes, isDefault}
 use Rattle.entry.specs.Inner.Codes.{listedRecord}
 use Rattle.entry.proofs.Back.{bytes-append}
-use Rattle.entry.proofs.Codes.{condition-listed, answer-listed, each-bytes, Putting, putting-start, part-fits, putting-more, putting-end}
+use Rattle.entry.proofs.Bound.{monomials-most, fact-bytes}
+use Rattle.entry.proofs.Codes.{condition-listed, answer-listed, each, each-bytes, Putting, putting-start, part-fits, putting-more}
+use Rattle.entry.proofs.Codes.{putting-end, putting-all}
 use Rattle.writer.specs.declared.Listing.{Listing}
 use Rattle.writer.specs.declared.Listing.the-variants.{Solved, None}
-use Rattle.writer.specs.Inner.Steps.{countOf, toldOf, noneOf, sizeOf, archivedOrder, entryFrom}
+use Rattle.writer.specs.Inner.Steps.{countOf, toldOf, noneOf, sizeOf, archivedOrder, archivedFact, archivedHeads, factPart}
+use Rattle.writer.specs.Inner.Steps.{entryFrom}
 
 -- ---- one monomial
 module _ (code : ℕ) where
@@ -101,49 +113,198 @@ module _ (U : ℕ) (order : List ℕ) {default : Bool} (asked : default ≡ isDe
         → Put l₀ 0 (1 ∷ route ∷ U ∷ G ∷ bytes (archivedOrder U order)) r l₂
     start-kept e q = put-same (put-both p q) (ap (λ (l : List ℕ). 1 ∷ route ∷ U ∷ G ∷ l) (sym (order-kept e)))
 
+-- ---- how many monomials a table has
+pub counted-more : (fact : List ℕ) → AreBits fact → (m : ℕ) → count m (present fact) + getD fact m 0 ≡ count (m + 1) (present fact)
+unfolding count present
+counted-more fact bits m = rw (add-one m) (ap (λ (x : ℕ). count m (present fact) + x) (go (getD fact m 0) (bits m)))
+  where
+    go : (b : ℕ) → b < 2 → b ≡ digit (eqb b 1)
+    go zero h = refl
+    go (suc zero) h = refl
+    go (suc (suc b)) h = absurd (omega arith)
+
+pub counted-none : (fact : List ℕ) → 0 ≡ count 0 (present fact)
+unfolding count
+counted-none fact = refl
+
+pub counted-all : (fact : List ℕ) {counted m : ℕ} → (m ≤ length fact) × (counted ≡ count m (present fact)) → length fact ≤ m → (n : ℕ)
+    → length fact ≡ 2 ^ n → counted ≡ length (monomials n (present fact))
+counted-all fact {counted} {m} (l, e) h n size =
+    let whole : m ≡ 2 ^ n = omega arith in e ∙ ap (λ (k : ℕ). count k (present fact)) whole ∙ sym (length-monomials n (present fact))
+
+pub fact-small : (n : ℕ) (fact : List ℕ) {counted : ℕ} → n ≤ 10 → counted ≡ length (monomials n (present fact)) → counted ≤ 1024
+fact-small n fact h e = let few : 2 ^ n ≤ 1024 = pow-mono h in omega (arith, e, monomials-most n (present fact))
+
+-- ---- the records of a fact
+-- of one mask
+module _ (fact : List ℕ) (m : ℕ) where
+  pub present-is : getD fact m 0 ≡ 1 → present fact m ≡ true
+  unfolding present
+  present-is e = eq-eqb (getD fact m 0) 1 e
+
+  pub present-not : (getD fact m 0 ≡ 1 → ⊥) → present fact m ≡ false
+  unfolding present
+  present-not n = ne-eqb (getD fact m 0) 1 n
+
+  pub fact-room : (at size : ℕ) → getD fact m 0 ≡ 1 → at + length (factPart fact m) ≤ size → at + 3 ≤ size
+  unfolding factPart fields bodyOf lowFirst
+  fact-room at size h l = let s : length (factPart fact m) ≡ 3 = rw (present-is h) in omega arith
+
+  pub fact-put : {at r low high : ℕ} {old new : List ℕ} → getD fact m 0 ≡ 1 → m < 65536 → low ≡ m % 256 → high ≡ m / 256 % 256
+      → Put old at (7 ∷ low ∷ high ∷ []) r new → Put old at (factPart fact m) r new
+  unfolding factPart fields bodyOf lowFirst
+  fact-put h small el eh p = let top : m / 256 % 256 ≡ m / 256 = omega arith in put-same p (rw (present-is h, el, eh, top))
+
+  pub fact-none : (getD fact m 0 ≡ 1 → ⊥) → (old : List ℕ) (at : ℕ) → at + length (factPart fact m) ≤ length old
+      → Put old at (factPart fact m) at old
+  unfolding factPart
+  fact-none n old at l = put-same (put-none old at (omega arith)) (rw (present-not n))
+
+each-fact : (fact masks : List ℕ) → each (factPart fact) masks ≡ bytes (map factRecord (keep (present fact) masks))
+unfolding each factPart bytes keep
+each-fact fact [] = refl
+each-fact fact (m ∷ masks) = go (present fact m) (each-fact fact masks)
+  where
+    go : (b : Bool) → each (factPart fact) masks ≡ bytes (map factRecord (keep (present fact) masks))
+        → cond b (factRecord m) [] ++ each (factPart fact) masks
+        ≡ bytes (map factRecord (cond b (m ∷ keep (present fact) masks) (keep (present fact) masks)))
+    go true e = ap (λ (l : List ℕ). factRecord m ++ l) e
+    go false e = e
+
+whole-fact : (n : ℕ) (fact : List ℕ) → each (factPart fact) (writtenOrder n) ≡ bytes (archivedFact n fact)
+unfolding archivedFact monomials
+whole-fact n fact = each-fact fact (writtenOrder n)
+
+-- what the loop keeps: the records of the first p masks are put
+abbrev pub Facts : ℕ → List ℕ → List ℕ → ℕ → ℕ → ℕ → List ℕ → Type 0
+Facts n fact old from p at new = Putting (factPart fact) (writtenOrder n) old from p at new
+
+pub facts-start : (n : ℕ) (fact old : List ℕ) {from end : ℕ} → end ≡ from + length (bytes (archivedFact n fact)) → end ≤ length old
+    → Facts n fact old from 0 from old
+facts-start n fact old {from} {end} e l =
+    putting-start (factPart fact) (writtenOrder n) old from (rw (whole-fact n fact) (omega (arith, e)))
+
+module _ (n : ℕ) (fact masks old : List ℕ) (em : masks ≡ writtenOrder n) {from end p at : ℕ} {new : List ℕ}
+    (w : Facts n fact old from p at new) (ee : end ≡ from + length (bytes (archivedFact n fact))) where
+  -- while records are missing there are masks left
+  pub masks-left : at < end → p < length masks
+  masks-left l = go (bool-cases (ltb p (length masks)))
+    where
+      go : (ltb p (length masks) ≡ true) ⊎ (ltb p (length masks) ≡ false) → p < length masks
+      go (inl h) = ltb-true p (length masks) h
+      go (inr h) =
+          let few : length (writtenOrder n) ≤ p = rw em at (ltb-false p (length masks) h) in
+          absurd (omega (arith, putting-end w few .place, ap length (whole-fact n fact)))
+
+  pub few-masks : n ≤ 10 → at < end → p < 1024
+  few-masks h l =
+      let k : length masks ≡ 2 ^ n = ap length em ∙ length-order n in let few : 2 ^ n ≤ 1024 = pow-mono h in omega (arith, masks-left l)
+
+  module _ (l : at < end) {m : ℕ} (ex : m ≡ getD masks p 0) where
+    mask-is : m ≡ getD (writtenOrder n) p 0
+    mask-is = ex ∙ ap (λ (ms : List ℕ). getD ms p 0) em
+
+    left : p < length (writtenOrder n)
+    left = rw em at (masks-left l)
+
+    -- its byte is in the fact's table
+    pub mask-inside : length fact ≡ 2 ^ n → m < length fact
+    mask-inside size =
+        let small : getD (writtenOrder n) p 0 < 2 ^ n = order-below n p (omega (arith, left, length-order n)) in
+        omega (arith, mask-is)
+
+    pub part-fits-there : at + length (factPart fact m) ≤ length new
+    part-fits-there = part-fits w left mask-is
+
+    pub facts-more : {at′ : ℕ} {new′ : List ℕ} → Put new at (factPart fact m) at′ new′ → Facts n fact old from (p + 1) at′ new′
+    facts-more q = putting-more w left mask-is q
+
+  pub facts-end : end ≤ at → Put old from (bytes (archivedFact n fact)) at new
+  facts-end l = put-same (putting-all w (omega (arith, ap length (whole-fact n fact)))) (whole-fact n fact)
+
+-- ---- what stands between the start and the condition
+module _ (U G : ℕ) (order fact : List ℕ) where
+  heads-bytes : bytes (archivedHeads U G order fact) ≡ bytes (archivedOrder U order) ++ bytes (archivedFact (U + G) fact)
+  heads-bytes = bytes-append (archivedOrder U order) (archivedFact (U + G) fact)
+
+  heads-length : length (bytes (archivedHeads U G order fact))
+      ≡ length (bytes (archivedOrder U order)) + length (bytes (archivedFact (U + G) fact))
+  heads-length = ap length heads-bytes ∙ length-append (bytes (archivedOrder U order)) (bytes (archivedFact (U + G) fact))
+
+  -- three bytes for each monomial of the fact
+  pub fact-size : {counted : ℕ} → counted ≡ length (monomials (U + G) (present fact)) → 3 * counted ≡ length (bytes (archivedFact (U + G) fact))
+  unfolding archivedFact
+  fact-size e = omega (arith, e, fact-bytes (monomials (U + G) (present fact)))
+
+  pub heads-size : {o facts : ℕ} → o ≡ length (bytes (archivedOrder U order)) → facts ≡ length (bytes (archivedFact (U + G) fact))
+      → o + facts ≡ length (bytes (archivedHeads U G order fact))
+  heads-size eo ef = omega (arith, heads-length)
+
+  module _ (route : ℕ) (codes : List ℕ) where
+    pub start-fits : (room : ℕ) → 4 + (length (bytes (archivedHeads U G order fact)) + length codes) ≤ room
+        → 4 + length (bytes (archivedOrder U order)) ≤ room
+    start-fits room h = omega (arith, heads-length)
+
+    module _ {a : ℕ} {l₀ l₁ : List ℕ} (p : Put l₀ 0 (1 ∷ route ∷ U ∷ G ∷ bytes (archivedOrder U order)) a l₁)
+        (h : 4 + (length (bytes (archivedHeads U G order fact)) + length codes) ≤ length l₀) where
+      pub fact-fits : {size : ℕ} → size ≡ length (bytes (archivedFact (U + G) fact))
+          → (a + size ≡ a + length (bytes (archivedFact (U + G) fact))) × (a + size ≤ length l₁)
+      fact-fits e = (ap (λ (x : ℕ). a + x) e, omega (arith, heads-length, p .place, put-length p))
+
+      module _ {b : ℕ} {l₂ : List ℕ} (q : Put l₁ a (bytes (archivedFact (U + G) fact)) b l₂) where
+        pub codes-fit : b + length codes ≤ length l₂
+        codes-fit = omega (arith, heads-length, p .place, q .place, put-length p, put-length q)
+
+        pub front-put : {r : ℕ} {l₃ : List ℕ} → Put l₂ b codes r l₃
+            → Put l₀ 0 (1 ∷ route ∷ U ∷ G ∷ (bytes (archivedHeads U G order fact) ++ codes)) r l₃
+        front-put c =
+            put-same (put-both p (put-both q c)) (ap (λ (l : List ℕ). 1 ∷ route ∷ U ∷ G ∷ l)
+            (sym (append-assoc (bytes (archivedOrder U order)) (bytes (archivedFact (U + G) fact)) codes)
+            ∙ ap (λ (l : List ℕ). l ++ codes) (sym heads-bytes)))
+
 -- ---- the whole
-module _ (route U G : ℕ) (orders : List Record) (found : Listing) (codes : List ℕ) where
-  -- the start, the order and the first k monomials
+module _ (route U G : ℕ) (heads : List Record) (found : Listing) (codes : List ℕ) where
+  -- the start, what stands behind it and the first k monomials
   abbrev pub front : ℕ → List ℕ
-  front k = 1 ∷ route ∷ U ∷ G ∷ (bytes orders ++ bytes (map listedRecord (take k codes)))
+  front k = 1 ∷ route ∷ U ∷ G ∷ (bytes heads ++ bytes (map listedRecord (take k codes)))
 
   -- their number
   abbrev size : ℕ → ℕ
-  size k = length (bytes orders) + length (bytes (map listedRecord (take k codes)))
+  size k = length (bytes heads) + length (bytes (map listedRecord (take k codes)))
 
-  pub entry-parts : bytes (entryFrom route U G orders found codes) ≡ front (countOf found) ++ (bytes (noneOf found) ++ (4 ∷ route ∷ []))
+  pub entry-parts : bytes (entryFrom route U G heads found codes) ≡ front (countOf found) ++ (bytes (noneOf found) ++ (4 ∷ route ∷ []))
   unfolding entryFrom bytes fields bodyOf lowFirst
   entry-parts =
       let told = map listedRecord (take (countOf found) codes) in
       ap (λ (l : List ℕ). (1 ∷ route ∷ U ∷ G ∷ []) ++ l)
-      (bytes-append orders (told ++ (noneOf found ++ (endRecord route ∷ [])))
-      ∙ ap (λ (l : List ℕ). bytes orders ++ l)
+      (bytes-append heads (told ++ (noneOf found ++ (endRecord route ∷ [])))
+      ∙ ap (λ (l : List ℕ). bytes heads ++ l)
       (bytes-append told (noneOf found ++ (endRecord route ∷ []))
       ∙ ap (λ (l : List ℕ). bytes told ++ l) (bytes-append (noneOf found) (endRecord route ∷ [])))
-      ∙ sym (append-assoc (bytes orders) (bytes told) (bytes (noneOf found) ++ (4 ∷ route ∷ []))))
+      ∙ sym (append-assoc (bytes heads) (bytes told) (bytes (noneOf found) ++ (4 ∷ route ∷ []))))
 
-  parts-length : length (bytes (entryFrom route U G orders found codes)) ≡ 6 + (size (countOf found) + length (bytes (noneOf found)))
+  parts-length : length (bytes (entryFrom route U G heads found codes)) ≡ 6 + (size (countOf found) + length (bytes (noneOf found)))
   parts-length =
       let monomials : List ℕ = bytes (map listedRecord (take (countOf found) codes)) in
       omega (
         arith,
         ap length entry-parts,
-        length-append (bytes orders) monomials,
-        length-append (bytes orders ++ monomials) (bytes (noneOf found) ++ (4 ∷ route ∷ [])),
+        length-append (bytes heads) monomials,
+        length-append (bytes heads ++ monomials) (bytes (noneOf found) ++ (4 ∷ route ∷ [])),
         length-append (bytes (noneOf found)) (4 ∷ route ∷ []),
       )
 
   front-length : (k : ℕ) → length (front k) ≡ 4 + size k
-  front-length k = omega (arith, length-append (bytes orders) (bytes (map listedRecord (take k codes))))
+  front-length k = omega (arith, length-append (bytes heads) (bytes (map listedRecord (take k codes))))
 
   module _ {told all : ℕ} (e : found ≡ Solved told all) where
     pub solved-put : {a r : ℕ} {l₀ l₁ l₂ : List ℕ} → Put l₀ 0 (front all) a l₁ → Put l₁ a (4 ∷ route ∷ []) r l₂
-        → Put l₀ 0 (bytes (entryFrom route U G orders found codes)) r l₂
+        → Put l₀ 0 (bytes (entryFrom route U G heads found codes)) r l₂
     unfolding bytes
     solved-put p q = put-same (put-both p q) (sym (entry-parts ∙ rw e))
 
     -- the room that the parts ask for
-    module _ {room : ℕ} (h : length (bytes (entryFrom route U G orders found codes)) ≤ room) where
+    module _ {room : ℕ} (h : length (bytes (entryFrom route U G heads found codes)) ≤ room) where
       solved-room : 6 + size all ≤ room
       unfolding bytes
       solved-room = let p : 6 + (size all + 0) ≤ room = rw (parts-length, e) at h in omega arith
@@ -151,17 +312,17 @@ module _ (route U G : ℕ) (orders : List Record) (found : Listing) (codes : Lis
       pub solved-front : 4 + size all ≤ room
       solved-front = omega (arith, solved-room)
 
-    pub solved-end : {a : ℕ} {l₀ l₁ : List ℕ} → length (bytes (entryFrom route U G orders found codes)) ≤ length l₀
+    pub solved-end : {a : ℕ} {l₀ l₁ : List ℕ} → length (bytes (entryFrom route U G heads found codes)) ≤ length l₀
         → Put l₀ 0 (front all) a l₁ → a + 2 ≤ length l₁
     solved-end h p = omega (arith, solved-room h, p .place, front-length all, put-length p)
 
   module _ {told s : ℕ} (e : found ≡ None told s) where
     pub none-put : {a b r : ℕ} {l₀ l₁ l₂ l₃ : List ℕ} → Put l₀ 0 (front told) a l₁
-        → Put l₁ a (5 ∷ s ∷ []) b l₂ → Put l₂ b (4 ∷ route ∷ []) r l₃ → Put l₀ 0 (bytes (entryFrom route U G orders found codes)) r l₃
+        → Put l₁ a (5 ∷ s ∷ []) b l₂ → Put l₂ b (4 ∷ route ∷ []) r l₃ → Put l₀ 0 (bytes (entryFrom route U G heads found codes)) r l₃
     unfolding bytes fields bodyOf lowFirst
     none-put p s q = put-same (put-both p (put-both s q)) (sym (entry-parts ∙ rw e))
 
-    module _ {room : ℕ} (h : length (bytes (entryFrom route U G orders found codes)) ≤ room) where
+    module _ {room : ℕ} (h : length (bytes (entryFrom route U G heads found codes)) ≤ room) where
       none-room : 6 + (size told + 2) ≤ room
       unfolding bytes fields bodyOf lowFirst
       none-room = rw (parts-length, e) at h
@@ -169,11 +330,11 @@ module _ (route U G : ℕ) (orders : List Record) (found : Listing) (codes : Lis
       pub none-front : 4 + size told ≤ room
       none-front = omega (arith, none-room)
 
-    pub none-behind : {a : ℕ} {l₀ l₁ : List ℕ} → length (bytes (entryFrom route U G orders found codes)) ≤ length l₀
+    pub none-behind : {a : ℕ} {l₀ l₁ : List ℕ} → length (bytes (entryFrom route U G heads found codes)) ≤ length l₀
         → Put l₀ 0 (front told) a l₁ → a + 2 ≤ length l₁
     none-behind h p = omega (arith, none-room h, p .place, front-length told, put-length p)
 
-    pub none-end : {a b : ℕ} {l₀ l₁ l₂ : List ℕ} → length (bytes (entryFrom route U G orders found codes)) ≤ length l₀
+    pub none-end : {a b : ℕ} {l₀ l₁ l₂ : List ℕ} → length (bytes (entryFrom route U G heads found codes)) ≤ length l₀
         → Put l₀ 0 (front told) a l₁ → Put l₁ a (5 ∷ s ∷ []) b l₂ → b + 2 ≤ length l₂
     none-end h p q = omega (arith, none-room h, p .place, front-length told, put-length p, q .place, put-length q)
 
@@ -187,14 +348,20 @@ pub none-part : {found : Listing} {told s : ℕ} (codes : List ℕ) → found �
 none-part {told = told} codes e h = sym (length-take-le told codes (rw e at h))
 
 -- ---- its length
-module _ {found : Listing} (h : toldOf found ≤ countOf found) (m : sizeOf found ≤ 27661) where
+module _ {found : Listing} (h : toldOf found ≤ countOf found) (m : sizeOf found ≤ 27709) where
   pub solved-size : {told all : ℕ} → found ≡ Solved told all
-      → (told ≤ all) × (3 * told + 4 * (all - told) ≤ 27661) × (3 * told + 4 * (all - told) ≡ sizeOf found)
+      → (told ≤ all) × (3 * told + 4 * (all - told) ≤ 27709) × (3 * told + 4 * (all - told) ≡ sizeOf found)
   solved-size e = (rw e at h, rw e at m, sym (ap sizeOf e))
 
-  pub none-size : {told s : ℕ} → found ≡ None told s → (3 * told + 2 ≤ 27661) × (3 * told + 2 ≡ sizeOf found)
+  pub none-size : {told s : ℕ} → found ≡ None told s → (3 * told + 2 ≤ 27709) × (3 * told + 2 ≡ sizeOf found)
   none-size e = (rw e at m, sym (ap sizeOf e))
 
 -- the masks for n letters stand at the front of the buffer that they were filled into
 pub ordered : (n : ℕ) {k : ℕ} {last : List ℕ} (rest : List ℕ) → k ≡ 2 ^ n → last ≡ writtenOrder n ++ rest → take k last ≡ writtenOrder n
 ordered n {k} {last} rest ek e = ap (take k) e ∙ take-at (writtenOrder n) rest k (length-order n ∙ sym ek)
+
+pub order-length : (n : ℕ) (old : List ℕ) {last : List ℕ} → last ≡ writtenOrder n ++ drop (2 ^ n) old → 2 ^ n ≤ length old
+    → length last ≡ length old
+order-length n old e h =
+    ap length e ∙ length-append (writtenOrder n) (drop (2 ^ n) old)
+    ∙ (let d : length (drop (2 ^ n) old) ≡ length old - 2 ^ n = length-drop (2 ^ n) old in omega (arith, length-order n))

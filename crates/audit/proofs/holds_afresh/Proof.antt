@@ -6,16 +6,16 @@ use borrow.Author.Needs.{needs}
 use lib.Seq.{length-take-le}
 use Rattle.tables.proofs.Questions.{pow-small}
 use Rattle.words.proofs.Letters.{count-small}
-use Rattle.reader.proofs.Buffers.{heading-small, heading-unknowns, size-small}
+use Rattle.reader.proofs.Buffers.{heading-fits, size-small}
 use Rattle.audit.proofs.Same.{every-small}
 use Rattle.audit.proofs.holds_afresh.Statement.{statement}
 use Rattle.audit.proofs.holds_afresh.Tie as tie
 
 small : (c : tie.After-struct-known) → c .before .before .args .heading .unknowns + c .before .before .args .heading .givens ≤ 10
-small c = heading-small _ (c .before .before .pre .passed) (c .before .before .pre .headed)
+small c = heading-fits _ (c .before .before .pre .passed) (c .before .before .pre .headed) .letters
 
 few : (c : tie.After-word-count) → c .before .before .before .before .args .heading .unknowns ≤ 6
-few c = heading-unknowns _ (c .before .before .before .before .pre .passed) (c .before .before .before .before .pre .headed)
+few c = heading-fits _ (c .before .before .before .before .pre .passed) (c .before .before .before .before .pre .headed) .unknowns
 
 fits : (c : tie.After-word-count) → c .before .pow2 .result ≤ 1024
 fits c = pow-small _ _ (c .before .pow2 .ensures) (small (c .before .before))

@@ -14,6 +14,6 @@ same-answers-spec =
     (λ c κs. c .before .before .before .before .before .before .pre)
     (λ c. search needs)
     (λ c. search needs)
-    (λ c o t e. against-solved _ _ o t _ _ e (c .before .before .before .before .enum-told .given .1)
+    (λ c o f t e. against-solved _ _ o f t _ _ e (c .before .before .before .before .enum-told .given .1)
     (c .before .before .same-values .ensures))
-    (λ c o t e. against-none _ _ o t _ _ e (c .enum-told2 .given .1)))
+    (λ c o f t e. against-none _ _ o f t _ _ e (c .enum-told2 .given .1)))

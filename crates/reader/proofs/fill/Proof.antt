@@ -6,15 +6,16 @@ use mathlib.Core.Path.{refl, sym, _∙_}
 use Prim.Native.Nat.{_+_, _-_, _^_, _≤_}
 use lib.ListN.{length}
 use Rattle.entry.proofs.Records.{fits-at}
-use Rattle.reader.specs.Inner.Filling.{putMonomial, Filling}
-use Rattle.reader.proofs.Filling.{put-long, fill-start, fill-then, fill-none, fill-broken, fill-lending, fill-end, fill-next}
+use Rattle.records.specs.Inner.Filling.{putMonomial, Filling}
+use Rattle.records.proofs.Filling.{put-long, fill-start, fill-then, fill-none, fill-broken, fill-end, fill-next}
+use Rattle.reader.proofs.Filling.{fill-lending}
 use Rattle.reader.proofs.fill.Statement.{statement}
 use Rattle.reader.proofs.fill.Tie as tie
 
 abbrev Inv-loop : tie.InvT-loop
 Inv-loop s u g condition₀ answers₀ k at₀ condition answers at =
-    Filling (putMonomial 0 (2 ^ (u + g))) s u g condition₀ 0 condition at
-    × Filling (putMonomial 1 (2 ^ (u + g))) s u g answers₀ 0 answers at
+    Filling (putMonomial 1 (2 ^ (u + g))) s u g condition₀ 0 condition at
+    × Filling (putMonomial 2 (2 ^ (u + g))) s u g answers₀ 0 answers at
 
 abbrev μ-loop : tie.MeasureT-loop
 μ-loop s u g condition₀ answers₀ k at₀ condition answers at = length s - at

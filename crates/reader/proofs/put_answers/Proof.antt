@@ -8,16 +8,16 @@ use native.Mathlib.Omega.{arith}
 use borrow.Author.Needs.{needs}
 use lib.ListN.{length}
 use Rattle.records.proofs.Runs.{size-answer, stands-inside}
-use Rattle.reader.specs.Inner.Filling.{putMonomial, Filling}
-use Rattle.reader.proofs.Filling.{fill-start}
+use Rattle.records.specs.Inner.Filling.{putMonomial, Filling}
+use Rattle.records.proofs.Filling.{fill-start}
 use Rattle.reader.proofs.Runs.{answer-small, answer-next, answer-left}
 use Rattle.reader.proofs.put_answers.Statement.{statement}
 use Rattle.reader.proofs.put_answers.Tie as tie
 
 abbrev Inv-loop : tie.InvT-loop
 Inv-loop s from u g k answers₀ at₀ answers at =
-    Filling (putMonomial 1 (2 ^ (u + g))) s u g answers₀ from answers at
-    × ((t : List ℕ) → length t ≡ k → Filling (putMonomial 0 (2 ^ (u + g))) s u g t from t at)
+    Filling (putMonomial 2 (2 ^ (u + g))) s u g answers₀ from answers at
+    × ((t : List ℕ) → length t ≡ k → Filling (putMonomial 1 (2 ^ (u + g))) s u g t from t at)
 
 abbrev μ-loop : tie.MeasureT-loop
 μ-loop s from u g k answers₀ at₀ answers at = length s - at

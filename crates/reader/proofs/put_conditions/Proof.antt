@@ -7,16 +7,16 @@ use native.Mathlib.Omega.{arith}
 use borrow.Author.Needs.{needs}
 use lib.ListN.{length}
 use Rattle.records.proofs.Runs.{size-condition, stands-inside}
-use Rattle.reader.specs.Inner.Filling.{putMonomial, Filling}
-use Rattle.reader.proofs.Filling.{fill-start}
+use Rattle.records.specs.Inner.Filling.{putMonomial, Filling}
+use Rattle.records.proofs.Filling.{fill-start}
 use Rattle.reader.proofs.Runs.{condition-next, condition-left}
 use Rattle.reader.proofs.put_conditions.Statement.{statement}
 use Rattle.reader.proofs.put_conditions.Tie as tie
 
 abbrev Inv-loop : tie.InvT-loop
 Inv-loop s from u g condition₀ at₀ condition at =
-    Filling (putMonomial 0 (2 ^ (u + g))) s u g condition₀ from condition at
-    × ((t : List ℕ) → Filling (putMonomial 1 (2 ^ (u + g))) s u g t from t at)
+    Filling (putMonomial 1 (2 ^ (u + g))) s u g condition₀ from condition at
+    × ((t : List ℕ) → Filling (putMonomial 2 (2 ^ (u + g))) s u g t from t at)
 
 abbrev μ-loop : tie.MeasureT-loop
 μ-loop s from u g condition₀ at₀ condition at = length s - at

@@ -46,4 +46,4 @@ put-monomial-spec =
     (λ c. (search put-condition, search condition-apart))
     (λ c. search needs)
     (λ c. (search answer-apart, search put-answer))
-    (λ c. (search put-other, search put-other)))
+    (λ c. let n = c .match .rest in (put-other _ _ _ 1 (omega arith) (n .0 .1) (n .1), put-other _ _ _ 2 (omega arith) (n .0 .1) (n .1))))

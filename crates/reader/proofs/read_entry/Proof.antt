@@ -9,9 +9,9 @@ use Rattle.reader.proofs.read_entry.Tie as tie
 
 read-into-requires : tie.Need-read-into-requires
 read-into-requires c κs =
-    let e = c .before .before .before .before .before .before .before .survey-entry .ensures in (
+    let e = c .before .before .before .before .before .before .before .before .survey-entry .ensures in (
       sym (ap (λ (x : Survey). x .refusal) e)
-          ∙ c .before .before .before .before .before .if1 .left,
+          ∙ c .before .before .before .before .before .before .if1 .left,
       ap (λ (x : Survey). x .heading) e,
       ap (λ (x : Survey). x .verdict) e,
       ap (λ (x : Survey). x .order) e,
@@ -22,8 +22,9 @@ read-entry-spec =
     tie.close
     (tie.spec
     (λ c κs. search needs)
-    (λ c. read-refused _ _ _ _ (ap (λ (x : Survey). x .refusal) (c .before .before .survey-entry .ensures)) (c .if1 .taken))
+    (λ c. read-refused _ _ _ _ _ (ap (λ (x : Survey). x .refusal) (c .before .before .survey-entry .ensures)) (c .if1 .taken))
     read-into-requires
     (λ c. search needs)
     (λ c. search needs)
-    (λ c. c .before .before .before .before .read-into .ensures))
+    (λ c. search needs)
+    (λ c. c .before .before .before .before .before .before .read-into .ensures))

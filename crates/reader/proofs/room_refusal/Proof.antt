@@ -1,4 +1,4 @@
--- The two buffers one after the other.
+-- The three buffers one after another.
 -- Assumes nothing.
 use borrow.Author.Needs.{needs}
 use Rattle.reader.proofs.Buffers.{room-asked}
@@ -9,6 +9,8 @@ pub room-refusal-spec : {M : Type 1} → statement M
 room-refusal-spec =
     tie.close
     (tie.spec
+    (λ c κs. search needs)
+    (λ c κs. search needs)
     (λ c κs. search needs)
     (λ c κs. search needs)
     (λ c κs. search needs)

@@ -1,7 +1,6 @@
 -- The questions one after another.
 -- Assumes nothing.
 use borrow.Author.Needs.{needs}
-use mathlib.Core.Path.{_∙_, sym}
 use Rattle.records.proofs.OneRecord.{chain}
 use Rattle.records.proofs.refusal_of.Statement.{statement}
 use Rattle.records.proofs.refusal_of.Tie as tie

@@ -2,8 +2,8 @@
 -- Assumes nothing.
 use native.Mathlib.Omega.{arith}
 use borrow.Author.Needs.{needs}
-use Rattle.records.proofs.OneRecord.{long-2, long-3, long-4, long-5, long-6, see-condition, see-answer, see-end, see-none, see-order}
-use Rattle.records.proofs.OneRecord.{see-other}
+use Rattle.records.proofs.OneRecord.{long-2, long-3, long-4, long-5, long-6, long-7, see-condition, see-answer, see-end, see-none, see-order}
+use Rattle.records.proofs.OneRecord.{see-fact, see-other}
 use Rattle.records.proofs.OneRecord.{mask-below, answer-below}
 use Rattle.records.proofs.see.Statement.{statement}
 use Rattle.records.proofs.see.Tie as tie
@@ -47,6 +47,10 @@ see-spec =
     (λ c κs. long-6 _ (c .before .before .before .before .pre .1) (c .before .match .keys5))
     (λ c κs. search needs)
     (λ c κs. search needs)
+    (λ c. omega (arith, long-7 _ (c .before .before .before .before .pre .1) (c .before .match .keys6)))
+    (λ c. omega (arith, long-7 _ (c .before .before .before .before .before .pre .1) (c .before .before .match .keys6)))
+    (λ c κs. search needs)
+    (λ c κs. (omega arith, λ e. search mask-below, search needs))
     (λ c κs. search needs)
     (λ c κs. search needs)
     (λ c. search see-condition)
@@ -54,4 +58,5 @@ see-spec =
     (λ c. search see-end)
     (λ c. search see-none)
     (λ c. search see-order)
+    (λ c. search see-fact)
     (λ c. search see-other))

@@ -3,7 +3,7 @@
 use native.Mathlib.Omega.{arith}
 use borrow.Author.Needs.{needs}
 use Prim.Native.Nat.{_+_, _≤_}
-use Rattle.records.proofs.Answers.{few-letters, survey-bounds, survey-is}
+use Rattle.records.proofs.Answers.{few-letters, survey-bounds, asked-before-facts, survey-is}
 use Rattle.records.proofs.survey_entry.Statement.{statement}
 use Rattle.records.proofs.survey_entry.Tie as tie
 
@@ -25,5 +25,9 @@ survey-entry-spec =
     (λ c κs. search needs)
     (λ c κs. search needs)
     (λ c κs. search needs)
+    (λ c κs. let told = c .before .before .before .before .before .before in
+    asked-before-facts _ (told .before .before .before .start-of .ensures) (told .before .before .letters-fit .ensures)
+    (told .before .fitting .ensures) (told .fitting2 .ensures) (c .before .before .before .gather .ensures)
+    (c .before .before .order-of .ensures) (c .before .order-fits .ensures) (c .refusal-of .ensures))
     (λ c κs. search needs)
     (λ c. search survey-is))

@@ -1,10 +1,11 @@
 -- The coefficients, the list, and its lines. Assumes nothing.
 use mathlib.Core.Path.{refl}
+use mathlib.Core.List.{[]}
 use Prim.Native.Nat.{_+_}
 use native.Mathlib.Omega.{arith}
 use borrow.Author.Needs.{needs}
-use Rattle.tables.proofs.Questions.{letters-small, unknowns-small, tables-fit}
-use Rattle.sheet_lines.proofs.Entries.{givens-small, route-small, values-size, listable, default-asked, default-lists}
+use Rattle.tables.proofs.Questions.{letters-small, unknowns-small, givens-small, tables-fit}
+use Rattle.sheet_lines.proofs.Entries.{route-small, values-size, without-facts, listable, default-asked, default-lists}
 use Rattle.sheet_lines.proofs.Entries.{archived-room, archived-put, same-table}
 use Rattle.sheet_lines.proofs.put_values.Statement.{statement}
 use Rattle.sheet_lines.proofs.put_values.Tie as tie
@@ -31,13 +32,15 @@ put-found-requires : tie.Need-put-found-requires
 put-found-requires c κs =
     let after-list-entry = c .before .before .before .before .before .before in
     let after-default-order = after-list-entry .before .before .before .before in
-    let start = after-default-order .before .before .before .before .before .before .before .before .before .before .before in
+    let after-transform = after-default-order .before .before .before in
+    let start = after-transform .before .before .before .before .before .before .before .before in
     let few = unknowns-small _ _ (start .pre .0) in
-    let lists = default-lists _ _ _ (after-default-order .default-order .ensures) few (after-list-entry .list-entry .ensures) in (
+    let plain = after-list-entry .list-entry .ensures _ (without-facts _ _ [] (after-transform .transform .ensures) (start .pre .2)) in
+    let lists = default-lists _ _ _ (after-default-order .default-order .ensures) few plain in (
       route-small _ (start .pre .1),
       omega arith,
       omega (arith, givens-small _ _ (start .pre .0)),
-      after-list-entry .list-entry .ensures .count,
+      plain .count,
       archived-room _ _ _ _ lists _ _ (start .pre .0) (start .pre .6),
     )
 
@@ -60,7 +63,8 @@ returns c =
     let after-transform = after-default-order .before .before .before in
     let start = after-transform .before .before .before .before .before .before .before .before in
     let few = unknowns-small _ _ (start .pre .0) in
-    let lists = default-lists _ _ _ (after-default-order .default-order .ensures) few (after-list-entry .list-entry .ensures) in
+    let plain = after-list-entry .list-entry .ensures _ (without-facts _ _ [] (after-transform .transform .ensures) (start .pre .2)) in
+    let lists = default-lists _ _ _ (after-default-order .default-order .ensures) few plain in
     archived-put _ _ _ _ lists
     (same-table (start .args .u + start .args .g) (start .args .values .now) (after-transform .transform .ensures))
     ((c .before .before .put-found) .ensures)

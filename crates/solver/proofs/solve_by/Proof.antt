@@ -12,15 +12,15 @@ use Rattle.solver.proofs.solve_by.Tie as tie
 
 -- one polynomial, and one for each unknown
 one : (c : tie.After-word-count) → c .word-count .result ≤ 16
-one c = count-small _ _ (c .word-count .ensures) (c .before .before .before .pre .1)
+one c = count-small _ _ (c .word-count .ensures) (c .before .before .before .before .pre .1)
 
-each : (c : tie.After-word-count) → c .before .before .before .args .u * c .word-count .result ≤ 96
-each c = words-fit _ _ (c .before .before .before .pre .0) (one c)
+each : (c : tie.After-word-count) → c .before .before .before .before .args .u * c .word-count .result ≤ 96
+each c = words-fit _ _ (c .before .before .before .before .pre .0) (one c)
 
 solve-with-requires : tie.Need-solve-with-requires
 solve-with-requires c κs =
     let counted = c .before .before .before .before in
-    let start = counted .before .before .before in
+    let start = counted .before .before .before .before in
     let length-one = length-take-le _ _ (one counted) ∙ counted .word-count .ensures in
     let length-each = length-take-le _ _ (each counted) ∙ ap (λ (k : ℕ). start .args .u * k) (counted .word-count .ensures) in
     (start .pre, (length-one, length-one, length-each))

@@ -19,7 +19,7 @@ solve-words-requires c κs =
     (search needs, search needs, each, search needs, search needs)
 
 returns : tie.Need-returns
-returns c t e =
+returns c fact t e =
     let solved = c .before .before .before .before .before .before in
     let widened = solved .before .before .before .before in
     let start = widened .before .before .before in
@@ -27,7 +27,7 @@ returns c t e =
     (c .before .pow2 .ensures) (c .if1 .taken)
 
 returns-2 : tie.Need-returns-2
-returns-2 c t e =
+returns-2 c fact t e =
     let solved = c .before .before .before .before .before .before in
     let widened = solved .before .before .before .before in
     let start = widened .before .before .before in

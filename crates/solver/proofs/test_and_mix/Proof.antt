@@ -11,7 +11,7 @@ use Rattle.solver.proofs.test_and_mix.Tie as tie
 
 -- one polynomial, and one for each of the six lowest letters
 one : (c : tie.After-word-count) → c .word-count .result ≤ 16
-one c = count-small _ _ (c .word-count .ensures) (c .before .before .before .before .pre .1)
+one c = count-small _ _ (c .word-count .ensures) (c .before .before .before .before .before .pre .1)
 
 six : (c : tie.After-word-count) → 6 * c .word-count .result ≤ 96
 six c = omega (arith, one c)
@@ -19,7 +19,7 @@ six c = omega (arith, one c)
 test-and-mix-with-requires : tie.Need-test-and-mix-with-requires
 test-and-mix-with-requires c κs =
     let counted = c .before .before .before .before in
-    let start = counted .before .before .before .before in
+    let start = counted .before .before .before .before .before in
     let length-one = length-take-le _ _ (one counted) ∙ counted .word-count .ensures in
     let length-six = length-take-le _ _ (six counted) ∙ ap (λ (k : ℕ). 6 * k) (counted .word-count .ensures) in
     (start .pre, (length-one, length-one, length-six))

@@ -1,11 +1,11 @@
 -- The three methods that ask question 9, and what solving by one of them does; the same on words of truth values.
 -- Assumes nothing.
 use mathlib.Core.Bool.{cond}
-use mathlib.Core.List.{List, [], _∷_}
-use Prim.Native.Nat.{ℕ, _+_, _-_, _*_, _^_}
+use mathlib.Core.List.{List, [], _∷_, _++_}
+use Prim.Native.Nat.{ℕ, _-_, _^_}
 use Rattle.ring.specs.Polynomial.{value}
 use Rattle.tables.specs.declared.Question.the-variants.{Letters, Order}
-use Rattle.tables.specs.Questions.{Asked, asks, lettersFit, reads, writes, bufferQuestions}
+use Rattle.tables.specs.Questions.{Asked, asks, lettersFit, bufferQuestions}
 use Rattle.tables.specs.Answered.{Reply, Answered, call, _into_}
 use Rattle.words.specs.Inner.Words.{wordsOf, answerWords}
 use Rattle.solution.specs.Condition.{Condition, width, polynomial}
@@ -14,16 +14,14 @@ use Rattle.solution.specs.Elimination.{booleAnswers, booleTable, particularTabl
 use Rattle.solution.specs.Elimination.{solved, none, Verdict as Said}
 use Rattle.calls.specs.declared.Verdict.{Verdict}
 use Rattle.calls.specs.declared.Verdict.the-variants.{Solved, None}
-use Rattle.calls.specs.Questions.{asksSolution}
+use Rattle.calls.specs.Questions.{factQuestions, asksSolution, solvingBuffers}
 use Rattle.solver.specs.declared.Method.{Method}
 use Rattle.solver.specs.declared.Method.the-variants.{Boole, Particular, Lowenheim}
 
 -- questions 1, 17, 4 and 8 of a call that solves
-unfoldable pub tableQuestions : ℕ → ℕ → List ℕ → List ℕ → ℕ → List Asked
-tableQuestions U G order condition room =
-    asks Letters (lettersFit U G)
-    ∷ asks Order (orderFits U order)
-    ∷ bufferQuestions (reads (2 ^ (U + G)) condition ∷ writes (U * 2 ^ (U + G)) room ∷ [])
+unfoldable pub tableQuestions : ℕ → ℕ → List ℕ → List ℕ → List ℕ → ℕ → List Asked
+tableQuestions U G order fact condition room =
+    asks Letters (lettersFit U G) ∷ asks Order (orderFits U order) ∷ bufferQuestions (solvingBuffers U G fact condition room)
 
 -- the answer table of each method
 abbrev pub tableBy : Method → Condition → List ℕ
@@ -31,9 +29,10 @@ tableBy Boole = booleTable
 tableBy Particular = particularTable
 tableBy Lowenheim = lowenheimTable
 
--- question 9 and, if it is answered yes, the answer table of a method in the lent buffer
+-- questions 22, 23 and 9 and, if all are answered yes, the answer table of a method in the lent buffer
 unfoldable pub solveBy : Method → Condition → List ℕ → Answered Reply
-solveBy method c lent = call (asksSolution c ∷ []) [] (tableBy method c into lent ∷ [])
+solveBy method c lent =
+    call (factQuestions (c .U) (c .G) (c .fact) ++ (asksSolution c ∷ [])) [] (tableBy method c into lent ∷ [])
 
 -- ---- on words: 2 ^ (n - 6) of them to a polynomial in n letters
 -- the values of the condition

@@ -10,7 +10,7 @@ use Rattle.writer.proofs.condition_refusal.Statement.{statement}
 use Rattle.writer.proofs.condition_refusal.Tie as tie
 
 -- question 1 is passed
-letters : (c : tie.Else1) → lettersFit (c .before .before .before .args .u) (c .before .before .before .args .g) ≡ true
+letters : (c : tie.Else1) → lettersFit (c .before .before .before .before .args .u) (c .before .before .before .before .args .g) ≡ true
 letters c = passed (c .before .letters-fit .ensures) (c .if1 .left)
 
 pub condition-refusal-spec : {M : Type 1} → statement M
@@ -22,6 +22,10 @@ condition-refusal-spec =
     (λ c. search letters-refused)
     (λ c. omega (arith, letters-small _ _ (letters c)))
     (λ c κs. letters-small _ _ (letters c))
+    (λ c κs. search needs)
+    (λ c κs. search needs)
+    (λ c κs. search needs)
+    (λ c κs. search needs)
     (λ c κs. search needs)
     (λ c κs. search needs)
     (λ c κs. search needs)

@@ -1,37 +1,30 @@
 -- The first masks of the buffer are those of the written order. Assumes nothing.
 use mathlib.Core.Path.{refl, sym}
-use Prim.Native.Nat.{_+_}
 use borrow.Author.Needs.{needs}
 use lib.Seq.{length-take-le}
 use Rattle.words.proofs.Letters.{count-small}
 use Rattle.writer.proofs.Monomials.{words-part, words-size}
-use Rattle.writer.proofs.Parts.{ordered}
+use Rattle.writer.proofs.Parts.{ordered, order-length}
 use Rattle.writer.proofs.list_condition.Statement.{statement}
 use Rattle.writer.proofs.list_condition.Tie as tie
 
-coefficients-part : tie.Need-slice-aggregate-list-table
-coefficients-part c =
-    let counted = c .before .before .before .before .before .before in
-    words-part _ _ _ (counted .word-count .ensures) (counted .before .before .before .before .pre .0 .letters) refl
+slice-aggregate-list-table : tie.Need-slice-aggregate-list-table
+slice-aggregate-list-table c = words-part _ _ _ ((c .before .before .before .before .before .before .word-count) .ensures) ((c .before .before .before .before .before .before .before .before .before .before .before .pre) .0 .2) refl
 
-values-part : tie.Need-slice-aggregate-list-table-2
-values-part c =
-    let counted = c .before .before .before .before .before .before .before in
-    words-part _ _ _ (counted .word-count .ensures) (counted .before .before .before .before .pre .0 .letters) refl
+slice-aggregate-list-table-2 : tie.Need-slice-aggregate-list-table-2
+slice-aggregate-list-table-2 c = words-part _ _ _ ((c .before .before .before .before .before .before .before .word-count) .ensures) ((c .before .before .before .before .before .before .before .before .before .before .before .before .pre) .0 .2) refl
 
 list-table-requires : tie.Need-list-table-requires
 list-table-requires c κs =
-    let filled = c .before .before .before .before .before .before in
-    let powered = filled .before .before in
-    let counted = powered .before in
-    let start = counted .before .before .before .before in
-    let size = words-size _ _ _ (counted .word-count .ensures) (start .pre .0 .letters) in (
-      search needs,
-      size refl,
-      size refl,
-      ordered (start .args .u + start .args .g) _ (powered .pow2 .ensures) (filled .fill-order .ensures),
-      search needs,
-    )
+    let pre = (c .before .before .before .before .before .before .before .before .before .before .before .before .before .before .pre) in
+    let size = words-size _ _ _ ((c .before .before .before .before .before .before .before .before .before .word-count) .ensures) (pre .0 .2) in
+    (pre .0, (size refl, size refl, ordered _ _ ((c .before .before .before .before .before .before .before .before .pow2) .ensures) ((c .before .before .before .before .before .before .fill-order) .ensures), pre .1 .1))
+
+returns : tie.Need-returns
+returns c = (
+  (c .before .before .before .before .list-table) .ensures,
+  (ordered _ _ refl ((c .before .before .before .before .before .before .before .before .before .before .before .fill-order) .ensures), order-length _ _ ((c .before .before .before .before .before .before .before .before .before .before .before .fill-order) .ensures) ((c .before .before .before .before .before .before .before .before .before .before .before .before .before .before .before .before .before .before .before .pre) .1 .0)),
+)
 
 pub list-condition-spec : {M : Type 1} → statement M
 list-condition-spec =
@@ -44,12 +37,12 @@ list-condition-spec =
     (λ c. search needs)
     (λ c κs. search needs)
     (λ c. search count-small)
-    coefficients-part
+    slice-aggregate-list-table
     (λ c. search count-small)
-    values-part
+    slice-aggregate-list-table-2
     (λ c. search needs)
     (λ c. sym (length-take-le _ _ (search needs)))
     list-table-requires
     (λ c. search needs)
     (λ c. search needs)
-    (λ c. search needs))
+    returns)

@@ -15,26 +15,26 @@ cast-state c =
     let start = solved .before .before .before .before .before .before .before .before .before .before .before .before .before in
     omega (
       arith,
-      state-byte _ _ _ (start .args .coefficients .now) (start .pre .0 .values-are) _ _ (solved .solve-values .ensures)
+      state-byte _ _ _ _ (start .args .coefficients .now) (start .pre .0 .values-are) _ _ (solved .solve-values .ensures)
           (fits-order _ _ (start .pre .2)) (c .before .before .state .given .1) (start .pre .0 .givens),
     )
 
 returns : tie.Need-returns
-returns c =
+returns c fact values-are =
     let answers = c .before .before .before .before in
     let told = answers .before .before .before .before in
     let solved = told .before .before .before .before .before .before in
     let listed = solved .before .before .before .before .before in
     let start = listed .before .before .before .before .before .before .before .before in
-    lists-solved _ _ _ (start .args .coefficients .now) (start .pre .0 .values-are) _ _ (solved .solve-values .ensures)
+    lists-solved _ _ _ fact (start .args .coefficients .now) values-are _ _ (solved .solve-values .ensures)
     (start .pre .0 .letters) (listed .list-monomials .ensures) (told .enum-told .given .1) (answers .list-answers .ensures)
 
 returns-2 : tie.Need-returns-2
-returns-2 c =
+returns-2 c fact values-are =
     let solved = c .before .before .before .before .before .before .before .before in
     let listed = solved .before .before .before .before .before in
     let start = listed .before .before .before .before .before .before .before .before in
-    lists-none _ _ _ (start .args .coefficients .now) (start .pre .0 .values-are) _ _ (solved .solve-values .ensures)
+    lists-none _ _ _ fact (start .args .coefficients .now) values-are _ _ (solved .solve-values .ensures)
     (start .pre .0 .letters) (listed .list-monomials .ensures) (c .before .before .state .given .1)
 
 pub list-with-spec : {M : Type 1} → statement M

@@ -2,8 +2,8 @@
 use mathlib.Core.Path.{sym}
 use lib.Seq.{set-out}
 use borrow.Author.Needs.{needs}
-use Rattle.reader.proofs.put_one.Statement.{statement}
-use Rattle.reader.proofs.put_one.Tie as tie
+use Rattle.records.proofs.put_one.Statement.{statement}
+use Rattle.records.proofs.put_one.Tie as tie
 
 pub put-one-spec : {M : Type 1} → statement M
 put-one-spec =

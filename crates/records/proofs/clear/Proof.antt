@@ -5,8 +5,8 @@ use borrow.Author.Needs.{needs}
 use lib.ListN.{length}
 use Rattle.ring.proofs.Lists.{listed-tabulate}
 use Rattle.tables.proofs.Filled.{filled, filled-start, filled-more, filled-end}
-use Rattle.reader.proofs.clear.Statement.{statement}
-use Rattle.reader.proofs.clear.Tie as tie
+use Rattle.records.proofs.clear.Statement.{statement}
+use Rattle.records.proofs.clear.Tie as tie
 
 abbrev Inv-loop : tie.InvT-loop
 Inv-loop t₀ i₀ i-end t i = (i ≤ length t₀) × (t ≡ filled i (λ m. 0) t₀) × (length t ≡ length t₀)
