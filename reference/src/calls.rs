@@ -5,10 +5,12 @@
 
 use crate::polynomial::Polynomial;
 use crate::questions::{
-    ask, ask_bytes, ask_length, ask_letters, ask_makes_zero, ask_mask, ask_order, ask_text_length,
-    Choice, Letters, Order, Refusal, State,
+    ask, ask_bytes, ask_fact, ask_length, ask_letters, ask_makes_zero, ask_mask, ask_order,
+    ask_text_length, Choice, Letters, Order, Refusal, State,
 };
-use crate::solution::{formula, solve_boole, solve_lowenheim, solve_particular, Solution, Solved};
+use crate::solution::{
+    formula, solve_boole, solve_lowenheim, solve_particular, Solution, Solved, UnderFact,
+};
 use crate::text::read_tree;
 
 /// Reads a text into the condition buffer. Questions 1, 3, 4, 5, 6, 7.
@@ -53,8 +55,11 @@ pub fn substitute(
     result: &mut [u8],
 ) -> Result<(), Refusal> {
     let letters = ask_letters(u, g)?;
+    ask_length(condition, letters.table_length())?;
+    ask_length(handed, letters.answer_length())?;
     ask_length(result, letters.table_length())?;
-    ask_handed(letters, condition, handed)?;
+    ask_bytes(condition, letters.table_length())?;
+    ask_bytes(handed, letters.answer_length())?;
     let f = lent(condition, letters);
     fill(result, letters, &[f.substitute(&lent_answers(handed, letters))]);
     Ok(())
@@ -73,52 +78,60 @@ pub fn derivative(u: u64, g: u64, table: &[u8], s: u64, result: &mut [u8]) -> Re
     Ok(())
 }
 
-/// Boole's answer, the unknowns going in an order. Questions 1, 17, 4, 8, 9.
+/// Boole's answer under a fact, the unknowns going in an order. Questions 1, 17, 4, 8, 22, 23, 9.
 pub fn boole(
     u: u64,
     g: u64,
     order: Order,
+    fact: &[u8],
     condition: &[u8],
     answers: &mut [u8],
 ) -> Result<Solved, Refusal> {
-    solve(u, g, order, condition, answers, solve_boole)
+    solve(u, g, order, fact, condition, answers, solve_boole)
 }
 
-/// The particular solution. Questions 1, 17, 4, 8, 9.
+/// The particular solution. Questions 1, 17, 4, 8, 22, 23, 9.
 pub fn particular(
     u: u64,
     g: u64,
     order: Order,
+    fact: &[u8],
     condition: &[u8],
     answers: &mut [u8],
 ) -> Result<Solved, Refusal> {
-    solve(u, g, order, condition, answers, solve_particular)
+    solve(u, g, order, fact, condition, answers, solve_particular)
 }
 
-/// The engine's own Löwenheim answer. Questions 1, 17, 4, 8, 9.
+/// The engine's own Löwenheim answer. Questions 1, 17, 4, 8, 22, 23, 9.
 pub fn lowenheim(
     u: u64,
     g: u64,
     order: Order,
+    fact: &[u8],
     condition: &[u8],
     answers: &mut [u8],
 ) -> Result<Solved, Refusal> {
-    solve(u, g, order, condition, answers, solve_lowenheim)
+    solve(u, g, order, fact, condition, answers, solve_lowenheim)
 }
 
-/// Löwenheim's formula with handed polynomials that make the condition zero: a general solution. They
-/// may mention unknowns. Questions 1, 4, 8, 21.
+/// Löwenheim's formula with handed polynomials that make f*(1 + g) zero: a general solution. They may
+/// mention unknowns. Questions 1, 4, 8, 22, 23, 21.
 pub fn lowenheim_handed(
     u: u64,
     g: u64,
+    fact: &[u8],
     condition: &[u8],
     handed: &[u8],
     answers: &mut [u8],
 ) -> Result<(), Refusal> {
     let letters = ask_letters(u, g)?;
+    ask_length(fact, letters.table_length())?;
+    ask_length(condition, letters.table_length())?;
+    ask_length(handed, letters.answer_length())?;
     ask_length(answers, letters.answer_length())?;
-    ask_handed(letters, condition, handed)?;
-    let (f, b) = (lent(condition, letters), lent_answers(handed, letters));
+    ask_bytes(handed, letters.answer_length())?;
+    let f = ask_under_fact(letters, fact, condition)?.counted();
+    let b = lent_answers(handed, letters);
     ask_makes_zero(&f, &b)?;
     fill(answers, letters, &formula(letters, &f, &b));
     Ok(())
@@ -128,22 +141,36 @@ fn solve(
     u: u64,
     g: u64,
     order: Order,
+    fact: &[u8],
     condition: &[u8],
     answers: &mut [u8],
-    method: fn(Letters, &[usize], &Polynomial) -> Solution,
+    method: fn(Letters, &[usize], &UnderFact) -> Solution,
 ) -> Result<Solved, Refusal> {
     let letters = ask_letters(u, g)?;
     let unknowns = ask_order(letters, order)?;
+    ask_length(fact, letters.table_length())?;
     ask_length(condition, letters.table_length())?;
     ask_length(answers, letters.answer_length())?;
-    ask_bytes(condition, letters.table_length())?;
-    match method(letters, &unknowns, &lent(condition, letters)) {
+    match method(letters, &unknowns, &ask_under_fact(letters, fact, condition)?) {
         Solution::Answers(polynomials) => {
             fill(answers, letters, &polynomials);
             Ok(Solved::Done)
         }
         Solution::None(state) => Ok(Solved::None(state)),
     }
+}
+
+/// Questions 8, 22 and 23 of a fact and a condition that have passed 4.
+pub fn ask_under_fact(
+    letters: Letters,
+    fact: &[u8],
+    condition: &[u8],
+) -> Result<UnderFact, Refusal> {
+    ask_bytes(fact, letters.table_length())?;
+    ask_bytes(condition, letters.table_length())?;
+    let asked = UnderFact { fact: lent(fact, letters), condition: lent(condition, letters) };
+    ask_fact(letters, &asked.fact)?;
+    Ok(asked)
 }
 
 /// Questions 1, 4 and 8 of two tables and the buffer for their result.
@@ -162,14 +189,6 @@ pub fn ask_two_tables(
     ask_bytes(a, length)?;
     ask_bytes(b, length)?;
     Ok(letters)
-}
-
-/// Questions 4 and 8 of a condition and handed polynomials.
-pub fn ask_handed(letters: Letters, condition: &[u8], handed: &[u8]) -> Result<(), Refusal> {
-    ask_length(condition, letters.table_length())?;
-    ask_length(handed, letters.answer_length())?;
-    ask_bytes(condition, letters.table_length())?;
-    ask_bytes(handed, letters.answer_length())
 }
 
 /// The polynomial of a lent table.

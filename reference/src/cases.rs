@@ -1,7 +1,8 @@
-//! What test cases are made from: random numbers, tables, bounds, orders, handed polynomials, sessions
-//! and bench rows.
+//! What test cases are made from: random numbers, tables, bounds, orders, facts, handed polynomials,
+//! sessions and bench rows.
 
 pub mod entries;
+pub mod facts;
 pub mod handed;
 pub mod orders;
 pub mod sessions;

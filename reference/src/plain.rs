@@ -9,6 +9,7 @@ mod block;
 mod bytes;
 mod calls;
 mod entry;
+mod fact;
 mod hexadecimal;
 mod session;
 mod sheet;

@@ -1,8 +1,9 @@
 //! The two programs, as functions from bytes to the bytes printed.
 
-use crate::calls::lent;
 use crate::entry::{entry_records, Count, Record, Walk};
+use crate::polynomial::Polynomial;
 use crate::questions::{ask, ask_letters, ask_route, ask_text_length, Letters, Refusal};
+use crate::solution::UnderFact;
 use crate::text::read_tree;
 
 /// Longer lines print `unreadable`; the line feed does not count.
@@ -70,9 +71,9 @@ fn entry_of(fields: &Fields, last_route: u64) -> Result<Vec<Record>, Refusal> {
     ask_text_length(fields.text)?;
     let tree = read_tree(letters, fields.text)?;
     ask(15, fields.route > last_route)?;
-    let table = tree.polynomial().to_table(letters.table_length());
     let order: Vec<usize> = (0..letters.unknowns).collect();
-    Ok(entry_records(fields.route as u8, letters, &order, &lent(&table, letters)))
+    let asked = UnderFact { fact: Polynomial::zero(), condition: tree.polynomial() };
+    Ok(entry_records(fields.route as u8, letters, &order, &asked))
 }
 
 /// Two lower-case hexadecimal digits a byte, one record on a line.

@@ -16,7 +16,7 @@ pub const LONGEST_TEXT: usize = 200;
 /// The bytes of a table of ten letters; no table is longer.
 pub const LONGEST_TABLE: usize = 1 << MOST_LETTERS;
 /// The bound on an entry.
-pub const LONGEST_ENTRY: usize = 27_661;
+pub const LONGEST_ENTRY: usize = 27_709;
 /// Stands in the places of an order that no unknown needs.
 pub const UNUSED: u8 = 255;
 /// The names of design states.
@@ -100,6 +100,16 @@ impl Letters {
     pub fn point(self, state: State, choice: Choice) -> u16 {
         (choice.0 | state.0 << self.unknowns) as u16
     }
+
+    /// The states, smallest first.
+    pub fn all_states(self) -> impl Iterator<Item = State> {
+        (0..self.states()).map(State)
+    }
+
+    /// Whether a fact over the givens is 0 in a state, so that the state counts.
+    pub fn is_counted(self, fact: &Polynomial, state: State) -> bool {
+        fact.value(self.point(state, Choice(0))) == 0
+    }
 }
 
 /// Yes, or the number of the question.
@@ -167,4 +177,11 @@ pub fn ask_mask(letters: Letters, s: u64) -> Result<u16, Refusal> {
 /// 21. Does the handed substitution make the condition zero?
 pub fn ask_makes_zero(condition: &Polynomial, handed: &[Polynomial]) -> Result<(), Refusal> {
     ask(21, condition.substitute(handed).is_zero())
+}
+
+/// 22. Has g no unknown? Then 23. Is g 0 in some state?
+pub fn ask_fact(letters: Letters, fact: &Polynomial) -> Result<(), Refusal> {
+    let has_unknown = |mask: u16| (0..letters.unknowns).any(|j| mask & letters.unknown(j) != 0);
+    ask(22, !fact.masks().any(has_unknown))?;
+    ask(23, letters.all_states().any(|state| letters.is_counted(fact, state)))
 }

@@ -1,5 +1,5 @@
-//! Solving "condition = 0": Boole's elimination, the particular solution and
-//! Löwenheim's formula, on polynomials.
+//! Solving "condition = 0" in the states where a fact is 0: Boole's elimination,
+//! the particular solution and Löwenheim's formula, on polynomials.
 
 use crate::polynomial::Polynomial;
 use crate::questions::{Choice, Letters, State};
@@ -26,10 +26,23 @@ struct Step {
     s: Polynomial,
 }
 
+/// A condition f and a fact g, which has passed questions 22 and 23.
+pub struct UnderFact {
+    pub fact: Polynomial,
+    pub condition: Polynomial,
+}
+
+impl UnderFact {
+    /// What is solved, f*(1 + g): it is f in the states that count and 0 in the others.
+    pub fn counted(&self) -> Polynomial {
+        self.condition.product(&self.fact.sum(&Polynomial::one()))
+    }
+}
+
 /// The unknowns go in the order given; the answers are found from the last that went back.
-pub fn solve_boole(letters: Letters, order: &[usize], condition: &Polynomial) -> Solution {
+pub fn solve_boole(letters: Letters, order: &[usize], asked: &UnderFact) -> Solution {
     let mut steps = Vec::new();
-    let mut current = condition.clone();
+    let mut current = asked.counted();
     for &unknown in order {
         let x = letters.unknown(unknown);
         let step = Step { unknown, r: current.with_one(x), s: current.with_zero(x) };
@@ -37,7 +50,7 @@ pub fn solve_boole(letters: Letters, order: &[usize], condition: &Polynomial) ->
         steps.push(step);
     }
     if !current.is_zero() {
-        return Solution::None(blocked_state(letters, condition));
+        return Solution::None(blocked_state(letters, asked));
     }
     Solution::Answers(go_back(letters, &steps))
 }
@@ -56,18 +69,18 @@ fn go_back(letters: Letters, steps: &[Step]) -> Vec<Polynomial> {
     answers
 }
 
-/// The smallest state in which every choice gives the condition the value 1.
-fn blocked_state(letters: Letters, condition: &Polynomial) -> State {
+/// The smallest of the states with g = 0 in which every choice gives f the value 1.
+fn blocked_state(letters: Letters, UnderFact { fact, condition }: &UnderFact) -> State {
     let blocked = |state: &State| {
         (0..letters.choices()).all(|c| condition.value(letters.point(*state, Choice(c))) == 1)
     };
-    let found = (0..letters.states()).map(State).find(blocked);
-    found.expect("a remainder that is not 0 is 1 in some state")
+    let mut counted = letters.all_states().filter(|&state| letters.is_counted(fact, state));
+    counted.find(blocked).expect("a remainder that is not 0 is 1 in some state")
 }
 
 /// Boole's answer with 0 put for all parameters.
-pub fn solve_particular(letters: Letters, order: &[usize], condition: &Polynomial) -> Solution {
-    match solve_boole(letters, order, condition) {
+pub fn solve_particular(letters: Letters, order: &[usize], asked: &UnderFact) -> Solution {
+    match solve_boole(letters, order, asked) {
         Solution::Answers(answers) => {
             let zeros = vec![Polynomial::zero(); letters.unknowns];
             Solution::Answers(answers.iter().map(|answer| answer.substitute(&zeros)).collect())
@@ -77,9 +90,9 @@ pub fn solve_particular(letters: Letters, order: &[usize], condition: &Polynomia
 }
 
 /// Löwenheim's formula with the particular solution.
-pub fn solve_lowenheim(letters: Letters, order: &[usize], condition: &Polynomial) -> Solution {
-    match solve_particular(letters, order, condition) {
-        Solution::Answers(b) => Solution::Answers(formula(letters, condition, &b)),
+pub fn solve_lowenheim(letters: Letters, order: &[usize], asked: &UnderFact) -> Solution {
+    match solve_particular(letters, order, asked) {
+        Solution::Answers(b) => Solution::Answers(formula(letters, &asked.counted(), &b)),
         none => none,
     }
 }

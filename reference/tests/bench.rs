@@ -1,5 +1,6 @@
 //! The rows of the bench table, the slips to shut out, and the two programs.
 
+use reference::cases::facts::no_fact;
 use reference::cases::orders::{every_order, wrong_orders};
 use reference::*;
 
@@ -37,10 +38,10 @@ fn assert_answers_in(
     let tables =
         |texts: &[&str]| -> Vec<u8> { texts.iter().flat_map(|t| condition(u, g, t)).collect() };
     let mut answers = vec![7; u as usize * table.len()];
-    assert_eq!(boole(u, g, order, &table, &mut answers), Ok(Solved::Done));
+    assert_eq!(boole(u, g, order, &no_fact(u, g), &table, &mut answers), Ok(Solved::Done));
     assert_eq!(answers, tables(boole_texts), "{text}");
     if !lowenheim_texts.is_empty() {
-        assert_eq!(lowenheim(u, g, order, &table, &mut answers), Ok(Solved::Done));
+        assert_eq!(lowenheim(u, g, order, &no_fact(u, g), &table, &mut answers), Ok(Solved::Done));
         assert_eq!(answers, tables(lowenheim_texts), "{text}");
     }
 }
@@ -50,7 +51,7 @@ fn assert_none(u: u64, g: u64, text: &str, state: u64) {
     let mut answers = vec![7; u as usize * table.len()];
     for method in [boole, particular, lowenheim] {
         for order in every_order(u) {
-            let solved = method(u, g, order, &table, &mut answers);
+            let solved = method(u, g, order, &no_fact(u, g), &table, &mut answers);
             assert_eq!(solved, Ok(Solved::None(State(state))));
             assert!(answers.iter().all(|&byte| byte == 7));
         }
@@ -86,28 +87,29 @@ fn rows_in_other_orders() {
     assert_answers_in(w_u_v, 3, 0, "u*v*w", &["u", "v", "w+u*v*w"], &[]);
 }
 
-/// 1, 17, 4, 8, 9 when solving; 1, 2, 17, 4, 8, 14 when writing.
+/// 1, 17, 4, 8, .. when solving; 1, 2, 17, 4, 8, .. when writing.
 #[test]
 fn place_of_question_17() {
     let wrong = Order([0; 6]);
     for method in [boole, particular, lowenheim] {
-        assert_eq!(method(7, 0, wrong, &[], &mut []), Err(Refusal(1)));
-        assert_eq!(method(2, 0, wrong, &[], &mut []), Err(Refusal(17)));
-        assert_eq!(method(2, 0, V_FIRST, &[0, 2, 0], &mut [7; 8]), Err(Refusal(4)));
-        assert_eq!(method(2, 0, V_FIRST, &[0, 2, 0, 0], &mut [7; 7]), Err(Refusal(4)));
-        assert_eq!(method(2, 0, V_FIRST, &[0, 2, 0, 0], &mut [7; 8]), Err(Refusal(8)));
+        assert_eq!(method(7, 0, wrong, &[], &[], &mut []), Err(Refusal(1)));
+        assert_eq!(method(2, 0, wrong, &[], &[], &mut []), Err(Refusal(17)));
+        assert_eq!(method(2, 0, V_FIRST, &[0; 4], &[0, 2, 0], &mut [7; 8]), Err(Refusal(4)));
+        assert_eq!(method(2, 0, V_FIRST, &[0; 4], &[0, 2, 0, 0], &mut [7; 7]), Err(Refusal(4)));
+        assert_eq!(method(2, 0, V_FIRST, &[0; 4], &[0, 2, 0, 0], &mut [7; 8]), Err(Refusal(8)));
     }
-    assert_eq!(write_entry(0, 7, 0, wrong, &[], &mut []), Err(Refusal(1)));
-    assert_eq!(write_entry(0, 2, 0, wrong, &[], &mut []), Err(Refusal(2)));
-    assert_eq!(write_entry(1, 2, 0, wrong, &[], &mut []), Err(Refusal(17)));
-    assert_eq!(write_entry(1, 2, 0, V_FIRST, &[], &mut []), Err(Refusal(4)));
-    assert_eq!(write_entry(1, 2, 0, V_FIRST, &[2; 4], &mut []), Err(Refusal(8)));
-    assert_eq!(write_entry(1, 2, 0, V_FIRST, &[0; 4], &mut [7; 20]), Err(Refusal(14)));
+    assert_eq!(write_entry(0, 7, 0, wrong, &[0; 4], &[], &mut []), Err(Refusal(1)));
+    assert_eq!(write_entry(0, 2, 0, wrong, &[0; 4], &[], &mut []), Err(Refusal(2)));
+    assert_eq!(write_entry(1, 2, 0, wrong, &[0; 4], &[], &mut []), Err(Refusal(17)));
+    assert_eq!(write_entry(1, 2, 0, V_FIRST, &[0; 4], &[], &mut []), Err(Refusal(4)));
+    assert_eq!(write_entry(1, 2, 0, V_FIRST, &[0; 4], &[2; 4], &mut []), Err(Refusal(8)));
+    assert_eq!(write_entry(1, 2, 0, V_FIRST, &[0; 4], &[0; 4], &mut [7; 20]), Err(Refusal(14)));
     for u in 0..=6 {
         assert!(wrong_orders(u).len() > 10);
         for order in wrong_orders(u) {
             let table = vec![0; 1 << u];
-            let refused = boole(u, 0, order, &table, &mut vec![7; u as usize * table.len()]);
+            let refused =
+                boole(u, 0, order, &table, &table, &mut vec![7; u as usize * table.len()]);
             assert_eq!(refused, Err(Refusal(17)), "{order:?}");
         }
     }
@@ -126,14 +128,17 @@ fn kind_6() {
         &[4, 7],
     ];
     let mut bytes = [7; 40];
-    assert_eq!(write_entry(7, 2, 0, V_FIRST, &[0, 0, 0, 1], &mut bytes), Ok(28));
+    assert_eq!(write_entry(7, 2, 0, V_FIRST, &[0; 4], &[0, 0, 0, 1], &mut bytes), Ok(28));
     assert_eq!(bytes[..28], entry.concat());
     assert_eq!(bytes[28..], [7; 12]);
     let read = |records: &[&[u8]]| {
-        let (mut order, mut condition, mut answers) = (Order([7; 6]), [7; 64], [7; 384]);
-        let result = read_entry(&records.concat(), &mut order, &mut condition, &mut answers);
+        let (mut order, mut fact) = (Order([7; 6]), [7; 64]);
+        let (mut condition, mut answers) = ([7; 64], [7; 384]);
+        let bytes = records.concat();
+        let result = read_entry(&bytes, &mut order, &mut fact, &mut condition, &mut answers);
         if result.is_err() {
-            assert_eq!((order, condition, answers), (Order([7; 6]), [7; 64], [7; 384]));
+            assert_eq!((order, fact), (Order([7; 6]), [7; 64]));
+            assert_eq!((condition, answers), ([7; 64], [7; 384]));
         }
         (result.map(|reading| reading.length), order)
     };
@@ -168,7 +173,7 @@ fn kind_6() {
     }
     assert_eq!(refused(&[start, &[6, 0, 0, 255, 255, 255, 255], &[5, 0], end]), 17);
     let wrong = [start, &[6, 0, 0, 255, 255, 255, 255], end].concat();
-    assert_eq!(read_entry(&wrong, &mut Order([7; 6]), &mut [], &mut []), Err(Refusal(17)));
+    assert_eq!(read_entry(&wrong, &mut Order([7; 6]), &mut [], &mut [], &mut []), Err(Refusal(17)));
 }
 
 #[test]
@@ -181,9 +186,9 @@ fn other_rows() {
     assert_eq!(refusal(2, 0, "w"), 6);
     assert_eq!(refusal(2, 0, "()"), 7);
     let order = Order::default_for(1);
-    assert_eq!(write_entry(250, 1, 0, order, &[0, 1], &mut buffer), Ok(9));
-    assert_eq!(write_entry(251, 1, 0, order, &[0, 1], &mut buffer), Err(Refusal(2)));
-    assert_eq!(write_entry(0, 1, 0, order, &[0, 1], &mut buffer), Err(Refusal(2)));
+    assert_eq!(write_entry(250, 1, 0, order, &[0; 2], &[0, 1], &mut buffer), Ok(9));
+    assert_eq!(write_entry(251, 1, 0, order, &[0; 2], &[0, 1], &mut buffer), Err(Refusal(2)));
+    assert_eq!(write_entry(0, 1, 0, order, &[0; 2], &[0, 1], &mut buffer), Err(Refusal(2)));
 }
 
 #[test]

@@ -4,7 +4,8 @@
 #[path = "common/accepted.rs"]
 mod accepted;
 
-use accepted::accepted;
+use accepted::accepted_under;
+use reference::cases::facts::no_fact;
 use reference::cases::handed::{choices_of, tables_to, NEARLY, ROWS, SOLVING};
 use reference::cases::orders::default_order;
 use reference::cases::{every_table, pairs, tables_of, values_of, Random, TOO_LARGE};
@@ -32,9 +33,14 @@ fn assert_general(u: u64, condition: &[u8], choices: &[usize]) {
     }
 }
 
+/// The answers to handed polynomials that are accepted without a fact.
+fn accepted(u: u64, g: u64, condition: &[u8], handed: &[u8]) -> Option<Vec<u8>> {
+    accepted_under(u, g, &no_fact(u, g), condition, handed)
+}
+
 fn has_solution(u: u64, g: u64, condition: &[u8]) -> bool {
     let mut answers = vec![7; u as usize * condition.len()];
-    boole(u, g, default_order(u), condition, &mut answers) == Ok(Solved::Done)
+    boole(u, g, default_order(u), &no_fact(u, g), condition, &mut answers) == Ok(Solved::Done)
 }
 
 /// The choice to which handed polynomials lead at each point, one call for each value.
@@ -185,12 +191,12 @@ fn the_answer_would_not_tell() {
     assert_eq!(formula(&one_plus_u), zero);
 }
 
-/// 1, 4, 8, 21: the first no counts, and nothing is changed.
+/// 1, 4, 8, 21 without a fact: the first no counts, and nothing is changed.
 #[test]
 fn refusals() {
     let refused = |u: u64, g: u64, condition: &[u8], handed: &[u8], size: usize| {
         let mut answers = vec![7; size];
-        let refusal = lowenheim_handed(u, g, condition, handed, &mut answers);
+        let refusal = lowenheim_handed(u, g, &no_fact(u, g), condition, handed, &mut answers);
         assert_eq!(answers, vec![7; size]);
         refusal.expect_err("a refusal").0
     };
@@ -230,8 +236,8 @@ fn refusals() {
 fn bytes_behind_stay() {
     let mut answers = [7; 6];
     let (condition, handed) = ([0, 1, 1, 0, 9], [0, 0, 1, 0, 1, 9]);
-    assert_eq!(lowenheim_handed(1, 1, &condition, &handed, &mut answers), Ok(()));
+    assert_eq!(lowenheim_handed(1, 1, &[0; 4], &condition, &handed, &mut answers), Ok(()));
     assert_eq!(answers, [0, 0, 1, 0, 7, 7]);
-    assert_eq!(lowenheim_handed(0, 1, &[0, 0, 1], &[1], &mut answers), Ok(()));
+    assert_eq!(lowenheim_handed(0, 1, &[0; 2], &[0, 0, 1], &[1], &mut answers), Ok(()));
     assert_eq!(answers, [0, 0, 1, 0, 7, 7]);
 }

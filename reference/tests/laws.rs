@@ -4,25 +4,27 @@
 mod accepted;
 mod common;
 
-use accepted::accepted;
+use accepted::accepted_under;
 use common::{all_letters, Random};
+use reference::cases::facts::{counted, no_fact};
 use reference::cases::handed::{NEARLY, SOLVING};
 use reference::cases::orders::{every_order, reverse_order};
 use reference::*;
 use std::collections::HashSet;
 
-type Method = fn(u64, u64, Order, &[u8], &mut [u8]) -> Result<Solved, Refusal>;
+type Method = fn(u64, u64, Order, &[u8], &[u8], &mut [u8]) -> Result<Solved, Refusal>;
 
 /// The answer tables, or the state.
 fn solved(
     letters: Letters,
     order: Order,
+    fact: &[u8],
     condition: &[u8],
     method: Method,
 ) -> Result<Vec<u8>, State> {
     let mut answers = vec![7; letters.answer_length()];
     let (u, g) = (letters.unknowns as u64, letters.givens as u64);
-    match method(u, g, order, condition, &mut answers).expect("no refusal") {
+    match method(u, g, order, fact, condition, &mut answers).expect("no refusal") {
         Solved::Done => Ok(answers),
         Solved::None(state) => Err(state),
     }
@@ -50,8 +52,12 @@ fn value_at(letters: Letters, table: &[u8], point: usize, choice: usize) -> u8 {
     value(u, g, table, state, Choice(choice as u64)).expect("a value")
 }
 
-fn makes_zero(letters: Letters, condition: &[u8], substitution: &[usize]) -> bool {
-    let zero = |(point, &choice)| value_at(letters, condition, point, choice) == 0;
+/// Makes f zero wherever g is 0.
+fn makes_zero(letters: Letters, fact: &[u8], condition: &[u8], substitution: &[usize]) -> bool {
+    let zero = |(point, &choice)| {
+        let is_counted = value_at(letters, fact, point, 0) == 0;
+        !is_counted || value_at(letters, condition, point, choice) == 0
+    };
     substitution.iter().enumerate().all(zero)
 }
 
@@ -66,9 +72,9 @@ fn put(letters: Letters, answers: &[u8], substitution: &[usize]) -> Vec<usize> {
     substitution.iter().enumerate().map(at).collect()
 }
 
-/// In every order, and from handed polynomials that are accepted: 'none' exactly where no substitution
-/// solves, where nothing is accepted either; every answer solves; every substitution that solves is an
-/// instance.
+/// Under facts, in every order, and from handed polynomials that are accepted: 'none' exactly where no
+/// substitution solves, where nothing is accepted either; every answer solves; every substitution that
+/// solves is an instance.
 #[test]
 fn every_solution_is_an_instance() {
     let mut random = Random(0x1234_5678_9abc_def1);
@@ -89,24 +95,26 @@ fn every_solution_is_an_instance() {
     ] {
         let letters = Letters { unknowns, givens };
         let all = substitutions(letters, list);
-        for round in 0..12 {
-            let length = letters.table_length();
-            let condition =
-                if round % 3 == 0 { random.table(length) } else { random.solvable(letters) };
+        let (u, g) = (unknowns as u64, givens as u64);
+        for round in 0..18 {
+            let (fact, condition) = match round % 6 {
+                0 => (no_fact(u, g), random.table(letters.table_length())),
+                1 | 2 => (no_fact(u, g), random.solvable(letters)),
+                _ => for_handed.under_fact(u, g),
+            };
             let solutions: Vec<_> =
-                all.iter().filter(|s| makes_zero(letters, &condition, s)).collect();
+                all.iter().filter(|s| makes_zero(letters, &fact, &condition, s)).collect();
             let mut answers = Vec::new();
-            for order in every_order(unknowns as u64) {
+            for order in every_order(u) {
                 for method in [boole as Method, lowenheim] {
-                    let found = solved(letters, order, &condition, method);
+                    let found = solved(letters, order, &fact, &condition, method);
                     assert_eq!(found.is_err(), solutions.is_empty());
                     answers.extend(found);
                 }
             }
             for kind in SOLVING.into_iter().chain(NEARLY) {
-                let (u, g) = (unknowns as u64, givens as u64);
-                let handed = for_handed.handed(kind, u, g, &condition);
-                let found = accepted(u, g, &condition, &handed);
+                let handed = for_handed.handed(kind, u, g, &counted(&fact, &condition));
+                let found = accepted_under(u, g, &fact, &condition, &handed);
                 assert!(found.is_none() || !solutions.is_empty());
                 refused += (found.is_none() && !solutions.is_empty()) as usize;
                 answers.extend(found);
@@ -114,32 +122,47 @@ fn every_solution_is_an_instance() {
             for answers in answers {
                 let instances: HashSet<_> = all.iter().map(|s| put(letters, &answers, s)).collect();
                 assert!(solutions.iter().all(|s| instances.contains(*s)));
-                assert!(instances.iter().all(|s| makes_zero(letters, &condition, s)));
+                assert!(instances.iter().all(|s| makes_zero(letters, &fact, &condition, s)));
             }
         }
     }
     assert!(refused > 100, "{refused}");
 }
 
-/// The smallest state in which every choice has the value 1, and only where there is one,
-/// whatever the order.
+/// The smallest of the states with g = 0 in which every choice has the value 1, and only where there
+/// is one, whatever the order.
 #[test]
 fn none_names_the_smallest_state() {
     let mut random = Random(77);
+    let facts = &mut cases::Random::new('N');
+    let mut others = 0;
     for letters in all_letters(6) {
+        let (u, g) = (letters.unknowns as u64, letters.givens as u64);
         for _ in 0..20 {
-            let condition = random.table(letters.table_length());
-            let blocked = |state: &usize| {
-                (0..1 << letters.unknowns)
-                    .all(|choice| value_at(letters, &condition, *state, choice) == 1)
-            };
-            let expected = (0..1 << letters.givens).find(blocked).map(|state| State(state as u64));
-            for method in [boole as Method, particular, lowenheim] {
-                let order = random.order(letters);
-                assert_eq!(solved(letters, order, &condition, method).err(), expected);
+            let mut none_by_itself = false;
+            let (fact, condition) = facts.under_fact(u, g);
+            for (fact, condition) in [
+                (no_fact(u, g), random.table(letters.table_length())),
+                (no_fact(u, g), condition.clone()),
+                (fact, condition),
+            ] {
+                let blocked = |state: &usize| {
+                    let is_counted = value_at(letters, &fact, *state, 0) == 0;
+                    let is_one = |choice| value_at(letters, &condition, *state, choice) == 1;
+                    is_counted && (0..1 << letters.unknowns).all(is_one)
+                };
+                let found = (0..1 << letters.givens).find(blocked);
+                let expected = found.map(|state| State(state as u64));
+                for method in [boole as Method, particular, lowenheim] {
+                    let order = random.order(letters);
+                    assert_eq!(solved(letters, order, &fact, &condition, method).err(), expected);
+                }
+                others += (none_by_itself && expected.is_none()) as usize;
+                none_by_itself = expected.is_some();
             }
         }
     }
+    assert!(others > 100, "solved under a fact alone: {others}");
 }
 
 /// An answer put into the condition, or into itself, and Boole's and Löwenheim's in any two
@@ -150,10 +173,14 @@ fn none_names_the_smallest_state() {
 fn answers_are_reproductive() {
     let mut random = Random(4242);
     let for_handed = &mut cases::Random::new('R');
-    for letters in all_letters(6) {
+    for (letters, is_under_fact) in
+        all_letters(6).into_iter().flat_map(|letters| [(letters, false), (letters, true)])
+    {
         let condition = random.solvable(letters);
         let length = letters.table_length();
         let (u, g) = (letters.unknowns as u64, letters.givens as u64);
+        let fact = if is_under_fact { for_handed.fact(u, g) } else { no_fact(u, g) };
+        let counted = counted(&fact, &condition);
         let put_into = |table: &[u8], handed: &[u8]| {
             let mut result = vec![7; length];
             assert_eq!(substitute(u, g, table, handed, &mut result), Ok(()));
@@ -167,16 +194,18 @@ fn answers_are_reproductive() {
         };
         let mut answers = Vec::new();
         for order in orders {
-            answers.push(solved(letters, order, &condition, boole).expect("a solution"));
-            answers.push(solved(letters, order, &condition, lowenheim).expect("a solution"));
+            for method in [boole as Method, lowenheim] {
+                let found = solved(letters, order, &fact, &condition, method);
+                answers.push(found.expect("a solution"));
+            }
         }
         for kind in SOLVING {
-            let handed = for_handed.handed(kind, u, g, &condition);
-            answers.push(accepted(u, g, &condition, &handed).expect("accepted"));
+            let handed = for_handed.handed(kind, u, g, &counted);
+            answers.push(accepted_under(u, g, &fact, &condition, &handed).expect("accepted"));
         }
         for inner in &answers {
-            assert_eq!(put_into(&condition, inner), vec![0; length]);
-            assert_eq!(accepted(u, g, &condition, inner).as_ref(), Some(inner));
+            assert_eq!(put_into(&counted, inner), vec![0; length]);
+            assert_eq!(accepted_under(u, g, &fact, &condition, inner).as_ref(), Some(inner));
             for outer in &answers {
                 let again: Vec<u8> =
                     outer.chunks(length).flat_map(|table| put_into(table, inner)).collect();
@@ -197,7 +226,7 @@ fn orders_differ() {
         let condition = plain::transform(&values);
         let answers = |method: Method| -> Vec<Result<Vec<u8>, State>> {
             let orders = every_order(3).into_iter();
-            orders.map(|order| solved(letters, order, &condition, method)).collect()
+            orders.map(|order| solved(letters, order, &[0; 8], &condition, method)).collect()
         };
         let (general, particular) = (answers(boole), answers(particular));
         differing += (general.iter().any(|other| *other != general[0])) as usize;
@@ -243,27 +272,36 @@ fn a_text_keeps_its_values() {
     assert!(accepted > 1000);
 }
 
-/// An entry reads back, its order too, and passes the audit with its own length, whatever follows.
+/// An entry reads back, its order and its fact too, and passes the audit with its own length, whatever
+/// follows.
 #[test]
 fn entries_read_back() {
     let mut random = Random(5);
+    let facts = &mut cases::Random::new('E');
     for letters in all_letters(7) {
         let (u, g) = (letters.unknowns as u64, letters.givens as u64);
-        for condition in [random.table(letters.table_length()), random.solvable(letters)] {
+        for (fact, condition) in [
+            (no_fact(u, g), random.table(letters.table_length())),
+            (no_fact(u, g), random.solvable(letters)),
+            facts.under_fact(u, g),
+            facts.under_fact(u, g),
+        ] {
             let route = 1 + random.below(250) as u64;
             let order = random.order(letters);
             let mut bytes = vec![random.below(256) as u8; LONGEST_ENTRY + 6];
-            let length = write_entry(route, u, g, order, &condition, &mut bytes).expect("an entry");
+            let length =
+                write_entry(route, u, g, order, &fact, &condition, &mut bytes).expect("an entry");
             assert!(length <= LONGEST_ENTRY);
             let mut read_order = Order([7; 6]);
-            let mut table = vec![7; letters.table_length()];
+            let [mut read_fact, mut table] = [(); 2].map(|()| vec![7; letters.table_length()]);
             let mut answers = vec![7; letters.answer_length()];
             let reading =
-                read_entry(&bytes, &mut read_order, &mut table, &mut answers).expect("read");
+                read_entry(&bytes, &mut read_order, &mut read_fact, &mut table, &mut answers)
+                    .expect("read");
             assert_eq!(audit(&bytes), Ok(reading));
             assert_eq!((reading.route as u64, reading.length), (route, length));
-            assert_eq!((read_order, &table), (order, &condition));
-            match solved(letters, order, &condition, boole) {
+            assert_eq!((read_order, &read_fact, &table), (order, &fact, &condition));
+            match solved(letters, order, &fact, &condition, boole) {
                 Ok(expected) => {
                     assert_eq!((reading.contents, answers), (Contents::Solved, expected))
                 }
@@ -281,11 +319,12 @@ fn passes(bytes: &[u8]) -> bool {
     let Ok(reading) = audit(bytes) else {
         return false;
     };
-    let (mut order, mut table, mut answers) = (Order([7; 6]), [7; 1024], [7; 6144]);
-    assert_eq!(read_entry(bytes, &mut order, &mut table, &mut answers), Ok(reading));
+    let (mut order, mut fact, mut table) = (Order([7; 6]), [7; 1024], [7; 1024]);
+    let read = read_entry(bytes, &mut order, &mut fact, &mut table, &mut [7; 6144]);
+    assert_eq!(read, Ok(reading));
     let (u, g) = (reading.unknowns as u64, reading.givens as u64);
     let mut again = vec![0; reading.length];
-    let written = write_entry(reading.route as u64, u, g, order, &table, &mut again);
+    let written = write_entry(reading.route as u64, u, g, order, &fact, &table, &mut again);
     assert_eq!(written, Ok(reading.length));
     assert_eq!(again, bytes[..reading.length]);
     true
@@ -295,15 +334,17 @@ fn passes(bytes: &[u8]) -> bool {
 #[test]
 fn audit_passes_only_entries() {
     for order in every_order(2) {
-        let mut bytes = [0; 64];
-        let condition = [0, 1, 1, 0, 1, 0, 0, 1];
-        let length = write_entry(7, 2, 1, order, &condition, &mut bytes).expect("an entry");
-        assert!(passes(&bytes));
-        for place in 0..length {
-            for byte in 0..=255 {
-                let mut changed = bytes[..length].to_vec();
-                changed[place] = byte;
-                passes(&changed);
+        for fact in [[0; 8], [0, 0, 0, 0, 1, 0, 0, 0], [1, 0, 0, 0, 1, 0, 0, 0]] {
+            let mut bytes = [0; 64];
+            let condition = [0, 1, 1, 0, 1, 0, 0, 1];
+            let written = write_entry(7, 2, 1, order, &fact, &condition, &mut bytes);
+            assert!(passes(&bytes));
+            for place in 0..written.expect("an entry") {
+                for byte in 0..=255 {
+                    let mut changed = bytes;
+                    changed[place] = byte;
+                    passes(&changed);
+                }
             }
         }
     }
@@ -317,7 +358,8 @@ fn an_order_has_one_form() {
     let mut found = Vec::new();
     for order in every_order(3) {
         let mut bytes = [0; 128];
-        let length = write_entry(7, 3, 0, order, &condition, &mut bytes).expect("an entry");
+        let length =
+            write_entry(7, 3, 0, order, &[0; 8], &condition, &mut bytes).expect("an entry");
         let start = if bytes[4] == 6 { 11 } else { 4 };
         assert_eq!(start == 11, order != Order::default_for(3));
         found.push(bytes[start..length].to_vec());
@@ -335,14 +377,28 @@ fn an_order_has_one_form() {
     }
 }
 
-/// An entry of every monomial, as long as the bound allows, is read whole.
+/// An entry of every monomial that its letters allow, in the fact, the condition and the answers, is
+/// read whole; the longest of these, over all U and G, is the bound.
 #[test]
 fn the_longest_entry() {
-    let order = reverse_order(6);
-    let bytes = cases::entries::built(order, 250, 6, 4, &[1; 1024], &[1; 6144]);
-    assert_eq!(bytes.len(), LONGEST_ENTRY);
-    let (mut read_order, mut table, mut answers) = (Order([7; 6]), [7; 1024], [7; 6144]);
-    let reading = read_entry(&bytes, &mut read_order, &mut table, &mut answers).expect("read");
-    assert_eq!((reading.length, read_order), (LONGEST_ENTRY, order));
-    assert_eq!((table, answers), ([1; 1024], [1; 6144]));
+    let mut lengths = Vec::new();
+    for letters in all_letters(10) {
+        let (u, g) = (letters.unknowns as u64, letters.givens as u64);
+        let order = reverse_order(u);
+        // without givens the one monomial would be 1, which leaves no state
+        let of_fact = |mask: usize| mask & ((1 << u) - 1) == 0 && g > 0;
+        let fact: Vec<u8> = (0..1 << (u + g)).map(|mask| of_fact(mask) as u8).collect();
+        let (table, answers) = (vec![1; fact.len()], vec![1; letters.answer_length()]);
+        let bytes = cases::entries::built(order, 250, u, g, &fact, &table, &answers);
+        let mut read_order = Order([7; 6]);
+        let [mut read_fact, mut read_table] = [(); 2].map(|()| vec![7; fact.len()]);
+        let mut read_answers = vec![7; answers.len()];
+        let read =
+            read_entry(&bytes, &mut read_order, &mut read_fact, &mut read_table, &mut read_answers);
+        assert_eq!(read.map(|reading| reading.length), Ok(bytes.len()));
+        assert_eq!((read_order, read_fact), (order, fact));
+        assert_eq!((read_table, read_answers), (table, answers));
+        lengths.push((bytes.len(), u, g));
+    }
+    assert_eq!(lengths.into_iter().max(), Some((LONGEST_ENTRY, 6, 4)));
 }

@@ -4,6 +4,7 @@
 mod common;
 
 use common::{all_letters, Random};
+use reference::cases::facts::{counted, no_fact, wrong_facts};
 use reference::cases::handed::{NEARLY, SOLVING};
 use reference::cases::orders::wrong_orders;
 use reference::plain::{self, Block, Bytes};
@@ -65,11 +66,6 @@ fn assert_operations_agree<E: Block>(letters: Letters, random: &mut Random) {
         |out| derivative(u, g, &a, s, out),
         |out| plain::derivative::<E>(u, g, &a, s, out),
     );
-    assert_agree(
-        room(letters.answer_length(), random),
-        |out| lowenheim_handed(u, g, &a, &handed, out),
-        |out| plain::lowenheim_handed::<E>(u, g, &a, &handed, out),
-    );
     let state = State(random.below(1 + letters.states() as usize) as u64);
     let choice = Choice(random.below(1 + letters.choices() as usize) as u64);
     assert_eq!(value(u, g, &a, state, choice), plain::value::<E>(u, g, &a, state, choice));
@@ -87,80 +83,100 @@ fn perhaps_wrong(letters: Letters, random: &mut Random) -> Order {
     }
 }
 
-fn assert_solving_agrees<E: Block>(letters: Letters, random: &mut Random) {
+fn assert_solving_agrees<E: Block>(
+    letters: Letters,
+    random: &mut Random,
+    facts: &mut cases::Random,
+) {
     let (u, g) = (letters.unknowns as u64, letters.givens as u64);
-    for condition in [random.table(letters.table_length()), random.solvable(letters)] {
+    let (_, solvable_under_fact) = facts.under_fact(u, g);
+    for condition in
+        [random.table(letters.table_length()), random.solvable(letters), solvable_under_fact]
+    {
         let condition = perhaps_damaged(condition, random);
+        let fact = perhaps_damaged(facts.any_fact(u, g), random);
         let answers = room(letters.answer_length(), random);
         let order = perhaps_wrong(letters, random);
         assert_agree(
             answers,
-            |out| boole(u, g, order, &condition, out),
-            |out| plain::boole::<E>(u, g, order, &condition, out),
+            |out| boole(u, g, order, &fact, &condition, out),
+            |out| plain::boole::<E>(u, g, order, &fact, &condition, out),
         );
         assert_agree(
             answers,
-            |out| particular(u, g, order, &condition, out),
-            |out| plain::particular::<E>(u, g, order, &condition, out),
+            |out| particular(u, g, order, &fact, &condition, out),
+            |out| plain::particular::<E>(u, g, order, &fact, &condition, out),
         );
         assert_agree(
             answers,
-            |out| lowenheim(u, g, order, &condition, out),
-            |out| plain::lowenheim::<E>(u, g, order, &condition, out),
+            |out| lowenheim(u, g, order, &fact, &condition, out),
+            |out| plain::lowenheim::<E>(u, g, order, &fact, &condition, out),
         );
     }
 }
 
-fn assert_read_agrees<E: Block>(bytes: &[u8], condition: usize, answers: usize) {
+/// Into buffers of these lengths, for the fact, the condition and the answers.
+fn assert_read_agrees<E: Block>(bytes: &[u8], [fact, condition, answers]: [usize; 3]) {
+    type Read = fn(&[u8], &mut Order, &mut [u8], &mut [u8], &mut [u8]) -> Result<Reading, Refusal>;
+    let lend = |read: Read, out: &mut [u8]| {
+        let (fact, rest) = out.split_at_mut(fact);
+        let (condition, answers) = rest.split_at_mut(condition);
+        let mut order = Order([7; 6]);
+        (read(bytes, &mut order, fact, condition, answers), order)
+    };
     assert_agree(
-        condition + answers,
-        |out| {
-            let (condition, answers) = out.split_at_mut(condition);
-            let mut order = Order([7; 6]);
-            (read_entry(bytes, &mut order, condition, answers), order)
-        },
-        |out| {
-            let (condition, answers) = out.split_at_mut(condition);
-            let mut order = Order([7; 6]);
-            (plain::read_entry::<E>(bytes, &mut order, condition, answers), order)
-        },
+        fact + condition + answers,
+        |out| lend(read_entry, out),
+        |out| lend(plain::read_entry::<E>, out),
     );
     assert_eq!(audit(bytes), plain::audit::<E>(bytes));
 }
 
-/// An entry as it is written, cut, with a byte changed, and with its answers left out.
-fn assert_entries_agree<E: Block>(letters: Letters, random: &mut Random) {
+/// An entry as it is written, cut, with a byte changed, with another order and with another fact.
+fn assert_entries_agree<E: Block>(
+    letters: Letters,
+    random: &mut Random,
+    facts: &mut cases::Random,
+) {
     let (u, g) = (letters.unknowns as u64, letters.givens as u64);
     for condition in [random.table(letters.table_length()), random.solvable(letters)] {
         let route = random.below(256) as u64;
         let mut entry = vec![7; LONGEST_ENTRY];
-        let order = random.order(letters);
-        let length =
-            write_entry(1 + route % 250, u, g, order, &condition, &mut entry).expect("an entry");
+        let (order, fact) = (random.order(letters), facts.fact(u, g));
+        let length = write_entry(1 + route % 250, u, g, order, &fact, &condition, &mut entry)
+            .expect("an entry");
         entry.truncate(length);
         let lent = perhaps_damaged(condition, random);
+        let lent_fact = if random.below(4) == 0 { facts.any_fact(u, g) } else { fact };
+        let lent_fact = perhaps_damaged(lent_fact, random);
         let order = if random.below(4) == 0 { perhaps_wrong(letters, random) } else { order };
         assert_agree(
             room(length, random),
-            |out| write_entry(route, u, g, order, &lent, out),
-            |out| plain::write_entry::<E>(route, u, g, order, &lent, out),
+            |out| write_entry(route, u, g, order, &lent_fact, &lent, out),
+            |out| plain::write_entry::<E>(route, u, g, order, &lent_fact, &lent, out),
         );
-        let rooms = (room(letters.table_length(), random), room(letters.answer_length(), random));
-        assert_read_agrees::<E>(&entry, rooms.0, rooms.1);
-        assert_read_agrees::<E>(&entry[..random.below(length)], rooms.0, rooms.1);
+        let (table, answers) = (letters.table_length(), letters.answer_length());
+        let rooms = [table, table, answers].map(|needed| room(needed, random));
+        assert_read_agrees::<E>(&entry, rooms);
+        assert_read_agrees::<E>(&entry[..random.below(length)], rooms);
         for _ in 0..20 {
             let mut changed = entry.clone();
             let place = random.below(length);
             changed[place] =
                 [changed[place] ^ 1 << random.below(8), random.below(8) as u8][random.below(2)];
-            assert_read_agrees::<E>(&changed, rooms.0, rooms.1);
+            assert_read_agrees::<E>(&changed, rooms);
         }
         for _ in 0..5 {
             // a kind 6 of any order, right or wrong, in place of the one that is there or of none
-            let rest = if entry[4] == 6 { &entry[11..] } else { &entry[4..] };
+            let start = if entry[4] == 6 { 11 } else { 4 };
             let order = perhaps_wrong(letters, random);
-            let changed = [&entry[..4], &[6], &order.0[..], rest].concat();
-            assert_read_agrees::<E>(&changed, rooms.0, rooms.1);
+            let changed = [&entry[..4], &[6], &order.0[..], &entry[start..]].concat();
+            assert_read_agrees::<E>(&changed, rooms);
+            // one more kind 7, mostly wrong
+            let mask = random.below(table + 1 + table / 4);
+            let record = [7, mask as u8, (mask >> 8) as u8];
+            let changed = [&entry[..start], &record, &entry[start..]].concat();
+            assert_read_agrees::<E>(&changed, rooms);
         }
     }
 }
@@ -173,18 +189,54 @@ fn calls_agree() {
 
 fn calls_agree_as<E: Block>() {
     let mut random = Random(99);
+    let facts = &mut cases::Random::new('f');
     for letters in all_letters(6) {
         for _ in 0..10 {
             assert_operations_agree::<E>(letters, &mut random);
-            assert_solving_agrees::<E>(letters, &mut random);
-            assert_entries_agree::<E>(letters, &mut random);
+            assert_solving_agrees::<E>(letters, &mut random, facts);
+            assert_entries_agree::<E>(letters, &mut random, facts);
         }
     }
     for (unknowns, givens) in [(0, 8), (1, 8), (2, 8), (3, 6), (4, 4), (5, 5), (6, 4)] {
         let letters = Letters { unknowns, givens };
         assert_operations_agree::<E>(letters, &mut random);
-        assert_solving_agrees::<E>(letters, &mut random);
-        assert_entries_agree::<E>(letters, &mut random);
+        assert_solving_agrees::<E>(letters, &mut random, facts);
+        assert_entries_agree::<E>(letters, &mut random, facts);
+    }
+}
+
+/// Facts for which question 22 or 23 is answered no, in every call that takes one.
+#[test]
+fn wrong_facts_agree() {
+    wrong_facts_agree_as::<Bytes>();
+    wrong_facts_agree_as::<u64>();
+}
+
+fn wrong_facts_agree_as<E: Block>() {
+    let random = &mut cases::Random::new('q');
+    for (u, g) in cases::pairs(0, 10) {
+        let condition = random.solvable(u, g);
+        let handed = vec![0; u as usize * condition.len()];
+        let order = random.order(u);
+        for fact in wrong_facts(u, g) {
+            assert_agree(
+                handed.len(),
+                |out| boole(u, g, order, &fact, &condition, out),
+                |out| plain::boole::<E>(u, g, order, &fact, &condition, out),
+            );
+            assert_agree(
+                handed.len(),
+                |out| lowenheim_handed(u, g, &fact, &condition, &handed, out),
+                |out| plain::lowenheim_handed::<E>(u, g, &fact, &condition, &handed, out),
+            );
+            assert_agree(
+                0,
+                |out| write_entry(9, u, g, order, &fact, &condition, out),
+                |out| plain::write_entry::<E>(9, u, g, order, &fact, &condition, out),
+            );
+            let entry = cases::entries::built(order, 9, u, g, &fact, &condition, &handed);
+            assert_read_agrees::<E>(&entry, [0, 0, 0]);
+        }
     }
 }
 
@@ -198,21 +250,21 @@ fn handed_agree() {
 
 fn handed_agree_as<E: Block>() {
     let random = &mut cases::Random::new('P');
-    let mut counts = [0; 22];
+    let mut counts = [0; 24];
     for (u, g) in cases::pairs(0, 10) {
-        let state = random.below(1 << g);
-        let conditions = [random.solvable(u, g), random.blocked(u, g, state)];
         for kind in SOLVING.into_iter().chain(NEARLY) {
-            for condition in &conditions {
-                let handed = random.handed(kind, u, g, condition);
-                let number = assert_handed_agrees::<E>(u, g, condition.clone(), handed, random);
-                counts[number as usize] += 1;
+            for fact_is_there in [false, true] {
+                let (fact, condition) = random.under_fact(u, g);
+                let fact = if fact_is_there { fact } else { no_fact(u, g) };
+                let handed = random.handed(kind, u, g, &counted(&fact, &condition));
+                let lent = [fact, condition, handed];
+                counts[assert_handed_agrees::<E>(u, g, lent, random) as usize] += 1;
             }
         }
         let handed = random.simple(u, g);
         let condition = random.made_zero_by(u, g, &handed);
-        let number = assert_handed_agrees::<E>(u, g, condition, handed, random);
-        counts[number as usize] += 1;
+        let lent = [random.any_fact(u, g), condition, handed];
+        counts[assert_handed_agrees::<E>(u, g, lent, random) as usize] += 1;
     }
     for number in [0, 4, 8, 21] {
         assert!(counts[number] > 50, "{number}: {}", counts[number]);
@@ -223,31 +275,31 @@ fn handed_agree_as<E: Block>() {
 fn assert_handed_agrees<E: Block>(
     u: u64,
     g: u64,
-    mut condition: Vec<u8>,
-    mut handed: Vec<u8>,
+    mut lent: [Vec<u8>; 3],
     random: &mut cases::Random,
 ) -> u8 {
-    let (first, second) = (condition.len(), handed.len());
-    let mut size = second;
-    match random.below(8) {
-        0 => random.spoil(&mut condition, first),
-        1 => random.spoil(&mut handed, second),
-        2 => {
-            random.fit(&mut condition);
-            random.fit(&mut handed);
+    let mut size = lent[2].len();
+    match random.below(10) {
+        place @ 0..3 => {
+            let length = lent[place].len();
+            random.spoil(&mut lent[place], length);
+        }
+        3 => {
+            lent.iter_mut().for_each(|table| random.fit(table));
             size = random.size(size);
         }
         _ => {}
     }
+    let [fact, condition, handed] = &lent;
     let mut number = 0;
     assert_agree(
         size,
         |out| {
-            let answer = lowenheim_handed(u, g, &condition, &handed, out);
+            let answer = lowenheim_handed(u, g, fact, condition, handed, out);
             number = answer.map_or_else(|refusal| refusal.0, |()| 0);
             answer
         },
-        |out| plain::lowenheim_handed::<E>(u, g, &condition, &handed, out),
+        |out| plain::lowenheim_handed::<E>(u, g, fact, condition, handed, out),
     );
     number
 }
@@ -265,11 +317,13 @@ fn too_many_letters_agree_as<E: Block>() {
         assert_eq!(plain::read_text::<E>(u, g, b"u", &mut buffer), Err(Refusal(1)));
         assert_eq!(plain::sum::<E>(u, g, &table, &table, &mut buffer), Err(Refusal(1)));
         assert_eq!(plain::derivative::<E>(u, g, &table, 4096, &mut buffer), Err(Refusal(1)));
-        let handed = plain::lowenheim_handed::<E>(u, g, &table, &table, &mut buffer);
+        let handed = plain::lowenheim_handed::<E>(u, g, &table, &table, &table, &mut buffer);
         assert_eq!(handed, Err(Refusal(1)));
         let order = Order([7; 6]);
-        assert_eq!(plain::boole::<E>(u, g, order, &table, &mut buffer), Err(Refusal(1)));
-        assert_eq!(plain::write_entry::<E>(0, u, g, order, &table, &mut buffer), Err(Refusal(1)));
+        let boole = plain::boole::<E>(u, g, order, &table, &table, &mut buffer);
+        assert_eq!(boole, Err(Refusal(1)));
+        let written = plain::write_entry::<E>(0, u, g, order, &table, &table, &mut buffer);
+        assert_eq!(written, Err(Refusal(1)));
         assert_eq!(buffer, [7; 2048]);
     }
 }
@@ -383,6 +437,7 @@ fn walks_agree() {
 
 fn walks_agree_as<E: Block>() {
     let mut random = Random(31);
+    let facts = &mut cases::Random::new('w');
     for _ in 0..20 {
         let (mut volume, mut places) = (Vec::new(), vec![0, usize::MAX]);
         for route in 1..=random.below(12) as u64 {
@@ -390,8 +445,9 @@ fn walks_agree_as<E: Block>() {
             let (u, g) = (letters.unknowns as u64, letters.givens as u64);
             let mut entry = vec![0; LONGEST_ENTRY];
             let condition = random.table(letters.table_length());
-            let order = random.order(letters);
-            let length = write_entry(route, u, g, order, &condition, &mut entry).expect("an entry");
+            let (order, fact) = (random.order(letters), facts.fact(u, g));
+            let length =
+                write_entry(route, u, g, order, &fact, &condition, &mut entry).expect("an entry");
             volume.extend(&entry[..length]);
             places.extend([volume.len(), volume.len() - 1]);
         }
@@ -408,13 +464,13 @@ fn walks_agree_as<E: Block>() {
     }
 }
 
-/// Every damaged entry, kind 6 too.
+/// Every damaged entry, kinds 6 and 7 too.
 #[test]
 fn damaged_entries_agree() {
     for bytes in cases::entries::damaged_entries(&mut cases::Random::new('d')) {
-        for (condition, answers) in [(1024, 6144), (8, 16), (0, 0)] {
-            assert_read_agrees::<Bytes>(&bytes, condition, answers);
-            assert_read_agrees::<u64>(&bytes, condition, answers);
+        for lengths in [[1024, 1024, 6144], [8, 8, 16], [8, 0, 0], [0, 8, 16]] {
+            assert_read_agrees::<Bytes>(&bytes, lengths);
+            assert_read_agrees::<u64>(&bytes, lengths);
         }
     }
 }

@@ -1,6 +1,7 @@
 // Support for the test programs: fields of a line that describes a call, and printing what came back.
 // A line is `CALL U G X Y SIZE SIZE2 A B`, one space between the fields; A and B are bytes, a digit each, or `-` for none.
-// Where a call takes an order, Y is its six bytes, two hexadecimal digits each.
+// Where a call takes an order, Y is its six bytes, two hexadecimal digits each; of the handed form it is the handed polynomials, a digit
+// each. Where a call takes a fact, A is the fact and B the condition; where it fills one, X is the length of its buffer.
 // The contracts say what the programs need to index safely. Those that print promise nothing, since the contracts of `io` say nothing of what a
 // descriptor receives: what is printed is compared with stored output.
 use libc::STDOUT_FILENO;

@@ -32,7 +32,7 @@ fn show_verdict(verdict: Verdict) {
     }
 }
 
-fn show_read(r: Read, order: [u8; 6], condition: &[u8], answers: &[u8]) {
+fn show_read(r: Read, order: [u8; 6], fact: &[u8], condition: &[u8], answers: &[u8]) {
     match r {
         Read::Entry(heading, verdict) => {
             show_verdict(verdict);
@@ -41,21 +41,22 @@ fn show_read(r: Read, order: [u8; 6], condition: &[u8], answers: &[u8]) {
         Read::Refused(q) => cases::show_refused(q),
     }
     cases::show_hex(&order);
+    cases::show_digits(fact);
     cases::show_digits(condition);
     cases::show_digits(answers);
     cases::show_line_end();
 }
 
 // One call on buffers of the stated lengths.
-fn write(f: cases::Fields, order: [u8; 6], condition: &[u8], out: &mut [u8]) {
-    let r = writer::write_entry(f.x, f.unknowns, f.givens, order, condition, out);
+fn write(f: cases::Fields, order: [u8; 6], fact: &[u8], condition: &[u8], out: &mut [u8]) {
+    let r = writer::write_entry(f.x, f.unknowns, f.givens, order, fact, condition, out);
     show_written(r, out);
 }
 
-fn read(bytes: &[u8], condition: &mut [u8], answers: &mut [u8]) {
+fn read(bytes: &[u8], fact: &mut [u8], condition: &mut [u8], answers: &mut [u8]) {
     let mut order = [7u8; 6];
-    let r = reader::read_entry(bytes, &mut order, condition, answers);
-    show_read(r, order, condition, answers);
+    let r = reader::read_entry(bytes, &mut order, fact, condition, answers);
+    show_read(r, order, fact, condition, answers);
 }
 
 fn run_write(line: &[u8], f: cases::Fields, order: [u8; 6]) {
@@ -63,13 +64,19 @@ fn run_write(line: &[u8], f: cases::Fields, order: [u8; 6]) {
     if line.len() < at {
         return;
     }
+    let at2 = f.b;
+    if line.len() < at2 {
+        return;
+    }
     let mut a = io::large_buffer();
     let na = cases::digits(line, at, &mut a);
+    let mut b = io::large_buffer();
+    let nb = cases::digits(line, at2, &mut b);
     let mut out = io::large_buffer();
     cases::mark(&mut out);
     let size = f.size;
     if size <= 65536 {
-        write(f, order, &a[..na], &mut out[..size]);
+        write(f, order, &a[..na], &b[..nb], &mut out[..size]);
     }
 }
 
@@ -80,15 +87,25 @@ fn run_read(line: &[u8], f: cases::Fields) {
     }
     let mut b = io::large_buffer();
     let nb = cases::hex_bytes(line, at, &mut b);
+    let mut fact = io::large_buffer();
+    cases::mark(&mut fact);
     let mut condition = io::large_buffer();
     cases::mark(&mut condition);
     let mut answers = io::large_buffer();
     cases::mark(&mut answers);
+    let x = f.x;
     let size = f.size;
     let size2 = f.size2;
-    if size <= 65536 {
-        if size2 <= 65536 {
-            read(&b[..nb], &mut condition[..size], &mut answers[..size2]);
+    if x <= 65536 {
+        if size <= 65536 {
+            if size2 <= 65536 {
+                read(
+                    &b[..nb],
+                    &mut fact[..x],
+                    &mut condition[..size],
+                    &mut answers[..size2],
+                );
+            }
         }
     }
 }

@@ -24,30 +24,37 @@ fn show_solving(r: Solving, answers: &[u8]) {
 }
 
 // One call on buffers of the stated lengths.
-fn call(f: cases::Fields, order: [u8; 6], condition: &[u8], handed: &[u8], answers: &mut [u8]) {
+fn call(
+    f: cases::Fields,
+    order: [u8; 6],
+    fact: &[u8],
+    condition: &[u8],
+    handed: &[u8],
+    answers: &mut [u8],
+) {
     let name = f.call;
     if name == b'b' {
-        let r = solver::boole(f.unknowns, f.givens, order, condition, answers);
+        let r = solver::boole(f.unknowns, f.givens, order, fact, condition, answers);
         show_solving(r, answers);
         return;
     }
     if name == b'p' {
-        let r = solver::particular(f.unknowns, f.givens, order, condition, answers);
+        let r = solver::particular(f.unknowns, f.givens, order, fact, condition, answers);
         show_solving(r, answers);
         return;
     }
     if name == b'l' {
-        let r = solver::lowenheim(f.unknowns, f.givens, order, condition, answers);
+        let r = solver::lowenheim(f.unknowns, f.givens, order, fact, condition, answers);
         show_solving(r, answers);
         return;
     }
     if name == b'h' {
-        let r = solver::lowenheim_handed(f.unknowns, f.givens, condition, handed, answers);
+        let r = solver::lowenheim_handed(f.unknowns, f.givens, fact, condition, handed, answers);
         cases::show_outcome(r, answers);
     }
 }
 
-// A line, taken apart.
+// A line, taken apart. The handed form takes no order: the handed polynomials stand in its place.
 fn run(line: &[u8]) {
     if line.len() == 0 {
         return;
@@ -58,11 +65,13 @@ fn run(line: &[u8]) {
     let na = cases::digits(line, f.a, &mut a);
     let mut b = io::large_buffer();
     let nb = cases::digits(line, f.b, &mut b);
+    let mut h = io::large_buffer();
+    let nh = cases::digits(line, f.order, &mut h);
     let mut out = io::large_buffer();
     cases::mark(&mut out);
     let size = f.size;
     if size <= 65536 {
-        call(f, order, &a[..na], &b[..nb], &mut out[..size]);
+        call(f, order, &a[..na], &b[..nb], &h[..nh], &mut out[..size]);
     }
 }
 

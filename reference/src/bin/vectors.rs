@@ -4,6 +4,8 @@
 
 #[path = "vectors/entry.rs"]
 mod entry;
+#[path = "vectors/facts.rs"]
+mod facts;
 #[path = "vectors/handed.rs"]
 mod handed;
 #[path = "vectors/lines.rs"]

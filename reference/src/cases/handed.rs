@@ -1,12 +1,13 @@
 //! Handed polynomials as test cases: those that make a condition zero, and those that nearly do.
 //! Most are made from the choice that they lead to at each point, which is a state and a choice.
 
+use super::facts::no_fact;
 use super::Random;
 use crate::plain::{self, transform};
 use crate::questions::{Order, Refusal};
 use crate::solution::Solved;
 
-type Method = fn(u64, u64, Order, &[u8], &mut [u8]) -> Result<Solved, Refusal>;
+type Method = fn(u64, u64, Order, &[u8], &[u8], &mut [u8]) -> Result<Solved, Refusal>;
 
 /// How handed polynomials are made for a condition.
 #[derive(Clone, Copy, Debug, PartialEq, Eq)]
@@ -79,7 +80,7 @@ impl Random {
     fn solved(&mut self, u: u64, g: u64, condition: &[u8], method: Method) -> Vec<u8> {
         let mut answers = vec![0; u as usize * condition.len()];
         let order = self.order(u);
-        method(u, g, order, condition, &mut answers).expect("right arguments");
+        method(u, g, order, &no_fact(u, g), condition, &mut answers).expect("right arguments");
         answers
     }
 

@@ -1,5 +1,6 @@
 //! The calls on lent tables, with the questions of `crate::calls`.
 
+use super::fact;
 use super::solving::{self, ask_order, Answers};
 use super::table::Table;
 use super::text::text_values;
@@ -11,8 +12,12 @@ use crate::questions::{
 use crate::solution::Solved;
 
 /// 8: one union of all bytes, with no early way out, so that it goes by vectors.
-pub fn ask_bits(table: &[u8]) -> Result<(), Refusal> {
-    ask(8, table.iter().fold(0, |all, byte| all | byte) <= 1)
+///
+/// Answers whether any byte is 1.
+pub fn ask_bits(table: &[u8]) -> Result<bool, Refusal> {
+    let all = table.iter().fold(0, |all, byte| all | byte);
+    ask(8, all <= 1)?;
+    Ok(all == 1)
 }
 
 /// Reads a text into the condition buffer. Questions 1, 3, 4, 5, 6, 7.
@@ -118,9 +123,14 @@ pub fn substitute<B: Block>(
     result: &mut [u8],
 ) -> Result<(), Refusal> {
     let letters = ask_letters(u, g)?;
-    ask_length(result, letters.table_length())?;
-    let (condition, handed) = ask_handed(letters, condition, handed)?;
-    let result = &mut result[..letters.table_length()];
+    let (length, answer_length) = (letters.table_length(), letters.answer_length());
+    ask_length(condition, length)?;
+    ask_length(handed, answer_length)?;
+    ask_length(result, length)?;
+    let (condition, handed) = (&condition[..length], &handed[..answer_length]);
+    ask_bits(condition)?;
+    ask_bits(handed)?;
+    let result = &mut result[..length];
     for_blocks!(B, letters.count(), put_substituted(letters, condition, handed, result));
     Ok(())
 }
@@ -168,89 +178,94 @@ fn put_derivative<B: Block, const K: usize>(table: &[u8], mask: usize, result: &
     B::derivative::<K>(table, mask, result);
 }
 
-/// Boole's answer. Questions 1, 17, 4, 8, 9.
+/// Boole's answer. Questions 1, 17, 4, 8, 22, 23, 9.
 pub fn boole<B: Block>(
     u: u64,
     g: u64,
     order: Order,
+    fact: &[u8],
     condition: &[u8],
     answers: &mut [u8],
 ) -> Result<Solved, Refusal> {
-    let (letters, order, condition, answers) = ask_solving(u, g, &order, condition, answers)?;
-    Ok(for_blocks!(B, letters.count(), put_boole(letters, order, condition, answers)))
+    let (letters, order, lent, answers) = ask_solving(u, g, &order, fact, condition, answers)?;
+    for_blocks!(B, letters.count(), put_boole(letters, order, lent, answers))
 }
 
 fn put_boole<B: Block, const K: usize>(
     letters: Letters,
     order: &[u8],
-    condition: &[u8],
+    lent: fact::Lent,
     answers: &mut [u8],
-) -> Solved {
-    let f = Table::<B, K>::from_bytes(condition).transformed();
-    put_answers(letters, solving::boole(order, f), answers)
+) -> Result<Solved, Refusal> {
+    let f = lent.tables::<B, K>(letters)?.values();
+    Ok(put_answers(letters, solving::boole(order, f), answers))
 }
 
-/// The particular solution. Questions 1, 17, 4, 8, 9.
+/// The particular solution. Questions 1, 17, 4, 8, 22, 23, 9.
 pub fn particular<B: Block>(
     u: u64,
     g: u64,
     order: Order,
+    fact: &[u8],
     condition: &[u8],
     answers: &mut [u8],
 ) -> Result<Solved, Refusal> {
-    let (letters, order, condition, answers) = ask_solving(u, g, &order, condition, answers)?;
-    Ok(for_blocks!(B, letters.count(), put_particular(letters, order, condition, answers)))
+    let (letters, order, lent, answers) = ask_solving(u, g, &order, fact, condition, answers)?;
+    for_blocks!(B, letters.count(), put_particular(letters, order, lent, answers))
 }
 
 fn put_particular<B: Block, const K: usize>(
     letters: Letters,
     order: &[u8],
-    condition: &[u8],
+    lent: fact::Lent,
     answers: &mut [u8],
-) -> Solved {
-    let f = Table::<B, K>::from_bytes(condition).transformed();
-    put_answers(letters, solving::particular(order, f), answers)
+) -> Result<Solved, Refusal> {
+    let f = lent.tables::<B, K>(letters)?.values();
+    Ok(put_answers(letters, solving::particular(order, f), answers))
 }
 
-/// The own Löwenheim answer. Questions 1, 17, 4, 8, 9.
+/// The own Löwenheim answer. Questions 1, 17, 4, 8, 22, 23, 9.
 pub fn lowenheim<B: Block>(
     u: u64,
     g: u64,
     order: Order,
+    fact: &[u8],
     condition: &[u8],
     answers: &mut [u8],
 ) -> Result<Solved, Refusal> {
-    let (letters, order, condition, answers) = ask_solving(u, g, &order, condition, answers)?;
-    Ok(for_blocks!(B, letters.count(), put_lowenheim(letters, order, condition, answers)))
+    let (letters, order, lent, answers) = ask_solving(u, g, &order, fact, condition, answers)?;
+    for_blocks!(B, letters.count(), put_lowenheim(letters, order, lent, answers))
 }
 
 fn put_lowenheim<B: Block, const K: usize>(
     letters: Letters,
     order: &[u8],
-    condition: &[u8],
+    lent: fact::Lent,
     answers: &mut [u8],
-) -> Solved {
-    let f = Table::<B, K>::from_bytes(condition).transformed();
-    put_answers(letters, solving::lowenheim(order, f), answers)
+) -> Result<Solved, Refusal> {
+    let f = lent.tables::<B, K>(letters)?.values();
+    Ok(put_answers(letters, solving::lowenheim(order, f), answers))
 }
 
-type Lent<'a> = (Letters, &'a [u8], &'a [u8], &'a mut [u8]);
+type Solving<'a> = (Letters, &'a [u8], fact::Lent<'a>, &'a mut [u8]);
 
-/// Questions 1, 17, 4 and 8 of an order, a condition and an answer buffer, each cut to its length.
+/// Questions 1, 17, 4 and 8 of an order, a fact, a condition and an answer buffer, each cut to its
+/// length.
 fn ask_solving<'a>(
     u: u64,
     g: u64,
     order: &'a Order,
+    fact: &'a [u8],
     condition: &'a [u8],
     answers: &'a mut [u8],
-) -> Result<Lent<'a>, Refusal> {
+) -> Result<Solving<'a>, Refusal> {
     let letters = ask_letters(u, g)?;
     let order = ask_order(letters, order)?;
+    ask_length(fact, letters.table_length())?;
     ask_length(condition, letters.table_length())?;
     ask_length(answers, letters.answer_length())?;
-    let condition = &condition[..letters.table_length()];
-    ask_bits(condition)?;
-    Ok((letters, order, condition, &mut answers[..letters.answer_length()]))
+    let lent = fact::Lent::ask(letters, fact, condition)?;
+    Ok((letters, order, lent, &mut answers[..letters.answer_length()]))
 }
 
 fn put_answers<B: Block, const K: usize>(
@@ -278,48 +293,40 @@ fn put_tables<B: Block, const K: usize>(
     }
 }
 
-/// Löwenheim's formula with handed polynomials that make the condition zero. Questions 1, 4, 8, 21.
+/// Löwenheim's formula with handed polynomials that make f*(1 + g) zero.
+/// Questions 1, 4, 8, 22, 23, 21.
 pub fn lowenheim_handed<B: Block>(
     u: u64,
     g: u64,
+    fact: &[u8],
     condition: &[u8],
     handed: &[u8],
     answers: &mut [u8],
 ) -> Result<(), Refusal> {
     let letters = ask_letters(u, g)?;
-    ask_length(answers, letters.answer_length())?;
-    let (condition, handed) = ask_handed(letters, condition, handed)?;
-    let answers = &mut answers[..letters.answer_length()];
-    for_blocks!(B, letters.count(), put_formula(letters, condition, handed, answers))
+    let (length, answer_length) = (letters.table_length(), letters.answer_length());
+    ask_length(fact, length)?;
+    ask_length(condition, length)?;
+    ask_length(handed, answer_length)?;
+    ask_length(answers, answer_length)?;
+    let lent = fact::Lent::ask(letters, fact, condition)?;
+    let (handed, answers) = (&handed[..answer_length], &mut answers[..answer_length]);
+    ask_bits(handed)?;
+    for_blocks!(B, letters.count(), put_formula(letters, lent, handed, answers))
 }
 
 /// Question 21 on values, so that nothing goes back to coefficients before it is answered; the
 /// formula takes the same values.
 fn put_formula<B: Block, const K: usize>(
     letters: Letters,
-    condition: &[u8],
+    lent: fact::Lent,
     handed: &[u8],
     answers: &mut [u8],
 ) -> Result<(), Refusal> {
-    let f = Table::<B, K>::from_bytes(condition).transformed();
+    let f = lent.tables::<B, K>(letters)?.values();
     let mut b = handed_values(letters, handed);
     ask(21, f.is_made_zero_by(&b[..letters.unknowns]))?;
     solving::formula(&f, &mut b[..letters.unknowns]);
     put_tables(letters, &b, answers);
     Ok(())
-}
-
-/// Questions 4 and 8 of a condition and handed polynomials, each cut to its length.
-fn ask_handed<'a>(
-    letters: Letters,
-    condition: &'a [u8],
-    handed: &'a [u8],
-) -> Result<(&'a [u8], &'a [u8]), Refusal> {
-    ask_length(condition, letters.table_length())?;
-    ask_length(handed, letters.answer_length())?;
-    let (condition, handed) =
-        (&condition[..letters.table_length()], &handed[..letters.answer_length()]);
-    ask_bits(condition)?;
-    ask_bits(handed)?;
-    Ok((condition, handed))
 }

@@ -47,8 +47,8 @@ impl Format for Hexadecimal {
         line[2 * N] = b'\n';
     }
 
-    fn put_condition<const K: usize>(masks: &Written<K>, room: &mut &mut [u8]) {
-        put_each(masks, room, |mask| line::<2, 7>(*b"02", &MASKS[mask]));
+    fn put_monomials<const K: usize>(kind: u8, masks: &Written<K>, room: &mut &mut [u8]) {
+        put_each(masks, room, |mask| line::<2, 7>(DIGITS[kind as usize], &MASKS[mask]));
     }
 
     fn put_answer<const K: usize>(unknown: u8, masks: &Written<K>, room: &mut &mut [u8]) {

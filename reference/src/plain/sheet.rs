@@ -1,6 +1,7 @@
 //! The program `sheet`.
 
 use super::entry::Entry;
+use super::fact::UnderFact;
 use super::hexadecimal::Hexadecimal;
 use super::text::text_values;
 use super::{for_blocks, Block};
@@ -54,7 +55,8 @@ fn print_records<B: Block, const K: usize>(
     let values = text_values::<B, K>(letters, fields.text)?;
     ask(15, fields.route > last_route)?;
     let order = Order::default_for(letters.unknowns);
-    let entry = Entry::new(fields.route as u8, letters, order, &values.transformed(), values);
+    let asked = UnderFact { fact: None, condition: values.transformed() };
+    let entry = Entry::new(fields.route as u8, letters, order, &asked, values);
     let end = printed.len();
     printed.resize(end + entry.length::<Hexadecimal>(), 0);
     entry.put::<Hexadecimal>(&mut printed[end..]);

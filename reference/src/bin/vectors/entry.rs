@@ -1,10 +1,13 @@
 //! Cases for writing and reading an entry.
 
+use crate::facts::add_facts;
 use crate::lines::Lines;
-use reference::cases::entries::{any_entry, damaged_entries, entry, entry_in};
+use reference::cases::entries::{any_entry, built, damaged_entries, entry, entry_in, entry_under};
+use reference::cases::facts::{leaving_out, wrong_facts};
 use reference::cases::orders::{default_order, every_order, wrong_orders};
 use reference::cases::{bench_tables, pairs, Random, TOO_LARGE};
 use reference::Order;
+use std::array::from_fn;
 
 pub fn add_writings(lines: &mut Lines) {
     let random = &mut Random::new('w');
@@ -32,7 +35,7 @@ pub fn add_writings(lines: &mut Lines) {
     add_orders(lines, random);
     for (u, g) in pairs(0, 4) {
         add_wrong_writings(lines, random, u, g);
-        for _ in 0..10 {
+        for _ in 0..6 {
             add_any_writing(lines, random, u, g);
         }
     }
@@ -42,9 +45,12 @@ pub fn add_writings(lines: &mut Lines) {
         lines.writing(7, (u, g, default_order(u)), &table, entry(7, u, g, &table).len());
     }
     for (u, g) in pairs(5, 10) {
-        let (table, order, length) = table_for_line(random, u, g, 1_900);
-        lines.writing(1 + random.below(250) as u64, (u, g, order), &table, length);
+        let (table, order, _) = table_for_line(random, u, g, 1_600);
+        let fact = random.fact(u, g);
+        let length = entry_under(order, 1, u, g, &fact, &table).len();
+        lines.writing_under(1 + random.below(250) as u64, (u, g, order), &fact, &table, length);
     }
+    add_facts(lines, 'w');
 }
 
 /// Every order of two and three unknowns on the same conditions, solvable and not, with room for
@@ -63,7 +69,9 @@ fn add_orders(lines: &mut Lines, random: &mut Random) {
     }
     for u in 0..=6 {
         for order in wrong_orders(u) {
-            lines.writing(250, (u, 0, order), &[7], 0);
+            if random.once_in(3) {
+                lines.writing_under(250, (u, 0, order), &[7], &[7], 0);
+            }
             if u < 3 {
                 lines.writing(250, (u, 0, order), &vec![0; 1 << u], 30);
             }
@@ -121,43 +129,60 @@ pub fn table_for_line(random: &mut Random, u: u64, g: u64, most: usize) -> (Vec<
     }
 }
 
+/// A whole entry that question 22 or 23 refuses.
+pub fn with_wrong_fact(random: &mut Random, u: u64, g: u64) -> Vec<u8> {
+    let wrong = wrong_facts(u, g);
+    let fact = &wrong[random.below(wrong.len())];
+    built(random.order(u), 9, u, g, fact, &random.solvable(u, g), &[])
+}
+
 pub fn add_readings(lines: &mut Lines) {
     let random = &mut Random::new('r');
     for (u, g, table) in bench_tables() {
         let bytes = entry(1 + random.below(250) as u64, u, g, &table);
         let (exact, exact2) = (table.len(), u as usize * table.len());
-        for (size, size2) in [(0, 0), (3, 1), (0, 1), (1, 0)] {
-            lines.reading(&bytes, exact + size, exact2 + size2);
-            lines.reading(&bytes, exact.saturating_sub(size), exact2.saturating_sub(size2));
+        let sizes = [exact, exact, exact2];
+        for other in [[0, 0, 0], [2, 3, 1], [0, 0, 1], [0, 1, 0], [1, 0, 0]] {
+            lines.reading(&bytes, from_fn(|k| sizes[k] + other[k]));
+            lines.reading(&bytes, from_fn(|k| sizes[k].saturating_sub(other[k])));
         }
-        lines.reading(&bytes, 0, exact2);
-        lines.reading(&bytes, exact, 0);
-        lines.reading(&[&bytes[..], &[4, 7, 0]].concat(), exact, exact2);
+        lines.reading(&bytes, [0, exact, exact2]);
+        lines.reading(&bytes, [exact, 0, exact2]);
+        lines.reading(&bytes, [exact, exact, 0]);
+        lines.reading(&[&bytes[..], &[4, 7, 0]].concat(), sizes);
     }
     for order in every_order(3) {
         for table in [random.solvable(3, 1), random.blocked(3, 1, 1)] {
             let bytes = entry_in(order, 7, 3, 1, &table);
-            lines.reading(&bytes, 16, 48);
-            lines.reading(&bytes, 16, 47);
+            lines.reading(&bytes, [16, 16, 48]);
+            lines.reading(&bytes, [16, 16, 47]);
         }
     }
     for bytes in damaged_entries(random) {
-        let (size, size2) = (random.size(8), random.size(16));
-        lines.reading(&bytes, size, size2);
+        // of the longer ones a sample, so that the files stay small
+        if bytes.len() < 20 || random.once_in(2) {
+            let sizes = [8, 8, 16].map(|size| random.size(size));
+            lines.reading(&bytes, sizes);
+        }
     }
     for (u, g) in pairs(0, 4) {
-        for _ in 0..6 {
+        for _ in 0..8 {
             let bytes = any_entry(random, u, g);
             let length = 1 << (u + g);
-            let (size, size2) = (random.size(length), random.size(u as usize * length));
-            lines.reading(&bytes, size, size2);
+            let sizes = [length, length, u as usize * length].map(|size| random.size(size));
+            lines.reading(&bytes, sizes);
+        }
+        for _ in 0..3 {
+            lines.reading(&with_wrong_fact(random, u, g), [0, 16, 64]);
         }
     }
     for (u, g) in [(2, 3), (3, 3), (0, 8), (1, 8), (2, 8), (4, 4), (5, 4), (6, 4)] {
-        let (table, order, _) = table_for_line(random, u, g, 3_900);
-        let bytes = entry_in(order, 200, u, g, &table);
-        lines.reading(&bytes, table.len(), u as usize * table.len());
-        lines.reading(&bytes, table.len() - 1, u as usize);
+        let (table, order, _) = table_for_line(random, u, g, 3_000);
+        // 1 in the last state: the monomial of all givens
+        let fact = leaving_out(u, g, |state| state + 1 == 1 << g);
+        let bytes = entry_under(order, 200, u, g, &fact, &table);
+        lines.reading(&bytes, [table.len(), table.len(), u as usize * table.len()]);
     }
-    lines.reading(&entry(3, 2, 8, &random.blocked(2, 8, 255)[..1024]), 1024, 2048);
+    let none = entry(3, 2, 8, &random.blocked(2, 8, 255));
+    lines.reading(&none, [1024, 1024, 2048]);
 }

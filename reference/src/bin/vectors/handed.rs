@@ -1,6 +1,7 @@
 //! Cases for Löwenheim's formula on handed polynomials: those that make the condition zero, those
 //! that nearly do, and damaged ones of both. Most mention unknowns.
 
+use crate::facts::add_facts;
 use crate::lines::Lines;
 use crate::operations::{add_any_tables, add_wrong_tables};
 use reference::cases::handed::{Kind, NEARLY, ROWS, SOLVING};
@@ -27,6 +28,7 @@ pub fn add_handed(lines: &mut Lines) {
         add_damaged(lines, random, u, g);
     }
     add_large_ones(lines, random);
+    add_facts(lines, 'h');
 }
 
 fn add_kind(
@@ -80,14 +82,13 @@ fn add_kinds(lines: &mut Lines, random: &mut Random, u: u64, g: u64) {
     }
 }
 
-/// One that solves and one that does not, with each wrong thing by itself, then two; and any.
+/// One that solves or one that does not, with each wrong thing by itself, then two; and any.
 fn add_damaged(lines: &mut Lines, random: &mut Random, u: u64, g: u64) {
-    for kind in [Kind::OverLetters, Kind::ButOnePoint] {
-        let condition = random.solvable(u, g);
-        let handed = random.handed(kind, u, g, &condition);
-        add_wrong_tables(lines, 'h', random, (u, g), &condition, &handed);
-    }
-    for kind in kinds(u) {
+    let condition = random.solvable(u, g);
+    let kind = [Kind::OverLetters, Kind::ButOnePoint][g as usize % 2];
+    let handed = random.handed(kind, u, g, &condition);
+    add_wrong_tables(lines, 'h', random, (u, g), &condition, &handed);
+    for kind in kinds(u).step_by(2) {
         let condition = random.solvable(u, g);
         let handed = random.handed(kind, u, g, &condition);
         add_any_tables(lines, 'h', random, (u, g), condition, handed);
@@ -102,21 +103,16 @@ fn add_large_ones(lines: &mut Lines, random: &mut Random) {
             add_kind(lines, random, kind, (u, g), &condition);
         }
     };
-    for (u, g) in pairs(5, 6) {
-        add(random, (u, g), &[Kind::OverLetters, Kind::ButOnePoint]);
-    }
-    for (u, g) in pairs(7, 7) {
+    for (u, g) in pairs(5, 7) {
         add(random, (u, g), &[[Kind::OverLetters, Kind::ButOnePoint][g as usize % 2]]);
     }
     for (u, g, kinds) in [
-        (1, 8, &[Kind::OverLetters, Kind::ButOneState][..]),
+        (1, 8, &[Kind::ButOneState][..]),
         (2, 6, &[Kind::Lowenheim]),
-        (2, 8, &[Kind::OverLetters, Kind::ButOnePoint]),
+        (2, 8, &[Kind::ButOnePoint]),
         (3, 6, &[Kind::Boole]),
-        (3, 7, &[Kind::ButOneMonomial]),
         (4, 4, &[Kind::OverGivens, Kind::UnknownsAtZero]),
-        (6, 2, &[Kind::Boole, Kind::ButOnePoint]),
-        (6, 4, &[Kind::OverLetters, Kind::ButOnePoint]),
+        (6, 4, &[Kind::OverLetters]),
     ] {
         add(random, (u, g), kinds);
     }

@@ -2,8 +2,10 @@
 //!
 //! Input: CALL U G X Y SIZE SIZE2 A B, single spaces between. A and B are
 //! digits, one a byte, hexadecimal bytes, or raw text; `-` is an empty one.
-//! For a call that takes an order, Y is its six bytes in hexadecimal; for the
-//! derivative, X is the set S.
+//! A call that solves or writes has the fact in A and the condition in B; Y is
+//! the six bytes of the order in hexadecimal or, for the handed form, the handed
+//! polynomials in digits. For the derivative, X is the set S; for reading, X is
+//! the length of the fact buffer.
 //!
 //! The lines of a session stop after the last field that they use, and the
 //! session goes on from line to line: a start is `s U G`, adding A is
@@ -16,6 +18,7 @@
 //! answered no. SUM is over all fields (`checksum`), and MARKS has a digit for
 //! each name.
 
+use reference::cases::facts::no_fact;
 use reference::cases::sessions::{Change, Event};
 use reference::{
     Choice, Contents, Count, Order, Reading, Refusal, Session, Solved, State, Step, Walk,
@@ -23,7 +26,7 @@ use reference::{
 use std::fmt;
 
 /// No line of either file is longer.
-const LONGEST_LINE: usize = 8_000;
+const LONGEST_LINE: usize = 9_000;
 /// Every byte of a result buffer before the call.
 const GARBAGE: u8 = 7;
 
@@ -34,35 +37,37 @@ pub struct Lines {
     longest: usize,
 }
 
-/// The number fields of a line; those that a call does not use stay 0.
+/// The fields of a line before A; those that a call does not use stay 0.
 #[derive(Clone, Copy, Default)]
-pub struct Numbers {
+pub struct Numbers<'a> {
     pub u: u64,
     pub g: u64,
     pub x: u64,
-    pub y: Y,
+    pub y: Y<'a>,
     pub size: usize,
     pub size2: usize,
 }
 
-/// A choice or an order.
+/// A choice, an order or handed polynomials.
 #[derive(Clone, Copy)]
-pub enum Y {
+pub enum Y<'a> {
     Choice(u64),
     Order(Order),
+    Handed(&'a [u8]),
 }
 
-impl Default for Y {
-    fn default() -> Y {
+impl Default for Y<'_> {
+    fn default() -> Self {
         Y::Choice(0)
     }
 }
 
-impl fmt::Display for Y {
+impl fmt::Display for Y<'_> {
     fn fmt(&self, f: &mut fmt::Formatter) -> fmt::Result {
         match self {
             Y::Choice(number) => write!(f, "{number}"),
             Y::Order(order) => f.write_str(&hexadecimal(&order.0)),
+            Y::Handed(handed) => f.write_str(&digits(handed)),
         }
     }
 }
@@ -106,19 +111,37 @@ impl Lines {
         self.add('v', numbers, &digits(table), b"-", expected);
     }
 
-    /// A call with two tables and one result buffer: `+`, `*`, `s` or `h`.
+    /// A call with two tables and one result buffer: `+`, `*`, `s`, or `h` without a fact.
     pub fn tables(&mut self, call: char, u: u64, g: u64, a: &[u8], b: &[u8], size: usize) {
+        if call == 'h' {
+            return self.handed(u, g, &no_fact(u, g), a, b, size);
+        }
         let mut buffer = vec![GARBAGE; size];
         let result = match call {
             '+' => reference::sum(u, g, a, b, &mut buffer),
             '*' => reference::product(u, g, a, b, &mut buffer),
             's' => reference::substitute(u, g, a, b, &mut buffer),
-            'h' => reference::lowenheim_handed(u, g, a, b, &mut buffer),
             _ => unreachable!("no call with two tables"),
         };
         let expected = format!("{} {}", done(result), digits(&buffer));
         let numbers = Numbers { u, g, size, ..Numbers::default() };
         self.add(call, numbers, &digits(a), digits(b).as_bytes(), expected);
+    }
+
+    pub fn handed(
+        &mut self,
+        u: u64,
+        g: u64,
+        fact: &[u8],
+        condition: &[u8],
+        handed: &[u8],
+        size: usize,
+    ) {
+        let mut buffer = vec![GARBAGE; size];
+        let result = reference::lowenheim_handed(u, g, fact, condition, handed, &mut buffer);
+        let expected = format!("{} {}", done(result), digits(&buffer));
+        let numbers = Numbers { u, g, y: Y::Handed(handed), size, ..Numbers::default() };
+        self.add('h', numbers, &digits(fact), digits(condition).as_bytes(), expected);
     }
 
     pub fn derivative(&mut self, u: u64, g: u64, table: &[u8], s: u64, size: usize) {
@@ -136,7 +159,7 @@ impl Lines {
         self.add('t', Numbers { u, g, size, ..Numbers::default() }, "-", text, expected);
     }
 
-    /// Boole, the particular solution or the own Löwenheim: `b`, `p` or `l`.
+    /// Boole, the particular solution or the own Löwenheim, `b`, `p` or `l`, without a fact.
     pub fn solution(
         &mut self,
         call: char,
@@ -144,11 +167,23 @@ impl Lines {
         condition: &[u8],
         size: usize,
     ) {
+        self.solution_under(call, (u, g, order), &no_fact(u, g), condition, size);
+    }
+
+    /// The same under a fact.
+    pub fn solution_under(
+        &mut self,
+        call: char,
+        (u, g, order): (u64, u64, Order),
+        fact: &[u8],
+        condition: &[u8],
+        size: usize,
+    ) {
         let mut buffer = vec![GARBAGE; size];
         let result = match call {
-            'b' => reference::boole(u, g, order, condition, &mut buffer),
-            'p' => reference::particular(u, g, order, condition, &mut buffer),
-            'l' => reference::lowenheim(u, g, order, condition, &mut buffer),
+            'b' => reference::boole(u, g, order, fact, condition, &mut buffer),
+            'p' => reference::particular(u, g, order, fact, condition, &mut buffer),
+            'l' => reference::lowenheim(u, g, order, fact, condition, &mut buffer),
             _ => unreachable!("no call that solves"),
         };
         let word = match result {
@@ -158,9 +193,10 @@ impl Lines {
         };
         let numbers = Numbers { u, g, y: Y::Order(order), size, ..Numbers::default() };
         let expected = format!("{word} {}", digits(&buffer));
-        self.add(call, numbers, &digits(condition), b"-", expected);
+        self.add(call, numbers, &digits(fact), digits(condition).as_bytes(), expected);
     }
 
+    /// Writing without a fact.
     pub fn writing(
         &mut self,
         route: u64,
@@ -168,25 +204,39 @@ impl Lines {
         condition: &[u8],
         size: usize,
     ) {
+        self.writing_under(route, (u, g, order), &no_fact(u, g), condition, size);
+    }
+
+    /// Writing under a fact.
+    pub fn writing_under(
+        &mut self,
+        route: u64,
+        (u, g, order): (u64, u64, Order),
+        fact: &[u8],
+        condition: &[u8],
+        size: usize,
+    ) {
         let mut buffer = vec![GARBAGE; size];
-        let word = match reference::write_entry(route, u, g, order, condition, &mut buffer) {
+        let word = match reference::write_entry(route, u, g, order, fact, condition, &mut buffer) {
             Ok(length) => format!("done {length}"),
             Err(Refusal(number)) => format!("refused {number}"),
         };
         let numbers = Numbers { u, g, x: route, y: Y::Order(order), size, ..Numbers::default() };
         let expected = format!("{word} {}", hexadecimal(&buffer));
-        self.add('w', numbers, &digits(condition), b"-", expected);
+        self.add('w', numbers, &digits(fact), digits(condition).as_bytes(), expected);
     }
 
-    pub fn reading(&mut self, bytes: &[u8], size: usize, size2: usize) {
+    /// Reading into a fact, a condition and an answer buffer of these lengths.
+    pub fn reading(&mut self, bytes: &[u8], [x, size, size2]: [usize; 3]) {
         let mut order = Order([GARBAGE; 6]);
-        let mut condition = vec![GARBAGE; size];
-        let mut answers = vec![GARBAGE; size2];
-        let result = reference::read_entry(bytes, &mut order, &mut condition, &mut answers);
+        let [mut fact, mut condition, mut answers] =
+            [x, size, size2].map(|length| vec![GARBAGE; length]);
+        let result =
+            reference::read_entry(bytes, &mut order, &mut fact, &mut condition, &mut answers);
         let order = hexadecimal(&order.0);
-        let (condition, answers) = (digits(&condition), digits(&answers));
-        let expected = format!("{} {order} {condition} {answers}", reading(result));
-        let numbers = Numbers { size, size2, ..Numbers::default() };
+        let (fact, condition, answers) = (digits(&fact), digits(&condition), digits(&answers));
+        let expected = format!("{} {order} {fact} {condition} {answers}", reading(result));
+        let numbers = Numbers { x: x as u64, size, size2, ..Numbers::default() };
         self.add('r', numbers, "-", hexadecimal(bytes).as_bytes(), expected);
     }
 

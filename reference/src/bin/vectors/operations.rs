@@ -1,6 +1,7 @@
 //! Cases for value, sum, product, handed polynomials put into a condition, and the derivative.
 
 use crate::lines::Lines;
+use reference::cases::facts::no_fact;
 use reference::cases::orders::default_order;
 use reference::cases::{bench_tables, every_table, pairs, Random, TOO_LARGE, UNDECLARED};
 
@@ -172,7 +173,7 @@ pub fn add_substitutions(lines: &mut Lines) {
     for (u, g, table) in bench_tables() {
         let mut answers = vec![0; u as usize * table.len()];
         // 'none' leaves zeros: the condition with 0 put for all unknowns
-        let _ = reference::boole(u, g, default_order(u), &table, &mut answers);
+        let _ = reference::boole(u, g, default_order(u), &no_fact(u, g), &table, &mut answers);
         lines.tables('s', u, g, &table, &answers, table.len());
         let other = random.any_table(answers.len());
         lines.tables('s', u, g, &table, &other, table.len() + 2);

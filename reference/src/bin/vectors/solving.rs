@@ -1,5 +1,6 @@
 //! Cases for Boole's answer, the particular solution and the own Löwenheim answer.
 
+use crate::facts::add_facts;
 use crate::lines::Lines;
 use reference::cases::orders::{default_order, every_order, reverse_order, wrong_orders};
 use reference::cases::{bench_tables, every_table, pairs, Random, TOO_LARGE};
@@ -21,8 +22,10 @@ pub fn add_solutions(lines: &mut Lines, call: char) {
     add_every_condition(lines, call);
     add_orders(lines, call, random);
     for (u, g) in pairs(0, 4) {
-        add_wrong_conditions(lines, call, random, u, g);
-        let many = if u + g < 4 { 16 } else { 8 };
+        if u + g < 4 || call == 'b' {
+            add_wrong_conditions(lines, call, random, u, g);
+        }
+        let many = if u + g < 4 { 6 } else { 3 };
         for _ in 0..many {
             add_any_condition(lines, call, random, u, g);
         }
@@ -32,6 +35,7 @@ pub fn add_solutions(lines: &mut Lines, call: char) {
         }
     }
     add_large_conditions(lines, call, random);
+    add_facts(lines, call);
 }
 
 /// Every condition over at most two letters, in every order.
@@ -47,7 +51,7 @@ fn add_every_condition(lines: &mut Lines, call: char) {
 }
 
 /// Every order of two and three unknowns on the same conditions, solvable and not; and wrong
-/// orders, alone and before other wrong things.
+/// orders, alone and before other wrong things, a sample.
 fn add_orders(lines: &mut Lines, call: char, random: &mut Random) {
     for (u, g) in [(2, 1), (3, 0), (3, 1)] {
         for kind in 0..4 {
@@ -60,8 +64,10 @@ fn add_orders(lines: &mut Lines, call: char, random: &mut Random) {
     }
     for u in 0..=6 {
         for order in wrong_orders(u) {
-            lines.solution(call, (u, 0, order), &[7], 0);
-            if u < 3 {
+            if random.once_in(if call == 'b' { 2 } else { 6 }) {
+                lines.solution_under(call, (u, 0, order), &[7], &[7], 0);
+            }
+            if u < 3 && (call == 'b' || random.once_in(3)) {
                 let table = random.solvable(u, 1);
                 lines.solution(call, (u, 1, order), &table, u as usize * table.len());
             }
@@ -111,32 +117,34 @@ fn add_any_condition(lines: &mut Lines, call: char, random: &mut Random, u: u64,
     lines.solution(call, (u, g, random.any_order(u)), &table, size);
 }
 
-/// Five to ten letters: sparse, and dense at the bounds, solved and 'none'.
+/// Five to ten letters: sparse, and dense at the bounds, solved and 'none', under facts of every
+/// density.
 fn add_large_conditions(lines: &mut Lines, call: char, random: &mut Random) {
     let mut add = |random: &mut Random, u: u64, g: u64, table: &[u8]| {
-        let order = random.order(u);
-        lines.solution(call, (u, g, order), table, u as usize * table.len());
+        let (order, fact) = (random.order(u), random.fact(u, g));
+        lines.solution_under(call, (u, g, order), &fact, table, u as usize * table.len());
     };
     for (u, g) in pairs(5, 7) {
         let table = random.solvable(u, g);
         add(random, u, g, &table);
     }
-    for (u, g) in [(0, 8), (1, 8), (2, 8), (3, 6), (4, 4), (3, 7), (5, 4), (6, 2)] {
-        let table = random.solvable(u, g);
-        add(random, u, g, &table);
+    // solved, 'none' and sparse ones in turn, so that the files stay small
+    for (u, g) in [(0, 8), (1, 8), (2, 8), (4, 4), (5, 4), (6, 2)] {
         let state = random.below(1 << g);
-        let none = random.blocked(u, g, state);
-        add(random, u, g, &none);
-        let sparse = random.table(none.len(), none.len() / 4);
-        add(random, u, g, &sparse);
+        let tables = [
+            random.solvable(u, g),
+            random.blocked(u, g, state),
+            random.table(1 << (u + g), (1 << (u + g)) / 4),
+        ];
+        add(random, u, g, &tables[u as usize % 3]);
     }
     let dense = random.solvable(6, 4);
     add(random, 6, 4, &dense);
-    let last = random.blocked(2, 8, 255);
-    add(random, 2, 8, &last);
-    // the other pairs of eight to ten letters, by Boole alone, so that the files stay small
+    // the other pairs of eight to ten letters by Boole alone
     if call == 'b' {
-        for (u, g) in [(1, 7), (2, 6), (2, 7), (3, 5), (4, 5), (4, 6), (5, 3), (5, 5), (6, 3)] {
+        let last = random.blocked(2, 8, 255);
+        add(random, 2, 8, &last);
+        for (u, g) in [(1, 7), (2, 6), (2, 7), (3, 5), (3, 6), (4, 5), (5, 3), (6, 3)] {
             let table = random.solvable(u, g);
             add(random, u, g, &table);
         }

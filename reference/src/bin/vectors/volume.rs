@@ -1,13 +1,14 @@
 //! Cases for the audit and the walk.
 
-use crate::entry::table_for_line;
+use crate::entry::{table_for_line, with_wrong_fact};
 use crate::lines::Lines;
 use reference::cases::entries::{
-    any_entry, built, built_none, damaged_entries, entry, entry_in, split,
+    any_entry, built, built_none, damaged_entries, entry, entry_in, entry_under, split,
 };
+use reference::cases::facts::no_fact;
 use reference::cases::orders::{default_order, every_order};
-use reference::cases::{bench_tables, pairs, Random};
-use reference::Order;
+use reference::cases::{bench_tables, pairs, tables_of, Random};
+use reference::{Order, Solved, State};
 
 pub fn add_audits(lines: &mut Lines) {
     let random = &mut Random::new('a');
@@ -15,11 +16,11 @@ pub fn add_audits(lines: &mut Lines) {
         let bytes = entry(1 + random.below(250) as u64, u, g, &table);
         lines.audit(&bytes);
         lines.audit(&[&bytes[..], &[4, 7, 0]].concat());
-        add_other_answers(lines, default_order(u), u, g, &table);
+        add_other_answers(lines, default_order(u), (u, g), &no_fact(u, g), &table);
     }
     for bytes in damaged_entries(random) {
-        // a sample, so that the files stay small; reading, which asks the same, has all
-        if random.below(4) < 3 {
+        // a sample, so that the files stay small; reading, which asks the same, has more
+        if random.once_in(if bytes.len() < 20 { 2 } else { 4 }) {
             lines.audit(&bytes);
         }
     }
@@ -27,15 +28,16 @@ pub fn add_audits(lines: &mut Lines) {
         for _ in 0..4 {
             lines.audit(&any_entry(random, u, g));
         }
+        (0..2).for_each(|_| lines.audit(&with_wrong_fact(random, u, g)));
         let table = random.solvable(u, g);
-        add_other_answers(lines, random.order(u), u, g, &table);
-        let state = random.below(1 << g);
-        let none = random.blocked(u, g, state);
-        add_other_answers(lines, random.order(u), u, g, &none);
+        add_other_answers(lines, random.order(u), (u, g), &no_fact(u, g), &table);
+        let (fact, table) = random.under_fact(u, g);
+        add_other_answers(lines, random.order(u), (u, g), &fact, &table);
     }
     add_other_orders(lines, random);
+    add_other_facts(lines, random);
     for (u, g) in pairs(5, 10) {
-        let most = if u + g == 8 { 1_000 } else { 450 };
+        let most = if u + g == 8 { 800 } else { 400 };
         let (table, order, _) = table_for_line(random, u, g, most);
         let mut records = split(&entry_in(order, 200, u, g, &table));
         lines.audit(&records.concat());
@@ -55,44 +57,73 @@ pub fn add_audits(lines: &mut Lines) {
 }
 
 /// Well-formed entries whose answers or state are not, or perhaps not, those solved afresh.
-fn add_other_answers(lines: &mut Lines, order: Order, u: u64, g: u64, table: &[u8]) {
+fn add_other_answers(
+    lines: &mut Lines,
+    order: Order,
+    (u, g): (u64, u64),
+    fact: &[u8],
+    table: &[u8],
+) {
     let exact = u as usize * table.len();
     let mut answers = vec![0; exact];
     for method in [reference::lowenheim, reference::particular, reference::boole] {
-        if method(u, g, order, table, &mut answers) == Ok(reference::Solved::Done) {
-            lines.audit(&built(order, 5, u, g, table, &answers));
+        if method(u, g, order, fact, table, &mut answers) == Ok(Solved::Done) {
+            lines.audit(&built(order, 5, u, g, fact, table, &answers));
         }
     }
     for place in 0..exact.min(9) {
         // one monomial more or less
         let mut other = answers.clone();
         other[place * exact / exact.min(9)] ^= 1;
-        lines.audit(&built(order, 5, u, g, table, &other));
+        lines.audit(&built(order, 5, u, g, fact, table, &other));
     }
     let mut unknowns = vec![0; exact];
     (0..u as usize).for_each(|j| unknowns[j * table.len() + (1 << j)] = 1);
-    lines.audit(&built(order, 5, u, g, table, &unknowns));
-    lines.audit(&built(order, 5, u, g, table, &vec![0; exact]));
+    lines.audit(&built(order, 5, u, g, fact, table, &unknowns));
+    lines.audit(&built(order, 5, u, g, fact, table, &vec![0; exact]));
     for state in 0..=1u8 << g {
-        lines.audit(&built_none(order, 5, u, g, table, state));
+        lines.audit(&built_none(order, 5, u, g, fact, table, state));
     }
 }
 
 /// For each two orders of three unknowns, an entry that names one and holds the answers of the
 /// other; and each order of a condition that is 'none'.
 fn add_other_orders(lines: &mut Lines, random: &mut Random) {
-    let table = random.solvable(3, 0);
+    let (fact, table) = (no_fact(3, 0), random.solvable(3, 0));
     for held in every_order(3) {
         let mut answers = vec![0; 24];
-        let solved = reference::boole(3, 0, held, &table, &mut answers);
-        assert_eq!(solved, Ok(reference::Solved::Done));
+        let solved = reference::boole(3, 0, held, &fact, &table, &mut answers);
+        assert_eq!(solved, Ok(Solved::Done));
         for named in every_order(3) {
-            lines.audit(&built(named, 5, 3, 0, &table, &answers));
+            lines.audit(&built(named, 5, 3, 0, &fact, &table, &answers));
         }
     }
     let none = random.blocked(3, 1, 1);
     for named in every_order(3) {
         lines.audit(&entry_in(named, 5, 3, 1, &none));
+    }
+}
+
+/// For each two facts, an entry that holds one and the answers, or the state, found under the other.
+fn add_other_facts(lines: &mut Lines, random: &mut Random) {
+    for (u, g, texts) in
+        [(1, 1, &["0", "a", "1+a"][..]), (2, 2, &["0", "a*b", "a+b+a*b", "1+a", "a+b"])]
+    {
+        let facts: Vec<Vec<u8>> = texts.iter().map(|text| tables_of(u, g, &[text])).collect();
+        for table in [random.solvable(u, g), random.blocked(u, g, 1)] {
+            for held in &facts {
+                let (order, mut answers) = (default_order(u), vec![0; u as usize * table.len()]);
+                let solved = reference::boole(u, g, order, held, &table, &mut answers);
+                for named in &facts {
+                    lines.audit(&match solved {
+                        Ok(Solved::None(State(state))) => {
+                            built_none(order, 5, u, g, named, &table, state as u8)
+                        }
+                        _ => built(order, 5, u, g, named, &table, &answers),
+                    });
+                }
+            }
+        }
     }
 }
 
@@ -156,7 +187,7 @@ fn add_damaged_volumes(lines: &mut Lines, random: &mut Random) {
     let first = entry(2, 1, 0, &[0, 1]);
     let last = entry(250, 1, 1, &[0, 0, 1, 0]);
     for bytes in damaged_entries(random) {
-        match random.below(20) {
+        match random.below(if bytes.len() < 20 { 20 } else { 50 }) {
             0 => lines.walk(&[&bytes[..], &last].concat(), 0),
             1 => lines.walk(&[&first[..], &bytes, &last].concat(), first.len()),
             2..=4 => lines.walk(&[&first[..], &bytes, &last].concat(), 0),
@@ -168,7 +199,7 @@ fn add_damaged_volumes(lines: &mut Lines, random: &mut Random) {
 
 /// An answer with one monomial more or less, and a wrong state; with a route that falls too.
 fn add_wrong_answers(lines: &mut Lines) {
-    let table = [0, 1, 1, 0];
+    let (fact, table) = ([0; 4], [0, 1, 1, 0]);
     let right = [0, 0, 1, 0, 0, 0, 1, 0];
     for route in [3, 4, 5] {
         let first = entry(4, 1, 1, &[0, 1, 1, 0]);
@@ -176,22 +207,22 @@ fn add_wrong_answers(lines: &mut Lines) {
         for place in 0..right.len() {
             let mut answers = right;
             answers[place] ^= 1;
-            let wrong = built(default_order(2), route, 2, 0, &table, &answers);
+            let wrong = built(default_order(2), route, 2, 0, &fact, &table, &answers);
             lines.walk(&[&first[..], &wrong, &last].concat(), 0);
             lines.walk(&[&wrong[..], &last].concat(), 0);
         }
         for order in every_order(2) {
-            let solved = built(order, route, 2, 0, &table, &right);
+            let solved = built(order, route, 2, 0, &fact, &table, &right);
             lines.walk(&[&first[..], &solved, &last].concat(), 0);
         }
         for state in 0..5 {
             // a*b + a: blocked in state 1 alone
-            let none = built_none(default_order(0), route, 0, 2, &[0, 1, 0, 1], state);
+            let none = built_none(default_order(0), route, 0, 2, &fact, &[0, 1, 0, 1], state);
             lines.walk(&[&first[..], &none, &last].concat(), 0);
         }
-        let solved = built(default_order(0), route, 0, 2, &[0, 1, 0, 1], &[]);
+        let solved = built(default_order(0), route, 0, 2, &fact, &[0, 1, 0, 1], &[]);
         lines.walk(&[&first[..], &solved, &last].concat(), 0);
-        let none = built_none(default_order(2), route, 2, 0, &table, 0);
+        let none = built_none(default_order(2), route, 2, 0, &fact, &table, 0);
         lines.walk(&[&first[..], &none, &last].concat(), 0);
     }
 }
@@ -202,9 +233,10 @@ fn add_any_volume(lines: &mut Lines, random: &mut Random, many: usize) {
     let mut entries = Vec::new();
     for k in 0..many {
         let (u, g) = random.pick(&small);
-        let table = random.solvable(u, g);
+        let (fact, table) = random.under_fact(u, g);
         let order = random.order(u);
-        entries.push(entry_in(order, 3 * k as u64 + 1 + random.below(3) as u64, u, g, &table));
+        let route = 3 * k as u64 + 1 + random.below(3) as u64;
+        entries.push(entry_under(order, route, u, g, &fact, &table));
     }
     let volume = entries.concat();
     lines.walk(&volume, 0);
