@@ -1,12 +1,13 @@
 /*
  * Reads a text, writes its entry, reads the entry back and prints it.
  *
- *     example [ROUTE U G TEXT [ORDER]]
+ *     example [ROUTE U G TEXT [ORDER [FACT]]]
  *
  * Without arguments: the row (2,0) `u+v+1` of the paper's bench table, as route 7. ORDER is the unknowns, first
- * eliminated first, as `vu`; without it they go as `uvwxyz`. Prints the order where the entry holds one, the
- * condition and the answers as polynomials, or 'none' and the state. Exit status: 0 if the entry is written and read
- * back, 1 if a call refuses, 2 if the arguments are not three numbers, a text and at most six letters.
+ * eliminated first, as `vu`; without it, or with `-`, they go as `uvwxyz`. FACT is a text over the givens, as `a*b`;
+ * only states where it is 0 count, all of them without it. Prints the order and the fact where the entry holds them,
+ * the condition and the answers as polynomials, or 'none' and the state. Exit status: 0 if the entry is written and
+ * read back, 1 if a call refuses, 2 if the arguments are not three numbers, a text, at most six letters and a text.
  */
 #include "layodegi.h"
 
@@ -21,12 +22,14 @@ struct route_condition {
     size_t givens;
     const char *text;
     uint8_t order[LAYODEGI_ORDER_LENGTH];
+    const char *fact;
 };
 
 /* An entry as it is read back; the tables are as long as any can be. */
 struct entry {
     uint64_t code;
     uint8_t order[LAYODEGI_ORDER_LENGTH];
+    uint8_t fact[LAYODEGI_LONGEST_TABLE];
     uint8_t condition[LAYODEGI_LONGEST_TABLE];
     uint8_t answers[LAYODEGI_LONGEST_ANSWERS];
 };
@@ -58,7 +61,7 @@ static int read_order(const char *letters, uint8_t order[LAYODEGI_ORDER_LENGTH])
 
 static int read_arguments(int count, char **words, struct route_condition *asked)
 {
-    if (count != 1 && count != 5 && count != 6)
+    if (count != 1 && (count < 5 || count > 7))
         return 0;
     if (count != 1) {
         asked->text = words[4];
@@ -66,24 +69,35 @@ static int read_arguments(int count, char **words, struct route_condition *asked
             || !read_number(words[3], &asked->givens))
             return 0;
     }
+    if (count == 7)
+        asked->fact = words[6];
     layodegi_default_order(asked->unknowns, asked->order);
-    return count != 6 || read_order(words[5], asked->order);
+    return count < 6 || strcmp(words[5], "-") == 0 || read_order(words[5], asked->order);
 }
 
-/* From the text to the entry and back. Answers the first code with a no, else that of reading back. */
+/* The table of a text over the letters that are asked for. */
+static uint64_t read_table(const struct route_condition *asked, const char *text, uint8_t table[LAYODEGI_LONGEST_TABLE])
+{
+    return layodegi_read_text(asked->unknowns, asked->givens, (const uint8_t *)text, strlen(text), table,
+                              LAYODEGI_LONGEST_TABLE);
+}
+
+/* From the texts to the entry and back. Answers the first code with a no, else that of reading back. */
 static uint64_t write_and_read_back(const struct route_condition *asked, struct entry *entry)
 {
     static uint8_t bytes[LAYODEGI_LONGEST_ENTRY];
-    uint64_t code = layodegi_read_text(asked->unknowns, asked->givens, (const uint8_t *)asked->text,
-                                       strlen(asked->text), entry->condition, sizeof entry->condition);
+    uint64_t code = read_table(asked, asked->fact, entry->fact);
     if (layodegi_code_question(code) != LAYODEGI_YES)
         return code;
-    code = layodegi_write_entry(asked->route, asked->unknowns, asked->givens, asked->order, entry->condition,
-                                sizeof entry->condition, bytes, sizeof bytes);
+    code = read_table(asked, asked->text, entry->condition);
     if (layodegi_code_question(code) != LAYODEGI_YES)
         return code;
-    return layodegi_read_entry(bytes, layodegi_code_number(code), entry->order, entry->condition,
-                               sizeof entry->condition, entry->answers, sizeof entry->answers);
+    code = layodegi_write_entry(asked->route, asked->unknowns, asked->givens, asked->order, entry->fact,
+                                sizeof entry->fact, entry->condition, sizeof entry->condition, bytes, sizeof bytes);
+    if (layodegi_code_question(code) != LAYODEGI_YES)
+        return code;
+    return layodegi_read_entry(bytes, layodegi_code_number(code), entry->order, entry->fact, sizeof entry->fact,
+                               entry->condition, sizeof entry->condition, entry->answers, sizeof entry->answers);
 }
 
 static unsigned count_letters(size_t mask)
@@ -154,6 +168,10 @@ static void print_entry(const struct entry *entry)
     printf("route %u, U %zu, G %zu, %zu bytes\n", layodegi_entry_route(entry->code), unknowns, givens,
            layodegi_entry_length(entry->code));
     print_order(entry->order, unknowns);
+    if (memchr(entry->fact, 1, layodegi_table_length(unknowns, givens)) != NULL) {
+        fputs("fact: ", stdout);
+        print_polynomial(entry->fact, unknowns, givens);
+    }
     fputs("condition: ", stdout);
     print_polynomial(entry->condition, unknowns, givens);
     if (layodegi_entry_is_none(entry->code)) {
@@ -169,9 +187,9 @@ static void print_entry(const struct entry *entry)
 int main(int count, char **words)
 {
     static struct entry entry;
-    struct route_condition asked = {7, 2, 0, "u+v+1", {0}};
+    struct route_condition asked = {7, 2, 0, "u+v+1", {0}, "0"};
     if (!read_arguments(count, words, &asked)) {
-        fputs("usage: example [ROUTE U G TEXT [ORDER]]\n", stderr);
+        fputs("usage: example [ROUTE U G TEXT [ORDER [FACT]]]\n", stderr);
         return 2;
     }
     entry.code = write_and_read_back(&asked, &entry);

@@ -13,6 +13,9 @@
  * An answer table is U tables one after another, unknown 0 first: U * 2^n bytes.
  * An order is six bytes: the unknown numbers, first eliminated first, then 255 in unused places. An unknown is
  * expressed by those that go after it. General solutions in any two orders are instances of each other.
+ * A fact is a table over the givens alone: only states where it is 0 count, and a condition f under a fact g is solved
+ * as f*(1 + g). Points that are never both normal and reverse are the fact a*b. Where every state counts the fact is 0,
+ * a table of zeros: LAYODEGI_NO_FACT serves for any letters. A fact of no bytes is not special: question 4 refuses it.
  * A session is a block of LAYODEGI_SESSION bytes that the caller keeps: the letters, the table of the conditions that
  * a designer has added so far, and up to four states that were marked to be returned to, under the names A to D.
  *
@@ -48,9 +51,12 @@ extern "C" {
 #define LAYODEGI_LONGEST_TEXT 200
 #define LAYODEGI_LONGEST_TABLE 1024
 #define LAYODEGI_LONGEST_ANSWERS 6144
-#define LAYODEGI_LONGEST_ENTRY 27661
+#define LAYODEGI_LONGEST_ENTRY 27709
 #define LAYODEGI_ORDER_LENGTH 6
 #define LAYODEGI_UNUSED 255 /* in the places of an order that no unknown needs */
+
+/* The fact 0: as long as any table, and bytes behind a table are not read. */
+static const uint8_t LAYODEGI_NO_FACT[LAYODEGI_LONGEST_TABLE] = {0};
 
 /* The bytes of a session, and where in it stand: U; G; the present table; for each name, 'A' to 'D', whether it is
    marked (1 if it is, any other byte if not) and its table. Of a table the first 2^n bytes count. */
@@ -63,31 +69,33 @@ extern "C" {
 
 /* The questions, and the number if the answer is no. */
 enum layodegi_question {
-    LAYODEGI_YES = 0,         /* no question is answered no */
-    LAYODEGI_LETTERS = 1,     /* Are U at most 6, G at most 8, n at most 10? */
-    LAYODEGI_ROUTE = 2,       /* Is the route 1 to 250? */
-    LAYODEGI_TEXT_LENGTH = 3, /* Has the text 1 to 200 bytes? */
-    LAYODEGI_ROOM = 4,        /* Has each condition buffer 2^n bytes or more, and each answer or handed buffer U
-                                 times 2^n or more? */
-    LAYODEGI_SIGNS = 5,       /* Is every byte a sign of the notation or a space? */
-    LAYODEGI_DECLARED = 6,    /* Is every letter declared? */
-    LAYODEGI_GRAMMAR = 7,     /* Does the grammar read the whole text? */
-    LAYODEGI_BITS = 8,        /* Is each byte of a table lent to be read, as far as question 4's length, 0 or 1? */
-    LAYODEGI_SOLUTION = 9,    /* Has the condition a solution? (a no also gives the state) */
-    LAYODEGI_RECORDS = 10,    /* Does every record, to the first kind 4, have kind 1 to 6 and a whole body, and is
-                                 there a kind 4? */
-    LAYODEGI_KINDS = 11,      /* Are the kinds in the entry's order, both routes equal? */
-    LAYODEGI_NUMBERS = 12,    /* Are masks below 2^n, unknowns below U, the state below 2^G, all in order, none
-                                 twice, and is no kind 6 there for the order 0, 1, 2 and so on? */
-    LAYODEGI_AFRESH = 13,     /* Do the answers, or the state, equal those solved afresh? */
-    LAYODEGI_OUTPUT = 14,     /* Is the output at least as long as what is to be written? */
-    LAYODEGI_RISING = 15,     /* Is the route above the one before? */
-    LAYODEGI_RANGE = 16,      /* Is the state below 2^G and the choice below 2^U? */
-    LAYODEGI_ORDER = 17,      /* Does the order hold each unknown once and then only 255? */
-    LAYODEGI_NAME = 18,       /* Is the name a byte `A` to `D`? */
-    LAYODEGI_MARKED = 19,     /* When returning, is the name marked? */
-    LAYODEGI_MASK = 20,       /* Has S only declared letters? */
-    LAYODEGI_HANDED = 21      /* Does the handed substitution make the condition zero? */
+    LAYODEGI_YES = 0,          /* no question is answered no */
+    LAYODEGI_LETTERS = 1,      /* Are U at most 6, G at most 8, n at most 10? */
+    LAYODEGI_ROUTE = 2,        /* Is the route 1 to 250? */
+    LAYODEGI_TEXT_LENGTH = 3,  /* Has the text 1 to 200 bytes? */
+    LAYODEGI_ROOM = 4,         /* Has each condition buffer 2^n bytes or more, and each answer or handed buffer U
+                                  times 2^n or more? */
+    LAYODEGI_SIGNS = 5,        /* Is every byte a sign of the notation or a space? */
+    LAYODEGI_DECLARED = 6,     /* Is every letter declared? */
+    LAYODEGI_GRAMMAR = 7,      /* Does the grammar read the whole text? */
+    LAYODEGI_BITS = 8,         /* Is each byte of a table lent to be read, as far as question 4's length, 0 or 1? */
+    LAYODEGI_SOLUTION = 9,     /* Has the condition a solution? (a no also gives the state) */
+    LAYODEGI_RECORDS = 10,     /* Does every record, to the first kind 4, have kind 1 to 7 and a whole body, and is
+                                  there a kind 4? */
+    LAYODEGI_KINDS = 11,       /* Are the kinds in the entry's order, both routes equal? */
+    LAYODEGI_NUMBERS = 12,     /* Are masks below 2^n, unknowns below U, the state below 2^G, all in order, none
+                                  twice, and is no kind 6 there for the order 0, 1, 2 and so on? */
+    LAYODEGI_AFRESH = 13,      /* Do the answers, or the state, equal those solved afresh? */
+    LAYODEGI_OUTPUT = 14,      /* Is the output at least as long as what is to be written? */
+    LAYODEGI_RISING = 15,      /* Is the route above the one before? */
+    LAYODEGI_RANGE = 16,       /* Is the state below 2^G and the choice below 2^U? */
+    LAYODEGI_ORDER = 17,       /* Does the order hold each unknown once and then only 255? */
+    LAYODEGI_NAME = 18,        /* Is the name a byte `A` to `D`? */
+    LAYODEGI_MARKED = 19,      /* When returning, is the name marked? */
+    LAYODEGI_MASK = 20,        /* Has S only declared letters? */
+    LAYODEGI_HANDED = 21,      /* Does the handed substitution make the condition zero? */
+    LAYODEGI_FACT_GIVENS = 22, /* Has g no unknown? */
+    LAYODEGI_FACT_STATE = 23   /* Is g 0 in some state? */
 };
 
 /*
@@ -142,79 +150,97 @@ uint64_t layodegi_derivative(size_t u, size_t g, const uint8_t *table, size_t ta
                              uint8_t *out, size_t out_length);
 
 /*
- * Boole's answers: the general solution, each unknown itself being the parameter, the unknowns eliminated in an
- * order. Questions 1, 17, 4, 8, 9.
- * order: six bytes; condition: 2^n bytes; answers, written: U * 2^n bytes. With a no to 9 the code holds the smallest
- * state in which every choice gives the condition the value 1 (layodegi_code_number); it is the same in any order.
+ * Boole's answers: the general solution in the states where a fact is 0, each unknown itself being the parameter, the
+ * unknowns eliminated in an order. Questions 1, 17, 4, 8, 22, 23, 9.
+ * order: six bytes; fact and condition: 2^n bytes each; answers, written: U * 2^n bytes. With a no to 9 the code holds
+ * the smallest of the states with g = 0 in which every choice gives the condition the value 1 (layodegi_code_number);
+ * it is the same in any order.
+ *
+ *     uint8_t order[6], condition[8], fact[8], answers[8];
+ *     layodegi_default_order(1, order);
+ *     layodegi_read_text(1, 2, (const uint8_t *)"a*u+b*u+b", 9, condition, 8);
+ *     layodegi_boole(1, 2, order, LAYODEGI_NO_FACT, 8, condition, 8, answers, 8);  // a no to 9, state 3
+ *     layodegi_read_text(1, 2, (const uint8_t *)"a*b", 3, fact, 8);                // a and b exclude each other
+ *     layodegi_boole(1, 2, order, fact, 8, condition, 8, answers, 8);              // u = b + u + a*b + a*u + b*u
  */
 uint64_t layodegi_boole(size_t u, size_t g, const uint8_t order[6],
+                        const uint8_t *fact, size_t fact_length,
                         const uint8_t *condition, size_t condition_length,
                         uint8_t *answers, size_t answers_length);
 
 /*
- * The particular solution: Boole's answers with 0 put for all parameters. Questions 1, 17, 4, 8, 9.
+ * The particular solution: Boole's answers with 0 put for all parameters. Questions 1, 17, 4, 8, 22, 23, 9.
  * Order, buffers and code as for layodegi_boole.
  */
 uint64_t layodegi_particular(size_t u, size_t g, const uint8_t order[6],
+                             const uint8_t *fact, size_t fact_length,
                              const uint8_t *condition, size_t condition_length,
                              uint8_t *answers, size_t answers_length);
 
 /*
- * Loewenheim's answers, from the particular solution. Questions 1, 17, 4, 8, 9.
+ * Loewenheim's answers, from the particular solution. Questions 1, 17, 4, 8, 22, 23, 9.
  * Order, buffers and code as for layodegi_boole.
  */
 uint64_t layodegi_lowenheim(size_t u, size_t g, const uint8_t order[6],
+                            const uint8_t *fact, size_t fact_length,
                             const uint8_t *condition, size_t condition_length,
                             uint8_t *answers, size_t answers_length);
 
 /*
- * Loewenheim's formula on handed polynomials that make the condition zero; it needs no order. Questions 1, 4, 8, 21.
- * condition: 2^n bytes; handed: U * 2^n bytes; answers, written: U * 2^n bytes.
+ * Loewenheim's formula on handed polynomials that make the condition zero wherever the fact is 0; it needs no order.
+ * Questions 1, 4, 8, 22, 23, 21.
+ * fact and condition: 2^n bytes each; handed: U * 2^n bytes; answers, written: U * 2^n bytes.
  *
- * Question 21 puts the handed polynomials for the unknowns, all at once, as layodegi_substitute does: what comes out
- * must be the empty table. They may mention givens, and unknowns too. Where U is 0 nothing is handed, and the condition
- * itself must be empty. An accepted one gives a general solution, each unknown itself being the parameter: every
- * solution is an instance of it, and it and Boole's answers are instances of each other.
+ * Question 21 puts the handed polynomials for the unknowns of f*(1 + g), all at once, as layodegi_substitute does: what
+ * comes out must be the empty table. They may mention givens, and unknowns too. Where U is 0 nothing is handed, and
+ * f*(1 + g) itself must be empty. An accepted one gives a general solution, each unknown itself being the parameter:
+ * every solution is an instance of it, and it and Boole's answers are instances of each other.
  *
  *     uint8_t condition[4] = {0, 1, 1, 0}, answers[4];  // u + a
- *     uint8_t same[4] = {0, 0, 1, 0}, never[4] = {0};   // a, and 0
- *     layodegi_lowenheim_handed(1, 1, condition, 4, same, 4, answers, 4);   // 0: u = a
- *     layodegi_lowenheim_handed(1, 1, condition, 4, never, 4, answers, 4);  // LAYODEGI_HANDED: solves where a is 0
+ *     uint8_t a[4] = {0, 0, 1, 0}, zero[4] = {0};
+ *     layodegi_lowenheim_handed(1, 1, zero, 4, condition, 4, a, 4, answers, 4);     // 0: u = a
+ *     layodegi_lowenheim_handed(1, 1, zero, 4, condition, 4, zero, 4, answers, 4);  // LAYODEGI_HANDED: where a is 1
+ *     layodegi_lowenheim_handed(1, 1, a, 4, condition, 4, zero, 4, answers, 4);     // 0: u = u*a, under the fact a
  */
 uint64_t layodegi_lowenheim_handed(size_t u, size_t g,
+                                   const uint8_t *fact, size_t fact_length,
                                    const uint8_t *condition, size_t condition_length,
                                    const uint8_t *handed, size_t handed_length,
                                    uint8_t *answers, size_t answers_length);
 
 /*
- * Writes the entry of a condition, with Boole's answers in an order or 'none'. Questions 1, 2, 17, 4, 8, 14.
- * order: six bytes; condition: 2^n bytes; out, written: as long as the entry, LAYODEGI_LONGEST_ENTRY is always enough. The code holds
- * the entry's length (layodegi_code_number).
+ * Writes the entry of a condition under a fact, with Boole's answers in an order or 'none'. Questions 1, 2, 17, 4, 8,
+ * 22, 23, 14.
+ * order: six bytes; fact and condition: 2^n bytes each; out, written: as long as the entry, LAYODEGI_LONGEST_ENTRY is
+ * always enough. The code holds the entry's length (layodegi_code_number). A fact that is not 0 stands in records of
+ * kind 7, a monomial each, behind the order and before the condition, which is archived as it is lent.
  */
 uint64_t layodegi_write_entry(size_t route, size_t u, size_t g, const uint8_t order[6],
+                              const uint8_t *fact, size_t fact_length,
                               const uint8_t *condition, size_t condition_length,
                               uint8_t *out, size_t out_length);
 
 /*
- * Reads the entry at the start of the bytes; later bytes play no part. Questions 10, 11, 1, 2, 12, 17, 4.
- * order, written: six bytes, 0, 1, 2 and so on where the entry holds no order; condition, written: 2^n bytes;
- * answers, written if the entry is solved: U * 2^n bytes. The code holds what the entry says (layodegi_entry_
- * functions).
+ * Reads the entry at the start of the bytes; later bytes play no part. Questions 10, 11, 1, 2, 12, 17, 22, 23, 4.
+ * order, written: six bytes, 0, 1, 2 and so on where the entry holds no order; fact, written: 2^n bytes, zeros where
+ * the entry holds no fact; condition, written: 2^n bytes; answers, written if the entry is solved: U * 2^n bytes. The
+ * code holds what the entry says (layodegi_entry_ functions).
  */
 uint64_t layodegi_read_entry(const uint8_t *bytes, size_t bytes_length, uint8_t order[6],
+                             uint8_t *fact, size_t fact_length,
                              uint8_t *condition, size_t condition_length,
                              uint8_t *answers, size_t answers_length);
 
 /*
- * Reads the entry at the start of the bytes, solves its condition afresh in its order and compares. Questions 10, 11,
- * 1, 2, 12, 17, 13. The code holds what the entry says (layodegi_entry_ functions).
+ * Reads the entry at the start of the bytes, solves its condition afresh under its fact and in its order, and compares.
+ * Questions 10, 11, 1, 2, 12, 17, 22, 23, 13. The code holds what the entry says (layodegi_entry_ functions).
  */
 uint64_t layodegi_audit(const uint8_t *bytes, size_t bytes_length);
 
 /*
  * Audits the entries of a volume from a place to its end; a place at or past the end gives 0 entries. Questions 10,
- * 11, 1, 2, 12, 17, 13, 15, per entry. The code holds the count of entries, after a no the count that passed before it
- * (layodegi_code_number).
+ * 11, 1, 2, 12, 17, 22, 23, 13, 15, per entry. The code holds the count of entries, after a no the count that passed
+ * before it (layodegi_code_number).
  */
 uint64_t layodegi_walk(const uint8_t *volume, size_t volume_length, size_t place);
 
@@ -231,9 +257,10 @@ uint64_t layodegi_walk(const uint8_t *volume, size_t volume_length, size_t place
  *     layodegi_read_text(1, 1, (const uint8_t *)"u", 1, condition, 4);
  *     layodegi_session_add(session, condition, 4);
  *     layodegi_default_order(1, order);
- *     layodegi_boole(1, 1, order, session + LAYODEGI_SESSION_TABLE, 4, answers, 4);  // a no to 9, state 1
+ *     const uint8_t *table = session + LAYODEGI_SESSION_TABLE;
+ *     layodegi_boole(1, 1, order, LAYODEGI_NO_FACT, 4, table, 4, answers, 4);  // a no to 9, state 1
  *     layodegi_session_return(session, 'A');
- *     layodegi_boole(1, 1, order, session + LAYODEGI_SESSION_TABLE, 4, answers, 4);  // u = a
+ *     layodegi_boole(1, 1, order, LAYODEGI_NO_FACT, 4, table, 4, answers, 4);  // u = a
  *
  * layodegi_write_entry takes the present table in the same way. The block is all there is to a session: it may be
  * copied, and kept in a file. Each step asks again whether what it is handed is a session: 1 of its U and G, 8 of the
@@ -355,7 +382,7 @@ static inline const char *layodegi_question_words(unsigned question)
     case LAYODEGI_SOLUTION:
         return "Has the condition a solution?";
     case LAYODEGI_RECORDS:
-        return "Does every record, to the first kind 4, have kind 1 to 6 and a whole body, "
+        return "Does every record, to the first kind 4, have kind 1 to 7 and a whole body, "
                "and is there a kind 4?";
     case LAYODEGI_KINDS:
         return "Are the kinds in the entry's order, both routes equal?";
@@ -380,6 +407,10 @@ static inline const char *layodegi_question_words(unsigned question)
         return "Has S only declared letters?";
     case LAYODEGI_HANDED:
         return "Does the handed substitution make the condition zero?";
+    case LAYODEGI_FACT_GIVENS:
+        return "Has g no unknown?";
+    case LAYODEGI_FACT_STATE:
+        return "Is g 0 in some state?";
     default:
         return "no question of the paper";
     }

@@ -41,8 +41,9 @@ static void print_solution(const uint8_t session[LAYODEGI_SESSION])
     uint8_t order[LAYODEGI_ORDER_LENGTH];
     size_t unknowns = session[LAYODEGI_SESSION_UNKNOWNS];
     layodegi_default_order(unknowns, order);
-    uint64_t code = layodegi_boole(unknowns, session[LAYODEGI_SESSION_GIVENS], order, session + LAYODEGI_SESSION_TABLE,
-                                   LAYODEGI_LONGEST_TABLE, answers, sizeof answers);
+    uint64_t code = layodegi_boole(unknowns, session[LAYODEGI_SESSION_GIVENS], order, LAYODEGI_NO_FACT,
+                                   sizeof LAYODEGI_NO_FACT, session + LAYODEGI_SESSION_TABLE, LAYODEGI_LONGEST_TABLE,
+                                   answers, sizeof answers);
     if (layodegi_code_question(code) == LAYODEGI_SOLUTION)
         printf("none: state %u\n", (unsigned)layodegi_code_number(code));
     else

@@ -109,20 +109,20 @@ static void check_solving(void)
 {
     uint8_t answers[9];
     memset(answers, OLD, sizeof answers);
-    CHECK(layodegi_boole(2, 0, V_FIRST, U_PLUS_V, 4, answers, 8) == 0);
+    CHECK(layodegi_boole(2, 0, V_FIRST, EMPTY, 4, U_PLUS_V, 4, answers, 8) == 0);
     CHECK(holds(answers, "\0\1\0\0\0\1\0\0", 8)); /* u = u, v = u */
-    CHECK(layodegi_boole(2, 0, U_FIRST, U_PLUS_V, 4, answers, 8) == 0);
+    CHECK(layodegi_boole(2, 0, U_FIRST, EMPTY, 4, U_PLUS_V, 4, answers, 8) == 0);
     CHECK(holds(answers, SAME, 8));
-    CHECK(layodegi_particular(2, 0, U_FIRST, U_PLUS_V, 4, answers, 8) == 0);
+    CHECK(layodegi_particular(2, 0, U_FIRST, EMPTY, 4, U_PLUS_V, 4, answers, 8) == 0);
     CHECK(holds(answers, "\0\0\0\0\0\0\0\0", 8));
-    CHECK(layodegi_lowenheim(2, 0, V_FIRST, U_PLUS_V, 4, answers, 8) == 0);
+    CHECK(layodegi_lowenheim(2, 0, V_FIRST, EMPTY, 4, U_PLUS_V, 4, answers, 8) == 0);
     CHECK(holds(answers, "\0\0\0\1\0\0\0\1", 8));
-    CHECK(layodegi_boole(2, 0, V_TWICE, U_PLUS_V, 4, answers, 8) == LAYODEGI_ORDER);
-    CHECK(layodegi_particular(2, 0, U_ALONE, U_PLUS_V, 3, answers, 8) == LAYODEGI_ORDER);
-    CHECK(layodegi_lowenheim(1, 0, U_FIRST, U_PLUS_V, 4, answers, 8) == LAYODEGI_ORDER);
-    CHECK(layodegi_boole(7, 0, V_TWICE, U_PLUS_V, 4, answers, 8) == LAYODEGI_LETTERS);
+    CHECK(layodegi_boole(2, 0, V_TWICE, EMPTY, 4, U_PLUS_V, 4, answers, 8) == LAYODEGI_ORDER);
+    CHECK(layodegi_particular(2, 0, U_ALONE, EMPTY, 4, U_PLUS_V, 3, answers, 8) == LAYODEGI_ORDER);
+    CHECK(layodegi_lowenheim(1, 0, U_FIRST, EMPTY, 4, U_PLUS_V, 4, answers, 8) == LAYODEGI_ORDER);
+    CHECK(layodegi_boole(7, 0, V_TWICE, EMPTY, 4, U_PLUS_V, 4, answers, 8) == LAYODEGI_LETTERS);
     CHECK(holds(answers, "\0\0\0\1\0\0\0\1", 8));
-    uint64_t none = layodegi_boole(1, 1, U_ALONE, A, 4, answers, 4);
+    uint64_t none = layodegi_boole(1, 1, U_ALONE, EMPTY, 4, A, 4, answers, 4);
     CHECK(layodegi_code_question(none) == LAYODEGI_SOLUTION && layodegi_code_number(none) == 1);
     CHECK(holds(answers, "\0\0\0\1\0\0\0\1", 8));
 }
@@ -136,32 +136,34 @@ static void check_handed(void)
     static const uint8_t NO_BITS[4] = {0, 1, 1, 2};
     uint8_t answers[9];
     memset(answers, OLD, sizeof answers);
-    CHECK(layodegi_lowenheim_handed(1, 1, U_PLUS_A, 5, A, 4, answers, 9) == 0);
+    CHECK(layodegi_lowenheim_handed(1, 1, EMPTY, 4, U_PLUS_A, 5, A, 4, answers, 9) == 0);
     CHECK(holds(answers, A, 4));
     /* u + (u + v)*(u + v) = v, v + (u + v)*(v + v) = v */
-    CHECK(layodegi_lowenheim_handed(2, 0, U_PLUS_V, 4, SAME, 8, answers, 8) == 0);
+    CHECK(layodegi_lowenheim_handed(2, 0, EMPTY, 4, U_PLUS_V, 4, SAME, 8, answers, 8) == 0);
     CHECK(holds(answers, SAME, 8));
-    CHECK(layodegi_lowenheim_handed(2, 0, U_PLUS_V, 4, ONES, 8, answers, 8) == 0);
+    CHECK(layodegi_lowenheim_handed(2, 0, EMPTY, 4, U_PLUS_V, 4, ONES, 8, answers, 8) == 0);
     CHECK(holds(answers, "\0\1\1\1\0\1\1\1", 8)); /* u or v, for both */
 
-    /* 1, 4, 8, 21 */
-    CHECK(layodegi_lowenheim_handed(7, 0, NO_BITS, 3, EMPTY, 4, answers, 3) == LAYODEGI_LETTERS);
-    CHECK(layodegi_lowenheim_handed(1, 1, NO_BITS, 3, EMPTY, 4, answers, 4) == LAYODEGI_ROOM);
-    CHECK(layodegi_lowenheim_handed(1, 1, NO_BITS, 4, EMPTY, 3, answers, 4) == LAYODEGI_ROOM);
-    CHECK(layodegi_lowenheim_handed(1, 1, NO_BITS, 4, EMPTY, 4, answers, 3) == LAYODEGI_ROOM);
-    CHECK(layodegi_lowenheim_handed(1, 1, NO_BITS, 4, EMPTY, 4, answers, 4) == LAYODEGI_BITS);
-    CHECK(layodegi_lowenheim_handed(1, 1, U_PLUS_A, 4, NO_BITS, 4, answers, 4) == LAYODEGI_BITS);
-    CHECK(layodegi_lowenheim_handed(1, 1, U_PLUS_A, 4, EMPTY, 4, answers, 4) == LAYODEGI_HANDED); /* in state 0 only */
-    CHECK(layodegi_lowenheim_handed(1, 1, U_PLUS_A, 5, EMPTY, 4, answers, 9) == LAYODEGI_HANDED);
-    CHECK(layodegi_lowenheim_handed(1, 1, A, 4, A, 4, answers, 4) == LAYODEGI_HANDED); /* no solution at all */
-    CHECK(layodegi_lowenheim_handed(2, 0, U_TIMES_V, 4, SAME, 8, answers, 8) == LAYODEGI_HANDED);
+    /* 1, 4, 8, 21 without a fact */
+    CHECK(layodegi_lowenheim_handed(7, 0, EMPTY, 4, NO_BITS, 3, EMPTY, 4, answers, 3) == LAYODEGI_LETTERS);
+    CHECK(layodegi_lowenheim_handed(1, 1, EMPTY, 4, NO_BITS, 3, EMPTY, 4, answers, 4) == LAYODEGI_ROOM);
+    CHECK(layodegi_lowenheim_handed(1, 1, EMPTY, 4, NO_BITS, 4, EMPTY, 3, answers, 4) == LAYODEGI_ROOM);
+    CHECK(layodegi_lowenheim_handed(1, 1, EMPTY, 4, NO_BITS, 4, EMPTY, 4, answers, 3) == LAYODEGI_ROOM);
+    CHECK(layodegi_lowenheim_handed(1, 1, EMPTY, 4, NO_BITS, 4, EMPTY, 4, answers, 4) == LAYODEGI_BITS);
+    CHECK(layodegi_lowenheim_handed(1, 1, EMPTY, 4, U_PLUS_A, 4, NO_BITS, 4, answers, 4) == LAYODEGI_BITS);
+    /* in state 0 only */
+    CHECK(layodegi_lowenheim_handed(1, 1, EMPTY, 4, U_PLUS_A, 4, EMPTY, 4, answers, 4) == LAYODEGI_HANDED);
+    CHECK(layodegi_lowenheim_handed(1, 1, EMPTY, 4, U_PLUS_A, 5, EMPTY, 4, answers, 9) == LAYODEGI_HANDED);
+    /* no solution at all */
+    CHECK(layodegi_lowenheim_handed(1, 1, EMPTY, 4, A, 4, A, 4, answers, 4) == LAYODEGI_HANDED);
+    CHECK(layodegi_lowenheim_handed(2, 0, EMPTY, 4, U_TIMES_V, 4, SAME, 8, answers, 8) == LAYODEGI_HANDED);
     /* v*(1 + u), all at once: one after the other it would be 0 */
-    CHECK(layodegi_lowenheim_handed(2, 0, U_NOT_V, 4, EXCHANGED, 8, answers, 8) == LAYODEGI_HANDED);
+    CHECK(layodegi_lowenheim_handed(2, 0, EMPTY, 4, U_NOT_V, 4, EXCHANGED, 8, answers, 8) == LAYODEGI_HANDED);
     CHECK(holds(answers, "\0\1\1\1\0\1\1\1", 8));
 
     /* nothing to hand: is the condition itself zero? */
-    CHECK(layodegi_lowenheim_handed(0, 1, A, 2, A, 0, answers, 0) == 0);
-    CHECK(layodegi_lowenheim_handed(0, 1, A + 1, 2, A, 0, answers, 0) == LAYODEGI_HANDED);
+    CHECK(layodegi_lowenheim_handed(0, 1, EMPTY, 4, A, 2, A, 0, answers, 0) == 0);
+    CHECK(layodegi_lowenheim_handed(0, 1, EMPTY, 4, A + 1, 2, A, 0, answers, 0) == LAYODEGI_HANDED);
     CHECK(holds(answers, "\0\1\1\1\0\1\1\1", 8));
     CHECK(strcmp(layodegi_question_words(21), "Does the handed substitution make the condition zero?") == 0);
 }
@@ -171,27 +173,29 @@ static void check_entries(void)
     /* the paper's sheet: routes 7 and 8 */
     static const uint8_t SHEET[] = {1, 7, 2, 0, 2, 1, 0, 2, 2, 0, 3, 0, 2, 0, 3, 1, 2, 0, 4, 7,
                                     1, 8, 1, 1, 2, 2, 0, 5, 1, 4, 8};
-    uint8_t volume[32], order[7], condition[5], answers[9];
+    uint8_t volume[32], order[7], fact[5], condition[5], answers[9];
     memset(volume, OLD, sizeof volume);
     memset(order, OLD, sizeof order);
+    memset(fact, OLD, sizeof fact);
     memset(condition, OLD, sizeof condition);
     memset(answers, OLD, sizeof answers);
-    CHECK(layodegi_code_number(layodegi_write_entry(7, 2, 0, U_FIRST, U_PLUS_V, 4, volume, 32)) == 20);
-    CHECK(layodegi_code_number(layodegi_write_entry(8, 1, 1, U_ALONE, A, 4, volume + 20, 11)) == 11);
+    CHECK(layodegi_code_number(layodegi_write_entry(7, 2, 0, U_FIRST, EMPTY, 4, U_PLUS_V, 4, volume, 32)) == 20);
+    CHECK(layodegi_code_number(layodegi_write_entry(8, 1, 1, U_ALONE, EMPTY, 4, A, 4, volume + 20, 11)) == 11);
     CHECK(holds(volume, SHEET, 31));
-    CHECK(layodegi_write_entry(251, 2, 0, V_TWICE, U_PLUS_V, 4, volume, 32) == LAYODEGI_ROUTE);
-    CHECK(layodegi_write_entry(263, 2, 0, U_FIRST, U_PLUS_V, 4, volume, 32) == LAYODEGI_ROUTE);
-    CHECK(layodegi_write_entry(7, 2, 0, V_TWICE, U_PLUS_V, 3, volume, 32) == LAYODEGI_ORDER);
-    CHECK(layodegi_write_entry(7, 2, 0, U_FIRST, U_PLUS_V, 4, volume, 19) == LAYODEGI_OUTPUT);
+    CHECK(layodegi_write_entry(251, 2, 0, V_TWICE, EMPTY, 4, U_PLUS_V, 4, volume, 32) == LAYODEGI_ROUTE);
+    CHECK(layodegi_write_entry(263, 2, 0, U_FIRST, EMPTY, 4, U_PLUS_V, 4, volume, 32) == LAYODEGI_ROUTE);
+    CHECK(layodegi_write_entry(7, 2, 0, V_TWICE, EMPTY, 4, U_PLUS_V, 3, volume, 32) == LAYODEGI_ORDER);
+    CHECK(layodegi_write_entry(7, 2, 0, U_FIRST, EMPTY, 4, U_PLUS_V, 4, volume, 19) == LAYODEGI_OUTPUT);
 
-    uint64_t solved = layodegi_read_entry(volume, 31, order, condition, 4, answers, 8);
+    uint64_t solved = layodegi_read_entry(volume, 31, order, fact, 4, condition, 4, answers, 8);
     CHECK(layodegi_code_question(solved) == LAYODEGI_YES && layodegi_entry_route(solved) == 7);
     CHECK(layodegi_entry_unknowns(solved) == 2 && layodegi_entry_givens(solved) == 0);
     CHECK(layodegi_entry_length(solved) == 20 && !layodegi_entry_is_none(solved));
-    CHECK(holds(order, U_FIRST, 6) && holds(condition, U_PLUS_V, 4) && holds(answers, SAME, 8));
+    CHECK(holds(order, U_FIRST, 6) && holds(fact, EMPTY, 4));
+    CHECK(holds(condition, U_PLUS_V, 4) && holds(answers, SAME, 8));
     CHECK(layodegi_audit(volume, 31) == solved);
 
-    uint64_t none = layodegi_read_entry(volume + 20, 11, order, condition, 4, answers, 4);
+    uint64_t none = layodegi_read_entry(volume + 20, 11, order, fact, 4, condition, 4, answers, 4);
     CHECK(layodegi_entry_is_none(none) && layodegi_entry_state(none) == 1);
     CHECK(layodegi_entry_length(none) == 11);
     CHECK(holds(order, U_ALONE, 6) && holds(condition, A, 4) && holds(answers, SAME, 8));
@@ -209,14 +213,15 @@ static void check_orders(void)
 {
     static const uint8_t ENTRY[28] = {1, 7, 2, 0, 6, 1, 0, 255, 255, 255, 255, 2, 3, 0,
                                       3, 0, 1, 0, 3, 1, 2, 0, 3, 1, 3, 0, 4, 7};
-    uint8_t bytes[29], order[7], condition[5], answers[9];
+    uint8_t bytes[29], order[7], fact[5], condition[5], answers[9];
     memset(bytes, OLD, sizeof bytes);
     memset(order, OLD, sizeof order);
+    memset(fact, OLD, sizeof fact);
     memset(condition, OLD, sizeof condition);
     memset(answers, OLD, sizeof answers);
-    CHECK(layodegi_code_number(layodegi_write_entry(7, 2, 0, V_FIRST, U_TIMES_V, 4, bytes, 28)) == 28);
+    CHECK(layodegi_code_number(layodegi_write_entry(7, 2, 0, V_FIRST, EMPTY, 4, U_TIMES_V, 4, bytes, 28)) == 28);
     CHECK(holds(bytes, ENTRY, 28));
-    uint64_t solved = layodegi_read_entry(bytes, 28, order, condition, 4, answers, 8);
+    uint64_t solved = layodegi_read_entry(bytes, 28, order, fact, 4, condition, 4, answers, 8);
     CHECK(layodegi_code_question(solved) == LAYODEGI_YES && layodegi_entry_length(solved) == 28);
     CHECK(holds(order, V_FIRST, 6) && holds(condition, U_TIMES_V, 4));
     CHECK(holds(answers, "\0\1\0\0\0\0\1\1", 8)); /* u = u, v = v + u*v */
@@ -224,13 +229,105 @@ static void check_orders(void)
     CHECK(layodegi_walk(bytes, 28, 0) == 1 << 8);
 
     bytes[5] = 0; /* u twice */
-    CHECK(layodegi_read_entry(bytes, 28, order, condition, 4, answers, 7) == LAYODEGI_ORDER);
+    CHECK(layodegi_read_entry(bytes, 28, order, fact, 4, condition, 4, answers, 7) == LAYODEGI_ORDER);
     CHECK(layodegi_audit(bytes, 28) == LAYODEGI_ORDER);
     CHECK(holds(order, V_FIRST, 6));
     bytes[6] = 1; /* the order 0, 1, in which kind 6 is left out */
-    CHECK(layodegi_read_entry(bytes, 28, order, condition, 4, answers, 8) == LAYODEGI_NUMBERS);
+    CHECK(layodegi_read_entry(bytes, 28, order, fact, 4, condition, 4, answers, 8) == LAYODEGI_NUMBERS);
     layodegi_default_order(2, order);
     CHECK(holds(order, U_FIRST, 6));
+}
+
+/* Over the letters u, a and b: `a*u+b*u+b`, the fact a*b, under which it has a solution, and the answer. */
+static const uint8_t ROW[8] = {0, 0, 0, 1, 1, 1, 0, 0};
+static const uint8_t A_TIMES_B[9] = {0, 0, 0, 0, 0, 0, 1, 0, 9}; /* and a byte behind it */
+static const uint8_t ROW_ANSWER[8] = {0, 1, 0, 1, 1, 1, 1, 0};   /* u = b + u + a*b + a*u + b*u */
+
+static void check_facts(void)
+{
+    static const uint8_t U[8] = {0, 1}, ONE[8] = {1}, NO_BITS[8] = {0, 0, 0, 0, 0, 0, 0, 2};
+    static const uint8_t B[8] = {0, 0, 0, 0, 1};
+    uint8_t answers[9];
+    memset(answers, OLD, sizeof answers);
+    uint64_t none = layodegi_boole(1, 2, U_ALONE, LAYODEGI_NO_FACT, 8, ROW, 8, answers, 8);
+    CHECK(layodegi_code_question(none) == LAYODEGI_SOLUTION && layodegi_code_number(none) == 3);
+    none = layodegi_boole(1, 2, U_ALONE, B, 8, ONE, 8, answers, 8);
+    CHECK(layodegi_code_question(none) == LAYODEGI_SOLUTION && layodegi_code_number(none) == 0);
+    CHECK(layodegi_boole(1, 2, U_ALONE, A_TIMES_B, 9, ROW, 8, answers, 9) == 0);
+    CHECK(holds(answers, ROW_ANSWER, 8));
+    CHECK(layodegi_particular(1, 2, U_ALONE, A_TIMES_B, 8, ROW, 8, answers, 8) == 0);
+    CHECK(holds(answers, "\0\0\0\0\1\0\1\0", 8)); /* b + a*b */
+    CHECK(layodegi_lowenheim(1, 2, U_ALONE, A_TIMES_B, 8, ROW, 8, answers, 8) == 0);
+    CHECK(holds(answers, ROW_ANSWER, 8));
+    CHECK(layodegi_lowenheim_handed(1, 2, A_TIMES_B, 8, ROW, 8, B, 8, answers, 8) == 0);
+    CHECK(holds(answers, ROW_ANSWER, 8));
+
+    /* 1, 17, 4, 8, 22, 23, 9 */
+    CHECK(layodegi_boole(7, 2, V_TWICE, NO_BITS, 7, ROW, 8, answers, 8) == LAYODEGI_LETTERS);
+    CHECK(layodegi_boole(1, 2, V_TWICE, NO_BITS, 7, ROW, 8, answers, 8) == LAYODEGI_ORDER);
+    CHECK(layodegi_boole(1, 2, U_ALONE, NO_BITS, 7, ROW, 8, answers, 8) == LAYODEGI_ROOM);
+    CHECK(layodegi_boole(1, 2, U_ALONE, LAYODEGI_NO_FACT, 0, ROW, 8, answers, 8) == LAYODEGI_ROOM);
+    CHECK(layodegi_boole(1, 2, U_ALONE, NO_BITS, 8, ROW, 7, answers, 8) == LAYODEGI_ROOM);
+    CHECK(layodegi_boole(1, 2, U_ALONE, U, 8, ROW, 8, answers, 7) == LAYODEGI_ROOM);
+    CHECK(layodegi_boole(1, 2, U_ALONE, NO_BITS, 8, ROW, 8, answers, 8) == LAYODEGI_BITS);
+    CHECK(layodegi_boole(1, 2, U_ALONE, U, 8, NO_BITS, 8, answers, 8) == LAYODEGI_BITS);
+    CHECK(layodegi_boole(1, 2, U_ALONE, U, 8, ONE, 8, answers, 8) == LAYODEGI_FACT_GIVENS);
+    CHECK(layodegi_particular(1, 2, U_ALONE, U, 8, ROW, 8, answers, 8) == LAYODEGI_FACT_GIVENS);
+    CHECK(layodegi_lowenheim(1, 2, U_ALONE, ONE, 8, ONE, 8, answers, 8) == LAYODEGI_FACT_STATE);
+    CHECK(layodegi_boole(1, 2, U_ALONE, ONE, 8, ROW, 8, answers, 8) == LAYODEGI_FACT_STATE);
+
+    /* 1, 4, 8, 22, 23, 21 */
+    CHECK(layodegi_lowenheim_handed(1, 2, NO_BITS, 7, ROW, 8, B, 8, answers, 8) == LAYODEGI_ROOM);
+    CHECK(layodegi_lowenheim_handed(1, 2, NO_BITS, 8, ROW, 8, B, 8, answers, 8) == LAYODEGI_BITS);
+    CHECK(layodegi_lowenheim_handed(1, 2, U, 8, ROW, 8, U, 8, answers, 8) == LAYODEGI_FACT_GIVENS);
+    CHECK(layodegi_lowenheim_handed(1, 2, ONE, 8, ROW, 8, U, 8, answers, 8) == LAYODEGI_FACT_STATE);
+    CHECK(layodegi_lowenheim_handed(1, 2, A_TIMES_B, 8, ROW, 8, U, 8, answers, 8) == LAYODEGI_HANDED);
+    CHECK(holds(answers, ROW_ANSWER, 8));
+
+    /* the header's example */
+    CHECK(layodegi_lowenheim_handed(1, 1, A, 4, U_PLUS_V, 4, EMPTY, 4, answers, 4) == 0);
+    CHECK(memcmp(answers, "\0\0\0\1", 4) == 0); /* u*a */
+    CHECK(strcmp(layodegi_question_words(22), "Has g no unknown?") == 0);
+    CHECK(strcmp(layodegi_question_words(23), "Is g 0 in some state?") == 0);
+}
+
+/* The row as route 7: a kind 7 behind the start. */
+static void check_archived_facts(void)
+{
+    static const uint8_t ENTRY[38] = {1, 7, 1, 2, 7, 6, 0, 2, 4, 0, 2, 3, 0, 2, 5, 0, 3, 0, 1,
+                                      0, 3, 0, 4, 0, 3, 0, 3, 0, 3, 0, 5, 0, 3, 0, 6, 0, 4, 7};
+    uint8_t bytes[39], order[7], fact[9], condition[9], answers[9];
+    memset(bytes, OLD, sizeof bytes);
+    memset(order, OLD, sizeof order);
+    memset(fact, OLD, sizeof fact);
+    memset(condition, OLD, sizeof condition);
+    memset(answers, OLD, sizeof answers);
+    CHECK(layodegi_write_entry(7, 1, 2, U_ALONE, A_TIMES_B, 9, ROW, 8, bytes, 37) == LAYODEGI_OUTPUT);
+    CHECK(layodegi_code_number(layodegi_write_entry(7, 1, 2, U_ALONE, A_TIMES_B, 9, ROW, 8, bytes, 38)) == 38);
+    CHECK(holds(bytes, ENTRY, 38));
+    CHECK(layodegi_write_entry(7, 1, 2, U_ALONE, A_TIMES_B, 7, ROW, 8, bytes, 38) == LAYODEGI_ROOM);
+    CHECK(layodegi_write_entry(7, 1, 2, U_ALONE, ROW, 8, ROW, 8, bytes, 1) == LAYODEGI_FACT_GIVENS);
+    CHECK(holds(bytes, ENTRY, 38));
+    CHECK(layodegi_read_entry(bytes, 38, order, fact, 7, condition, 8, answers, 8) == LAYODEGI_ROOM);
+    CHECK(order[0] == OLD && fact[0] == OLD && condition[0] == OLD && answers[0] == OLD);
+    uint64_t solved = layodegi_read_entry(bytes, 38, order, fact, 8, condition, 8, answers, 8);
+    CHECK(layodegi_code_question(solved) == LAYODEGI_YES && layodegi_entry_length(solved) == 38);
+    CHECK(holds(order, U_ALONE, 6) && holds(fact, A_TIMES_B, 8));
+    CHECK(holds(condition, ROW, 8) && holds(answers, ROW_ANSWER, 8));
+    CHECK(layodegi_audit(bytes, 38) == solved);
+    CHECK(layodegi_walk(bytes, 38, 0) == 1 << 8);
+
+    bytes[5] = 1; /* the fact u */
+    CHECK(layodegi_read_entry(bytes, 38, order, fact, 7, condition, 8, answers, 8) == LAYODEGI_FACT_GIVENS);
+    CHECK(layodegi_audit(bytes, 38) == LAYODEGI_FACT_GIVENS);
+    bytes[5] = 0; /* the fact 1 */
+    CHECK(layodegi_audit(bytes, 38) == LAYODEGI_FACT_STATE);
+    CHECK(layodegi_walk(bytes, 38, 0) == LAYODEGI_FACT_STATE);
+    bytes[5] = 8; /* too large */
+    CHECK(layodegi_audit(bytes, 38) == LAYODEGI_NUMBERS);
+    bytes[5] = 2; /* the fact a, whose answers are others */
+    CHECK(layodegi_audit(bytes, 38) == LAYODEGI_AFRESH);
+    CHECK(holds(fact, A_TIMES_B, 8) && holds(answers, ROW_ANSWER, 8));
 }
 
 /* The bytes of a session: 0 but for those named, then one byte that was not written. */
@@ -272,11 +369,11 @@ static void check_sessions(void)
     CHECK(is_session(session, 2, 0, EITHER, U_TIMES_V));
 
     /* the present table, as it stands in the block, is a condition */
-    CHECK(layodegi_boole(2, 0, U_FIRST, session + LAYODEGI_SESSION_TABLE, 4, answers, 8) == 0);
+    CHECK(layodegi_boole(2, 0, U_FIRST, EMPTY, 4, session + LAYODEGI_SESSION_TABLE, 4, answers, 8) == 0);
     CHECK(holds(answers, "\1\0\0\0\0\0\0\0", 8)); /* u = 1, v = 0 */
     CHECK(layodegi_session_return(session, 'B') == 0);
     CHECK(is_session(session, 2, 0, U_TIMES_V, U_TIMES_V));
-    CHECK(layodegi_boole(2, 0, U_FIRST, session + LAYODEGI_SESSION_TABLE, 4, answers, 8) == 0);
+    CHECK(layodegi_boole(2, 0, U_FIRST, EMPTY, 4, session + LAYODEGI_SESSION_TABLE, 4, answers, 8) == 0);
     CHECK(holds(answers, "\0\1\0\1\0\0\1\0", 8)); /* u = u + u*v, v = v */
 }
 
@@ -316,6 +413,8 @@ int main(void)
     check_handed();
     check_entries();
     check_orders();
+    check_facts();
+    check_archived_facts();
     check_sessions();
     check_sessions_handed();
     if (failed != 0)

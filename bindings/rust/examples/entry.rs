@@ -1,12 +1,13 @@
 //! Reads a text, writes its entry, reads the entry back and prints it.
 //!
-//!     cargo run --offline --example entry -- [ROUTE U G TEXT [ORDER]]
+//!     cargo run --offline --example entry -- [ROUTE U G TEXT [ORDER [FACT]]]
 //!
 //! Without arguments: the row (2,0) `u+v+1` of the paper's bench table, as route 7. ORDER is the
-//! unknowns, first eliminated first, as `vu`; without it they go as `uvwxyz`. Prints the order
-//! where the entry holds one, the condition and the answers as polynomials, or 'none' and the
-//! state. Exit status: 0 if the entry is written and read back, 1 if a call refuses, 2 if the
-//! arguments are not three numbers, a text and at most six letters.
+//! unknowns, first eliminated first, as `vu`; without it, or with `-`, they go as `uvwxyz`. FACT is a
+//! text over the givens, as `a*b`; only states where it is 0 count, all of them without it. Prints
+//! the order and the fact where the entry holds them, the condition and the answers as polynomials,
+//! or 'none' and the state. Exit status: 0 if the entry is written and read back, 1 if a call
+//! refuses, 2 if the arguments are not three numbers, a text, at most six letters and a text.
 
 use layodegi::{read_entry, read_text, write_entry, Answer, Letters, Order, Reading, Refusal};
 use layodegi::{LONGEST_ENTRY, LONGEST_TABLE};
@@ -17,11 +18,11 @@ const UNKNOWNS: [char; 6] = ['u', 'v', 'w', 'x', 'y', 'z'];
 const GIVENS: [char; 8] = ['a', 'b', 'c', 'd', 'e', 'f', 'g', 'h'];
 
 fn main() -> ExitCode {
-    let Some((route, letters, order, text)) = read_arguments() else {
-        eprintln!("usage: entry [ROUTE U G TEXT [ORDER]]");
+    let Some(asked) = read_arguments() else {
+        eprintln!("usage: entry [ROUTE U G TEXT [ORDER [FACT]]]");
         return ExitCode::from(2);
     };
-    match print_read_back(route, letters, order, &text) {
+    match print_read_back(&asked) {
         Ok(()) => ExitCode::SUCCESS,
         Err(refusal) => {
             println!("{refusal}");
@@ -30,25 +31,37 @@ fn main() -> ExitCode {
     }
 }
 
-fn read_arguments() -> Option<(usize, Letters, Order, Vec<u8>)> {
+/// A route and what is to be solved, as texts.
+struct Asked {
+    route: usize,
+    letters: Letters,
+    order: Order,
+    fact: Vec<u8>,
+    condition: Vec<u8>,
+}
+
+fn read_arguments() -> Option<Asked> {
     let words: Vec<Vec<u8>> = std::env::args_os().skip(1).map(OsStringExt::into_vec).collect();
     let number = |word: &[u8]| std::str::from_utf8(word).ok()?.parse().ok();
-    match &words[..] {
-        [] => {
-            let letters = Letters { unknowns: 2, givens: 0 };
-            Some((7, letters, Order::default_for(2), b"u+v+1".to_vec()))
-        }
-        [route, unknowns, givens, text, order @ ..] => {
-            let letters = Letters { unknowns: number(unknowns)?, givens: number(givens)? };
-            let order = match order {
-                [] => Order::default_for(letters.unknowns),
-                [order] => read_order(order)?,
-                _ => return None,
-            };
-            Some((number(route)?, letters, order, text.clone()))
-        }
-        _ => None,
-    }
+    let usual = ["7", "2", "0", "u+v+1"].map(|word| word.as_bytes().to_vec());
+    let (route, unknowns, givens, condition, others) = match &words[..] {
+        [] => (&usual[0], &usual[1], &usual[2], &usual[3], &[][..]),
+        [route, unknowns, givens, text, others @ ..] => (route, unknowns, givens, text, others),
+        _ => return None,
+    };
+    let letters = Letters { unknowns: number(unknowns)?, givens: number(givens)? };
+    let (order, fact) = match others {
+        [] => (&b"-"[..], &b"0"[..]),
+        [order] => (&order[..], &b"0"[..]),
+        [order, fact] => (&order[..], &fact[..]),
+        _ => return None,
+    };
+    let order = match order {
+        b"-" => Order::default_for(letters.unknowns),
+        letters => read_order(letters)?,
+    };
+    let (fact, condition) = (fact.to_vec(), condition.clone());
+    Some(Asked { route: number(route)?, letters, order, fact, condition })
 }
 
 /// The order that letters name, first eliminated first.
@@ -57,24 +70,21 @@ fn read_order(word: &[u8]) -> Option<Order> {
     Order::of(&word.iter().map(number).collect::<Option<Vec<u8>>>()?)
 }
 
-fn print_read_back(
-    route: usize,
-    letters: Letters,
-    order: Order,
-    text: &[u8],
-) -> Result<(), Refusal> {
-    let mut condition = [0; LONGEST_TABLE];
+fn print_read_back(asked: &Asked) -> Result<(), Refusal> {
+    let Asked { route, letters, order, .. } = *asked;
+    let [mut fact, mut condition] = [[0; LONGEST_TABLE]; 2];
     let mut bytes = vec![0; LONGEST_ENTRY];
-    read_text(letters, text, &mut condition)?;
-    let length = write_entry(route, letters, order, &condition, &mut bytes)?;
+    read_text(letters, &asked.fact, &mut fact)?;
+    read_text(letters, &asked.condition, &mut condition)?;
+    let length = write_entry(route, letters, order, &fact, &condition, &mut bytes)?;
 
     let mut answers = vec![0; letters.answers_length()];
-    let reading = read_entry(&bytes[..length], &mut condition, &mut answers)?;
-    print_entry(reading, &condition, &answers);
+    let reading = read_entry(&bytes[..length], &mut fact, &mut condition, &mut answers)?;
+    print_entry(reading, &fact, &condition, &answers);
     Ok(())
 }
 
-fn print_entry(reading: Reading, condition: &[u8], answers: &[u8]) {
+fn print_entry(reading: Reading, fact: &[u8], condition: &[u8], answers: &[u8]) {
     let Reading { entry, order } = reading;
     let letters = entry.letters;
     let Letters { unknowns, givens } = letters;
@@ -84,6 +94,9 @@ fn print_entry(reading: Reading, condition: &[u8], answers: &[u8]) {
         println!("order: {}", names.collect::<String>());
     }
     let table_length = letters.table_length();
+    if fact[..table_length].contains(&1) {
+        println!("fact: {}", polynomial(letters, &fact[..table_length]));
+    }
     println!("condition: {}", polynomial(letters, &condition[..table_length]));
     match entry.answer {
         Answer::Solved => {

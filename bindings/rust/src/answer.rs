@@ -17,8 +17,8 @@ use std::fmt;
 pub enum Answer {
     /// The answers stand in the answer buffer.
     Solved,
-    /// The no of question 9, with the smallest state in which every choice gives the condition
-    /// the value 1. The answer buffer is as it was.
+    /// The no of question 9, with the smallest of the states that count, those where the fact is 0,
+    /// in which every choice gives the condition the value 1. The answer buffer is as it was.
     None(State),
 }
 
@@ -192,12 +192,12 @@ mod tests {
     #[test]
     fn an_entry_is_taken_apart_by_bytes() {
         let letters = Letters { unknowns: 6, givens: 4 };
-        let code = Code(27_661 << 32 | 4 << 24 | 6 << 16 | 250 << 8);
-        let solved = Entry { route: 250, letters, answer: Answer::Solved, length: 27_661 };
+        let code = Code(27_709 << 32 | 4 << 24 | 6 << 16 | 250 << 8);
+        let solved = Entry { route: 250, letters, answer: Answer::Solved, length: 27_709 };
         assert_eq!(code.entry(), Ok(solved));
         let none = Entry { answer: Answer::None(State(255)), ..solved };
         assert_eq!(Code(256 << 48 | code.0).entry(), Ok(none));
-        assert_eq!(none.to_string(), "route 250, U 6, G 4, none, state 255, 27661 bytes");
+        assert_eq!(none.to_string(), "route 250, U 6, G 4, none, state 255, 27709 bytes");
     }
 
     #[test]

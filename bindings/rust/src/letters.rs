@@ -1,4 +1,4 @@
-//! Letters, states, choices, orders and masks, and the lengths of buffers for them.
+//! Letters, states, choices, orders and masks, the fact 0, and the lengths of buffers for them.
 
 use std::fmt;
 
@@ -9,9 +9,20 @@ pub const LONGEST_TABLE: usize = 1_024;
 /// No answer table is longer, in bytes.
 pub const LONGEST_ANSWERS: usize = 6_144;
 /// No entry is longer, in bytes.
-pub const LONGEST_ENTRY: usize = 27_661;
+pub const LONGEST_ENTRY: usize = 27_709;
 /// The last route; the first is 1.
 pub const LAST_ROUTE: usize = 250;
+
+/// The fact 0, for routes where every state counts: zeros as long as any table, so that it serves for
+/// all letters.
+///
+/// ```
+/// # use layodegi::{boole, Answer, Letters, Order, State, NO_FACT};
+/// let letters = Letters { unknowns: 1, givens: 1 };
+/// let (order, a) = (Order::default_for(1), [0, 0, 1, 0]);
+/// assert_eq!(boole(letters, order, NO_FACT, &a, &mut [0; 4]), Ok(Answer::None(State(1))));
+/// ```
+pub const NO_FACT: &[u8; LONGEST_TABLE] = &[0; LONGEST_TABLE];
 
 /// The counts of declared letters: unknowns `u` to `z`, givens `a` to `h`.
 /// Every call asks itself whether they are permitted, so any numbers may stand here.
@@ -69,17 +80,17 @@ impl Letters {
 /// Every call asks itself (question 17) whether the order is right, so any bytes may stand here.
 ///
 /// ```
-/// # use layodegi::{boole, Answer, Letters, Order};
+/// # use layodegi::{boole, Answer, Letters, Order, NO_FACT};
 /// let letters = Letters { unknowns: 2, givens: 0 };
 /// let mut answers = [7; 8];
 /// let u_plus_v = [0, 1, 1, 0];
 ///
 /// let u_first = Order::default_for(2);
-/// assert_eq!(boole(letters, u_first, &u_plus_v, &mut answers), Ok(Answer::Solved));
+/// assert_eq!(boole(letters, u_first, NO_FACT, &u_plus_v, &mut answers), Ok(Answer::Solved));
 /// assert_eq!(answers, [0, 0, 1, 0, 0, 0, 1, 0]); // u = v, v = v
 ///
 /// let v_first = Order::of(&[1, 0]).unwrap();
-/// assert_eq!(boole(letters, v_first, &u_plus_v, &mut answers), Ok(Answer::Solved));
+/// assert_eq!(boole(letters, v_first, NO_FACT, &u_plus_v, &mut answers), Ok(Answer::Solved));
 /// assert_eq!(answers, [0, 1, 0, 0, 0, 1, 0, 0]); // u = u, v = u
 /// ```
 #[derive(Clone, Copy, Debug, PartialEq, Eq, Hash)]

@@ -10,6 +10,10 @@
 //! with the mask m is present, else 0; bit j of a mask is unknown j, bit U + i is given i, and
 //! mask 0 is the monomial 1. An **answer table** is U tables one after another, unknown 0 first.
 //!
+//! A **fact** is a table over the givens alone: only states where it is 0 count, and a condition f under
+//! a fact g is solved as f*(1 + g). Points that are never both normal and reverse are the fact `a*b`.
+//! [`NO_FACT`] is the fact 0; an empty one is not special, question 4 refuses it.
+//!
 //! The unknowns are eliminated in an [`Order`] that the designer picks: [`Order::default_for`] gives
 //! 0, 1, 2 and so on. General solutions in any two orders are instances of each other, and of the one
 //! that [`lowenheim_handed`] makes out of a solution that the designer hands over.
@@ -26,22 +30,23 @@
 //! use layodegi::{audit, read_entry, read_text, walk, write_entry};
 //! use layodegi::{Answer, Letters, Order, LONGEST_ENTRY};
 //!
-//! // One unknown must be the opposite of the other: u + v + 1 = 0.
-//! let letters = Letters { unknowns: 2, givens: 0 };
-//! let mut condition = vec![0; letters.table_length()];
-//! read_text(letters, b"u+v+1", &mut condition)?;
-//! assert_eq!(condition, [1, 1, 1, 0]); // the monomials 1, u, v
+//! // Points detected normal (a) and reverse (b), never both: the fact a*b.
+//! let letters = Letters { unknowns: 1, givens: 2 };
+//! let [mut fact, mut condition] = [(); 2].map(|()| vec![0; letters.table_length()]);
+//! read_text(letters, b"a*b", &mut fact)?;
+//! read_text(letters, b"a*u+b*u+b", &mut condition)?;
+//! assert_eq!(condition, [0, 0, 0, 1, 1, 1, 0, 0]); // the monomials u*a, b, u*b
 //!
 //! let mut volume = vec![0; LONGEST_ENTRY];
-//! let order = Order::default_for(2); // u is expressed by v
-//! let length = write_entry(7, letters, order, &condition, &mut volume)?;
+//! let order = Order::default_for(1);
+//! let length = write_entry(7, letters, order, &fact, &condition, &mut volume)?;
 //! volume.truncate(length);
 //!
 //! let mut answers = vec![0; letters.answers_length()];
-//! let reading = read_entry(&volume, &mut condition, &mut answers)?;
+//! let reading = read_entry(&volume, &mut fact, &mut condition, &mut answers)?;
 //! assert_eq!((reading.entry.route, reading.entry.answer), (7, Answer::Solved));
-//! assert_eq!(reading.order, order);
-//! assert_eq!(answers, [1, 0, 1, 0, 0, 0, 1, 0]); // u = 1 + v, v = v
+//! assert_eq!((reading.order, fact), (order, vec![0, 0, 0, 0, 0, 0, 1, 0]));
+//! assert_eq!(answers, [0, 1, 0, 1, 1, 1, 1, 0]); // u = b + u + a*b + a*u + b*u
 //!
 //! assert_eq!(audit(&volume), Ok(reading.entry));
 //! assert_eq!(walk(&volume, 0), Ok(1));
@@ -55,7 +60,7 @@ pub mod raw;
 mod session;
 
 pub use answer::{Answer, Entry, Reading, Stopped};
-pub use letters::{Choice, Letters, Mask, Order, State};
+pub use letters::{Choice, Letters, Mask, Order, State, NO_FACT};
 pub use letters::{LAST_ROUTE, LONGEST_ANSWERS, LONGEST_ENTRY, LONGEST_TABLE, LONGEST_TEXT};
 pub use question::{Question, Refusal};
 pub use session::{Name, Session, Step, SESSION_LENGTH};
@@ -235,33 +240,47 @@ pub fn derivative(letters: Letters, table: &[u8], s: Mask, out: &mut [u8]) -> Re
     Code(code).done()
 }
 
-/// Boole's answers: the general solution, each unknown itself being the parameter, the unknowns
-/// eliminated in an order. Questions 1, 17, 4, 8, 9.
+/// Boole's answers: the general solution, each unknown itself being the parameter, in the states where
+/// a fact is 0, the unknowns eliminated in an order. Questions 1, 17, 4, 8, 22, 23, 9.
 ///
 /// ```
-/// # use layodegi::{boole, Answer, Letters, Order, Question, State};
+/// # use layodegi::{boole, read_text, Answer, Letters, Order, Question, State, NO_FACT};
 /// let letters = Letters { unknowns: 2, givens: 0 };
 /// let u_times_v = [0, 0, 0, 1];
 /// let mut answers = [7; 8];
-/// let solved = boole(letters, Order::default_for(2), &u_times_v, &mut answers);
+/// let solved = boole(letters, Order::default_for(2), NO_FACT, &u_times_v, &mut answers);
 /// assert_eq!(solved, Ok(Answer::Solved));
 /// assert_eq!(answers, [0, 1, 0, 1, 0, 0, 1, 0]); // u = u + u*v, v = v
 ///
 /// let v_first = Order([1, 0, 255, 255, 255, 255]);
-/// assert_eq!(boole(letters, v_first, &u_times_v, &mut answers), Ok(Answer::Solved));
+/// let solved = boole(letters, v_first, NO_FACT, &u_times_v, &mut answers);
+/// assert_eq!(solved, Ok(Answer::Solved));
 /// assert_eq!(answers, [0, 1, 0, 0, 0, 0, 1, 1]); // u = u, v = v + u*v
 ///
 /// let twice = Order([1, 1, 255, 255, 255, 255]);
-/// let refused = boole(letters, twice, &u_times_v, &mut answers);
+/// let refused = boole(letters, twice, NO_FACT, &u_times_v, &mut answers);
 /// assert_eq!(refused, Err(Question::Order.into()));
 ///
-/// let letters = Letters { unknowns: 1, givens: 1 };
-/// let none = boole(letters, Order::default_for(1), &[0, 0, 1, 0], &mut answers); // a
-/// assert_eq!(none, Ok(Answer::None(State(1))));
+/// let (letters, order) = (Letters { unknowns: 1, givens: 2 }, Order::default_for(1));
+/// let mut condition = [0; 8];
+/// read_text(letters, b"a*u+b*u+b", &mut condition)?;
+/// let none = boole(letters, order, NO_FACT, &condition, &mut answers);
+/// assert_eq!(none, Ok(Answer::None(State(3)))); // a and b at once
+///
+/// let a_times_b = [0, 0, 0, 0, 0, 0, 1, 0]; // never at once
+/// let solved = boole(letters, order, &a_times_b, &condition, &mut answers);
+/// assert_eq!(solved, Ok(Answer::Solved));
+/// assert_eq!(answers, [0, 1, 0, 1, 1, 1, 1, 0]); // u = b + u + a*b + a*u + b*u
+///
+/// let one = [1, 0, 0, 0, 0, 0, 0, 0]; // no state is left
+/// let refused = boole(letters, order, &one, &condition, &mut answers);
+/// assert_eq!(refused, Err(Question::FactState.into()));
+/// # Ok::<(), layodegi::Refusal>(())
 /// ```
 pub fn boole(
     letters: Letters,
     order: Order,
+    fact: &[u8],
     condition: &[u8],
     answers: &mut [u8],
 ) -> Result<Answer, Refusal> {
@@ -271,6 +290,8 @@ pub fn boole(
             unknowns,
             givens,
             order.0.as_ptr(),
+            fact.as_ptr(),
+            fact.len(),
             condition.as_ptr(),
             condition.len(),
             answers.as_mut_ptr(),
@@ -280,25 +301,34 @@ pub fn boole(
     Code(code).answer()
 }
 
-/// The particular solution: Boole's answers, in an order, with 0 put for all parameters.
-/// Questions 1, 17, 4, 8, 9.
+/// The particular solution: Boole's answers, under a fact and in an order, with 0 put for all
+/// parameters. Questions 1, 17, 4, 8, 22, 23, 9.
 ///
 /// ```
-/// # use layodegi::{particular, Answer, Letters, Order};
+/// # use layodegi::{particular, Answer, Letters, Order, NO_FACT};
 /// let letters = Letters { unknowns: 2, givens: 0 };
 /// let condition = [1, 1, 1, 0]; // u + v + 1
 /// let mut answers = [7; 8];
-/// let solved = particular(letters, Order::default_for(2), &condition, &mut answers);
+/// let solved = particular(letters, Order::default_for(2), NO_FACT, &condition, &mut answers);
 /// assert_eq!(solved, Ok(Answer::Solved));
 /// assert_eq!(answers, [1, 0, 0, 0, 0, 0, 0, 0]); // u = 1, v = 0
 ///
 /// let v_first = Order([1, 0, 255, 255, 255, 255]);
-/// assert_eq!(particular(letters, v_first, &condition, &mut answers), Ok(Answer::Solved));
+/// let solved = particular(letters, v_first, NO_FACT, &condition, &mut answers);
+/// assert_eq!(solved, Ok(Answer::Solved));
 /// assert_eq!(answers, [0, 0, 0, 0, 1, 0, 0, 0]); // u = 0, v = 1
+///
+/// let letters = Letters { unknowns: 1, givens: 2 };
+/// let (a_times_b, condition) = ([0, 0, 0, 0, 0, 0, 1, 0], [0, 0, 0, 1, 1, 1, 0, 0]); // a*u + b*u + b
+/// let solved =
+///     particular(letters, Order::default_for(1), &a_times_b, &condition, &mut answers);
+/// assert_eq!(solved, Ok(Answer::Solved));
+/// assert_eq!(answers, [0, 0, 0, 0, 1, 0, 1, 0]); // u = b + a*b
 /// ```
 pub fn particular(
     letters: Letters,
     order: Order,
+    fact: &[u8],
     condition: &[u8],
     answers: &mut [u8],
 ) -> Result<Answer, Refusal> {
@@ -308,6 +338,8 @@ pub fn particular(
             unknowns,
             givens,
             order.0.as_ptr(),
+            fact.as_ptr(),
+            fact.len(),
             condition.as_ptr(),
             condition.len(),
             answers.as_mut_ptr(),
@@ -317,19 +349,22 @@ pub fn particular(
     Code(code).answer()
 }
 
-/// Löwenheim's answers, from the particular solution in an order. Questions 1, 17, 4, 8, 9.
+/// Löwenheim's answers, from the particular solution under a fact and in an order.
+/// Questions 1, 17, 4, 8, 22, 23, 9.
 ///
 /// ```
-/// # use layodegi::{lowenheim, Answer, Letters, Order};
+/// # use layodegi::{lowenheim, Answer, Letters, Order, NO_FACT};
 /// let letters = Letters { unknowns: 2, givens: 0 };
+/// let u_plus_v = [0, 1, 1, 0];
 /// let mut answers = [7; 8];
-/// let solved = lowenheim(letters, Order::default_for(2), &[0, 1, 1, 0], &mut answers); // u + v
+/// let solved = lowenheim(letters, Order::default_for(2), NO_FACT, &u_plus_v, &mut answers);
 /// assert_eq!(solved, Ok(Answer::Solved));
 /// assert_eq!(answers, [0, 0, 0, 1, 0, 0, 0, 1]); // u = u*v, v = u*v
 /// ```
 pub fn lowenheim(
     letters: Letters,
     order: Order,
+    fact: &[u8],
     condition: &[u8],
     answers: &mut [u8],
 ) -> Result<Answer, Refusal> {
@@ -339,6 +374,8 @@ pub fn lowenheim(
             unknowns,
             givens,
             order.0.as_ptr(),
+            fact.as_ptr(),
+            fact.len(),
             condition.as_ptr(),
             condition.len(),
             answers.as_mut_ptr(),
@@ -348,34 +385,43 @@ pub fn lowenheim(
     Code(code).answer()
 }
 
-/// Löwenheim's formula on handed polynomials (an answer table) that make the condition zero.
-/// Questions 1, 4, 8, 21.
+/// Löwenheim's formula on handed polynomials (an answer table) that make the condition zero wherever
+/// the fact is 0. Questions 1, 4, 8, 22, 23, 21.
 ///
-/// They may mention unknowns, as long as putting them for the unknowns, all at once, makes the
-/// condition zero; without unknowns, the condition itself has to be zero. An accepted one gives a
-/// general solution: it and Boole's answers are instances of each other.
+/// They may mention unknowns, as long as putting them for the unknowns, all at once, makes f*(1 + g)
+/// zero; without unknowns, that itself has to be zero. An accepted one gives a general solution: it
+/// and Boole's answers are instances of each other.
 ///
 /// ```
-/// # use layodegi::{lowenheim_handed, Letters, Question};
+/// # use layodegi::{lowenheim_handed, Letters, Question, NO_FACT};
 /// let letters = Letters { unknowns: 2, givens: 0 };
 /// let u_plus_v = [0, 1, 1, 0];
 /// let mut answers = [7; 8];
 /// let ones = [1, 0, 0, 0, 1, 0, 0, 0]; // u = 1, v = 1: a favourite, and one of two solutions
-/// lowenheim_handed(letters, &u_plus_v, &ones, &mut answers)?;
+/// lowenheim_handed(letters, NO_FACT, &u_plus_v, &ones, &mut answers)?;
 /// assert_eq!(answers, [0, 1, 1, 1, 0, 1, 1, 1]); // u | v for both: every solution
 ///
 /// let both_v = [0, 0, 1, 0, 0, 0, 1, 0]; // u = v, v = v mentions an unknown
-/// lowenheim_handed(letters, &u_plus_v, &both_v, &mut answers)?;
+/// lowenheim_handed(letters, NO_FACT, &u_plus_v, &both_v, &mut answers)?;
 /// assert_eq!(answers, both_v);
 ///
 /// let one_and_v = [1, 0, 0, 0, 0, 0, 1, 0]; // u = 1, v = v solves where v is 1 only
-/// let refused = lowenheim_handed(letters, &u_plus_v, &one_and_v, &mut answers);
+/// let refused = lowenheim_handed(letters, NO_FACT, &u_plus_v, &one_and_v, &mut answers);
 /// assert_eq!(refused, Err(Question::Handed.into()));
 /// assert_eq!(answers, both_v); // as they were
+///
+/// let letters = Letters { unknowns: 1, givens: 2 };
+/// let (a_times_b, condition) = ([0, 0, 0, 0, 0, 0, 1, 0], [0, 0, 0, 1, 1, 1, 0, 0]); // a*u + b*u + b
+/// let b = [0, 0, 0, 0, 1, 0, 0, 0]; // u = b solves wherever a*b is 0
+/// lowenheim_handed(letters, &a_times_b, &condition, &b, &mut answers)?;
+/// assert_eq!(answers, [0, 1, 0, 1, 1, 1, 1, 0]); // u = b + u + a*b + a*u + b*u
+/// let refused = lowenheim_handed(letters, NO_FACT, &condition, &b, &mut answers);
+/// assert_eq!(refused, Err(Question::Handed.into()));
 /// # Ok::<(), layodegi::Refusal>(())
 /// ```
 pub fn lowenheim_handed(
     letters: Letters,
+    fact: &[u8],
     condition: &[u8],
     handed: &[u8],
     answers: &mut [u8],
@@ -385,6 +431,8 @@ pub fn lowenheim_handed(
         raw::layodegi_lowenheim_handed(
             unknowns,
             givens,
+            fact.as_ptr(),
+            fact.len(),
             condition.as_ptr(),
             condition.len(),
             handed.as_ptr(),
@@ -396,19 +444,23 @@ pub fn lowenheim_handed(
     Code(code).done()
 }
 
-/// Writes the entry of a condition, with Boole's answers in an order or 'none', and gives its
-/// length, at most [`LONGEST_ENTRY`]. Questions 1, 2, 17, 4, 8, 14.
+/// Writes the entry of a condition under a fact, with Boole's answers in an order or 'none', and gives
+/// its length, at most [`LONGEST_ENTRY`]. Questions 1, 2, 17, 4, 8, 22, 23, 14.
 ///
 /// ```
-/// # use layodegi::{write_entry, Letters, Order};
+/// # use layodegi::{write_entry, Letters, Order, NO_FACT};
 /// let mut out = [0; 28];
 /// let letters = Letters { unknowns: 1, givens: 1 };
-/// let length = write_entry(8, letters, Order::default_for(1), &[0, 0, 1, 0], &mut out)?; // a
+/// let (order, a) = (Order::default_for(1), [0, 0, 1, 0]);
+/// let length = write_entry(8, letters, order, NO_FACT, &a, &mut out)?;
 /// assert_eq!(out[..length], [1, 8, 1, 1, 2, 2, 0, 5, 1, 4, 8]); // 'none' at state 1
 ///
+/// let length = write_entry(8, letters, order, &a, &a, &mut out)?; // the fact a, and all is well
+/// assert_eq!(out[..length], [1, 8, 1, 1, 7, 2, 0, 2, 2, 0, 3, 0, 1, 0, 4, 8]); // u = u
+///
 /// let letters = Letters { unknowns: 2, givens: 0 };
-/// let v_first = Order([1, 0, 255, 255, 255, 255]);
-/// assert_eq!(write_entry(7, letters, v_first, &[0, 0, 0, 1], &mut out)?, 28); // u*v
+/// let (v_first, u_times_v) = (Order([1, 0, 255, 255, 255, 255]), [0, 0, 0, 1]);
+/// assert_eq!(write_entry(7, letters, v_first, NO_FACT, &u_times_v, &mut out)?, 28);
 /// assert_eq!(out[..11], [1, 7, 2, 0, 6, 1, 0, 255, 255, 255, 255]); // the order behind the start
 /// assert_eq!(out[11..18], [2, 3, 0, 3, 0, 1, 0]); // u*v; u = u
 /// assert_eq!(out[18..], [3, 1, 2, 0, 3, 1, 3, 0, 4, 7]); // v = v + u*v; end
@@ -418,6 +470,7 @@ pub fn write_entry(
     route: usize,
     letters: Letters,
     order: Order,
+    fact: &[u8],
     condition: &[u8],
     out: &mut [u8],
 ) -> Result<usize, Refusal> {
@@ -428,6 +481,8 @@ pub fn write_entry(
             unknowns,
             givens,
             order.0.as_ptr(),
+            fact.as_ptr(),
+            fact.len(),
             condition.as_ptr(),
             condition.len(),
             out.as_mut_ptr(),
@@ -437,28 +492,34 @@ pub fn write_entry(
     Code(code).number()
 }
 
-/// Reads the entry at the start of the bytes into a condition table and an answer table, and gives
-/// its order, 0, 1, 2 and so on where it holds none. A 'none' entry leaves the answer table as it
-/// was. Questions 10, 11, 1, 2, 12, 17, 4.
+/// Reads the entry at the start of the bytes into a table for its fact, zeros where it holds none, a
+/// condition table and an answer table, and gives its order, 0, 1, 2 and so on where it holds none. A
+/// 'none' entry leaves the answer table as it was. Questions 10, 11, 1, 2, 12, 17, 22, 23, 4.
 ///
 /// ```
 /// # use layodegi::{read_entry, Answer, Letters, Order, Reading, State};
-/// let (mut condition, mut answers) = ([7; 4], [7; 8]);
+/// let (mut fact, mut condition, mut answers) = ([7; 4], [7; 4], [7; 8]);
 /// let bytes = [1, 8, 1, 1, 2, 2, 0, 5, 1, 4, 8];
-/// let Reading { entry, order } = read_entry(&bytes, &mut condition, &mut answers)?;
+/// let Reading { entry, order } = read_entry(&bytes, &mut fact, &mut condition, &mut answers)?;
 /// assert_eq!((entry.route, entry.letters), (8, Letters { unknowns: 1, givens: 1 }));
 /// assert_eq!((entry.answer, entry.length), (Answer::None(State(1)), 11));
-/// assert_eq!((order, condition, answers), (Order::default_for(1), [0, 0, 1, 0], [7; 8]));
+/// assert_eq!((order, fact), (Order::default_for(1), [0; 4]));
+/// assert_eq!((condition, answers), ([0, 0, 1, 0], [7; 8]));
+///
+/// let bytes = [1, 8, 1, 1, 7, 2, 0, 2, 2, 0, 3, 0, 1, 0, 4, 8]; // the same with the fact a
+/// assert_eq!(read_entry(&bytes, &mut fact, &mut condition, &mut answers)?.entry.length, 16);
+/// assert_eq!((fact, condition), ([0, 0, 1, 0], [0, 0, 1, 0]));
 ///
 /// let start = [1, 7, 2, 0, 6, 1, 0, 255, 255, 255, 255]; // v first
 /// let bytes = [&start[..], &[2, 3, 0, 3, 0, 1, 0, 3, 1, 2, 0, 3, 1, 3, 0, 4, 7]].concat();
-/// let Reading { entry, order } = read_entry(&bytes, &mut condition, &mut answers)?;
+/// let Reading { entry, order } = read_entry(&bytes, &mut fact, &mut condition, &mut answers)?;
 /// assert_eq!((entry.length, order.unknowns()), (28, &[1, 0][..]));
 /// assert_eq!(answers, [0, 1, 0, 0, 0, 0, 1, 1]); // u = u, v = v + u*v
 /// # Ok::<(), layodegi::Refusal>(())
 /// ```
 pub fn read_entry(
     bytes: &[u8],
+    fact: &mut [u8],
     condition: &mut [u8],
     answers: &mut [u8],
 ) -> Result<Reading, Refusal> {
@@ -469,6 +530,8 @@ pub fn read_entry(
             bytes.as_ptr(),
             bytes.len(),
             order.0.as_mut_ptr(),
+            fact.as_mut_ptr(),
+            fact.len(),
             condition.as_mut_ptr(),
             condition.len(),
             answers.as_mut_ptr(),
@@ -478,8 +541,8 @@ pub fn read_entry(
     Code(code).entry().map(|entry| Reading { entry, order })
 }
 
-/// Reads the entry at the start of the bytes, solves its condition afresh in its order and
-/// compares. Questions 10, 11, 1, 2, 12, 17, 13.
+/// Reads the entry at the start of the bytes, solves its condition afresh under its fact and in its
+/// order, and compares. Questions 10, 11, 1, 2, 12, 17, 22, 23, 13.
 ///
 /// ```
 /// # use layodegi::{audit, Question};
@@ -490,6 +553,9 @@ pub fn read_entry(
 /// // the order v, u of no unknown at all
 /// let wrong = [1, 8, 0, 1, 6, 1, 0, 255, 255, 255, 255, 4, 8];
 /// assert_eq!(audit(&wrong), Err(Question::Order.into()));
+/// // the fact u
+/// let wrong = [1, 8, 1, 1, 7, 1, 0, 4, 8];
+/// assert_eq!(audit(&wrong), Err(Question::FactGivens.into()));
 /// # Ok::<(), layodegi::Refusal>(())
 /// ```
 pub fn audit(bytes: &[u8]) -> Result<Entry, Refusal> {

@@ -11,7 +11,7 @@ use std::fmt;
 /// assert_eq!(Question::Grammar.number(), 7);
 /// assert_eq!(Question::Grammar.to_string(), "Does the grammar read the whole text?");
 /// assert_eq!(Question::with_number(7), Some(Question::Grammar));
-/// assert_eq!(Question::with_number(22), None);
+/// assert_eq!(Question::with_number(24), None);
 /// ```
 #[derive(Clone, Copy, Debug, PartialEq, Eq, Hash)]
 #[repr(u8)]
@@ -35,7 +35,7 @@ pub enum Question {
     Bits = 8,
     /// Has the condition a solution?
     Solution = 9,
-    /// Does every record, to the first kind 4, have kind 1 to 6 and a whole body, and is there a
+    /// Does every record, to the first kind 4, have kind 1 to 7 and a whole body, and is there a
     /// kind 4?
     Records = 10,
     /// Are the kinds in the entry's order, both routes equal?
@@ -61,11 +61,15 @@ pub enum Question {
     Mask = 20,
     /// Does the handed substitution make the condition zero?
     Handed = 21,
+    /// Has g no unknown?
+    FactGivens = 22,
+    /// Is g 0 in some state?
+    FactState = 23,
 }
 
 impl Question {
     /// Every question, by number.
-    pub const ALL: [Question; 21] = [
+    pub const ALL: [Question; 23] = [
         Question::Letters,
         Question::Route,
         Question::TextLength,
@@ -87,6 +91,8 @@ impl Question {
         Question::Marked,
         Question::Mask,
         Question::Handed,
+        Question::FactGivens,
+        Question::FactState,
     ];
 
     /// The question with a number, if there is one.
@@ -117,7 +123,7 @@ impl Question {
             }
             Question::Solution => "Has the condition a solution?",
             Question::Records => {
-                "Does every record, to the first kind 4, have kind 1 to 6 and a whole body, \
+                "Does every record, to the first kind 4, have kind 1 to 7 and a whole body, \
                  and is there a kind 4?"
             }
             Question::Kinds => "Are the kinds in the entry's order, both routes equal?",
@@ -134,6 +140,8 @@ impl Question {
             Question::Marked => "When returning, is the name marked?",
             Question::Mask => "Has S only declared letters?",
             Question::Handed => "Does the handed substitution make the condition zero?",
+            Question::FactGivens => "Has g no unknown?",
+            Question::FactState => "Is g 0 in some state?",
         }
     }
 }

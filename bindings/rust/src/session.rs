@@ -67,7 +67,7 @@ impl fmt::Display for Name {
 /// may stand here.
 ///
 /// ```
-/// use layodegi::{boole, read_text, Answer, Letters, Name, Order, Refusal, Session, State};
+/// use layodegi::{boole, read_text, Answer, Letters, Name, Order, Refusal, Session, State, NO_FACT};
 ///
 /// // One circuit, u, and two givens, a and b.
 /// let letters = Letters { unknowns: 1, givens: 2 };
@@ -77,7 +77,7 @@ impl fmt::Display for Name {
 ///     Ok(table)
 /// };
 /// let solve = |session: &Session| {
-///     boole(letters, Order::default_for(1), session.table(), &mut [0; 8])
+///     boole(letters, Order::default_for(1), NO_FACT, session.table(), &mut [0; 8])
 /// };
 ///
 /// // u follows a
@@ -221,11 +221,12 @@ impl Session {
     /// The present table, 2^n bytes. Letters that are not permitted have no table: no bytes.
     ///
     /// ```
-    /// # use layodegi::{write_entry, Letters, Order, Session};
+    /// # use layodegi::{write_entry, Letters, Order, Session, NO_FACT};
     /// let letters = Letters { unknowns: 1, givens: 1 };
     /// let session = Session::start(letters).session.add(&[0, 1, 1, 0]).into_result()?; // u + a
     /// let mut entry = [0; 18];
-    /// let length = write_entry(7, letters, Order::default_for(1), session.table(), &mut entry)?;
+    /// let (order, table) = (Order::default_for(1), session.table());
+    /// let length = write_entry(7, letters, order, NO_FACT, table, &mut entry)?;
     /// assert_eq!(entry[..length], [1, 7, 1, 1, 2, 1, 0, 2, 2, 0, 3, 0, 2, 0, 4, 7]);
     /// # Ok::<(), layodegi::Refusal>(())
     /// ```

@@ -23,18 +23,26 @@ type RawPair =
     unsafe extern "C" fn(usize, usize, *const u8, usize, *const u8, usize, *mut u8, usize) -> u64;
 type SafePair = fn(Letters, &[u8], &[u8], &mut [u8]) -> Result<(), Refusal>;
 type ReferencePair = fn(u64, u64, &[u8], &[u8], &mut [u8]) -> Result<(), reference::Refusal>;
-type RawSolving =
-    unsafe extern "C" fn(usize, usize, *const u8, *const u8, usize, *mut u8, usize) -> u64;
-type SafeSolving = fn(Letters, Order, &[u8], &mut [u8]) -> Result<Answer, Refusal>;
+type RawSolving = unsafe extern "C" fn(
+    usize,
+    usize,
+    *const u8,
+    *const u8,
+    usize,
+    *const u8,
+    usize,
+    *mut u8,
+    usize,
+) -> u64;
+type SafeSolving = fn(Letters, Order, &[u8], &[u8], &mut [u8]) -> Result<Answer, Refusal>;
 type ReferenceSolving =
-    fn(u64, u64, reference::Order, &[u8], &mut [u8]) -> Result<Solved, reference::Refusal>;
+    fn(u64, u64, reference::Order, &[u8], &[u8], &mut [u8]) -> Result<Solved, reference::Refusal>;
 
-/// A call that reads a table and then a table or an answer table, and writes one of them.
+/// A call that reads a table and then a table or an answer table, and writes a table.
 #[derive(Clone, Copy)]
 pub struct PairCall {
     pub name: &'static str,
     pub reads_answers: bool,
-    pub writes_answers: bool,
     raw: RawPair,
     safe: SafePair,
     reference: ReferencePair,
@@ -43,7 +51,6 @@ pub struct PairCall {
 pub const SUM: PairCall = PairCall {
     name: "sum",
     reads_answers: false,
-    writes_answers: false,
     raw: raw::layodegi_sum,
     safe: layodegi::sum,
     reference: reference::sum,
@@ -52,7 +59,6 @@ pub const SUM: PairCall = PairCall {
 pub const PRODUCT: PairCall = PairCall {
     name: "product",
     reads_answers: false,
-    writes_answers: false,
     raw: raw::layodegi_product,
     safe: layodegi::product,
     reference: reference::product,
@@ -61,19 +67,9 @@ pub const PRODUCT: PairCall = PairCall {
 pub const SUBSTITUTE: PairCall = PairCall {
     name: "substitute",
     reads_answers: true,
-    writes_answers: false,
     raw: raw::layodegi_substitute,
     safe: layodegi::substitute,
     reference: reference::substitute,
-};
-
-pub const LOWENHEIM_HANDED: PairCall = PairCall {
-    name: "lowenheim_handed",
-    reads_answers: true,
-    writes_answers: true,
-    raw: raw::layodegi_lowenheim_handed,
-    safe: layodegi::lowenheim_handed,
-    reference: reference::lowenheim_handed,
 };
 
 /// A call that solves a condition.
@@ -204,30 +200,69 @@ impl Calls {
         &mut self,
         call: SolvingCall,
         (u, g, order): (u64, u64, reference::Order),
+        fact: &[u8],
         condition: &[u8],
         answers: &[u8],
     ) {
         self.case(
             (call.name, &[u, g]),
-            [&order.0, condition],
+            [&order.0, fact, condition],
             [answers],
-            |[order, condition], [answers]| {
+            |[order, fact, condition], [answers]| {
                 let order = reference::Order(six(order));
-                solved((call.reference)(u, g, order, condition, answers))
+                solved((call.reference)(u, g, order, fact, condition, answers))
             },
-            |[order, condition], [answers]| unsafe {
+            |[order, fact, condition], [answers]| unsafe {
                 (call.raw)(
                     u as usize,
                     g as usize,
                     order.as_ptr(),
+                    fact.as_ptr(),
+                    fact.len(),
                     condition.as_ptr(),
                     condition.len(),
                     answers.as_mut_ptr(),
                     answers.len(),
                 )
             },
-            |[order, condition], [answers]| {
-                (call.safe)(letters(u, g), Order(six(order)), condition, answers)
+            |[order, fact, condition], [answers]| {
+                (call.safe)(letters(u, g), Order(six(order)), fact, condition, answers)
+            },
+        );
+    }
+
+    pub fn lowenheim_handed(
+        &mut self,
+        u: u64,
+        g: u64,
+        fact: &[u8],
+        condition: &[u8],
+        handed: &[u8],
+        answers: &[u8],
+    ) {
+        self.case(
+            ("lowenheim_handed", &[u, g]),
+            [fact, condition, handed],
+            [answers],
+            |[fact, condition, handed], [answers]| {
+                done(reference::lowenheim_handed(u, g, fact, condition, handed, answers))
+            },
+            |[fact, condition, handed], [answers]| unsafe {
+                raw::layodegi_lowenheim_handed(
+                    u as usize,
+                    g as usize,
+                    fact.as_ptr(),
+                    fact.len(),
+                    condition.as_ptr(),
+                    condition.len(),
+                    handed.as_ptr(),
+                    handed.len(),
+                    answers.as_mut_ptr(),
+                    answers.len(),
+                )
+            },
+            |[fact, condition, handed], [answers]| {
+                layodegi::lowenheim_handed(letters(u, g), fact, condition, handed, answers)
             },
         );
     }
@@ -236,62 +271,74 @@ impl Calls {
         &mut self,
         route: u64,
         (u, g, order): (u64, u64, reference::Order),
+        fact: &[u8],
         condition: &[u8],
         out: &[u8],
     ) {
         self.case(
             ("write_entry", &[route, u, g]),
-            [&order.0, condition],
+            [&order.0, fact, condition],
             [out],
-            |[order, condition], [out]| {
+            |[order, fact, condition], [out]| {
                 let order = reference::Order(six(order));
-                number(reference::write_entry(route, u, g, order, condition, out))
+                number(reference::write_entry(route, u, g, order, fact, condition, out))
             },
-            |[order, condition], [out]| unsafe {
+            |[order, fact, condition], [out]| unsafe {
                 raw::layodegi_write_entry(
                     route as usize,
                     u as usize,
                     g as usize,
                     order.as_ptr(),
+                    fact.as_ptr(),
+                    fact.len(),
                     condition.as_ptr(),
                     condition.len(),
                     out.as_mut_ptr(),
                     out.len(),
                 )
             },
-            |[order, condition], [out]| {
+            |[order, fact, condition], [out]| {
                 let (route, order) = (route as usize, Order(six(order)));
-                layodegi::write_entry(route, letters(u, g), order, condition, out)
+                layodegi::write_entry(route, letters(u, g), order, fact, condition, out)
             },
         );
     }
 
     /// The order, six bytes, is a lent buffer to the archive; the wrapper gives it, and what it
     /// gives is put where the archive would put it.
-    pub fn read_entry(&mut self, bytes: &[u8], order: [u8; 6], condition: &[u8], answers: &[u8]) {
+    pub fn read_entry(
+        &mut self,
+        bytes: &[u8],
+        order: [u8; 6],
+        fact: &[u8],
+        condition: &[u8],
+        answers: &[u8],
+    ) {
         self.case(
             ("read_entry", &[]),
             [bytes],
-            [&order, condition, answers],
-            |[bytes], [order, condition, answers]| {
+            [&order, fact, condition, answers],
+            |[bytes], [order, fact, condition, answers]| {
                 let mut found = reference::Order(six(order));
-                let read = reference::read_entry(bytes, &mut found, condition, answers);
+                let read = reference::read_entry(bytes, &mut found, fact, condition, answers);
                 order.copy_from_slice(&found.0);
                 entry(read)
             },
-            |[bytes], [order, condition, answers]| unsafe {
+            |[bytes], [order, fact, condition, answers]| unsafe {
                 raw::layodegi_read_entry(
                     bytes.as_ptr(),
                     bytes.len(),
                     order.as_mut_ptr(),
+                    fact.as_mut_ptr(),
+                    fact.len(),
                     condition.as_mut_ptr(),
                     condition.len(),
                     answers.as_mut_ptr(),
                     answers.len(),
                 )
             },
-            |[bytes], [order, condition, answers]| {
-                let reading = layodegi::read_entry(bytes, condition, answers)?;
+            |[bytes], [order, fact, condition, answers]| {
+                let reading = layodegi::read_entry(bytes, fact, condition, answers)?;
                 order.copy_from_slice(&reading.order.0);
                 Ok(reading.entry)
             },

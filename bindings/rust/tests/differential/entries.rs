@@ -1,11 +1,12 @@
 //! Cases for writing, reading and auditing an entry.
 
 use crate::calls::Calls;
-use crate::making::{condition, damage, garbage, large, order, result, wrong_letters};
+use crate::making::{condition, damage, garbage, large, order, result, under_fact, wrong_letters};
 use layodegi::LONGEST_ENTRY;
 use reference::cases::entries::{
-    any_entry, built, built_none, damaged_entries, entry, entry_in, split,
+    any_entry, built, built_none, damaged_entries, entry, entry_in, entry_under, split,
 };
+use reference::cases::facts::{leaving_out, no_fact, wrong_facts};
 use reference::cases::orders::{default_order, every_order, reverse_order, wrong_orders};
 use reference::cases::{bench_tables, pairs, Random};
 use reference::plain::{self, transform};
@@ -16,57 +17,72 @@ pub fn run_writing() -> Calls {
     for (u, g) in wrong_letters(random) {
         let route = random.below(256) as u64;
         let order = order(random, u.min(6));
-        calls.write_entry(route, (u, g, order), &random.table(16, 2), &garbage(random, 64));
-        calls.write_entry(route, (u, g, order), &[], &[]);
+        let [fact, table] = [(); 2].map(|()| random.table(16, 2));
+        calls.write_entry(route, (u, g, order), &fact, &table, &garbage(random, 64));
+        calls.write_entry(route, (u, g, order), &[], &[], &[]);
     }
     for route in (0..=260).chain((0..200).map(|_| large(random).max(251)).collect::<Vec<_>>()) {
-        let table = condition(random, 2, 1);
+        let (fact, table) = under_fact(random, 2, 1);
         let order = order(random, 2);
-        calls.write_entry(route, (2, 1, order), &table, &garbage(random, 110));
-        calls.write_entry(route, (2, 1, order), &table[1..], &garbage(random, 2));
+        calls.write_entry(route, (2, 1, order), &fact, &table, &garbage(random, 110));
+        calls.write_entry(route, (2, 1, order), &fact, &table[1..], &garbage(random, 2));
     }
     for u in 0..=6 {
         for order in every_order(u).into_iter().chain(wrong_orders(u)) {
-            let table = condition(random, u, 1);
-            calls.write_entry(9, (u, 1, order), &table, &garbage(random, LONGEST_ENTRY));
-            calls.write_entry(9, (u, 1, order), &table[1..], &[]);
+            let (fact, table) = under_fact(random, u, 1);
+            calls.write_entry(9, (u, 1, order), &fact, &table, &garbage(random, LONGEST_ENTRY));
+            calls.write_entry(9, (u, 1, order), &fact, &table[1..], &[]);
         }
     }
     for (u, g, table) in bench_tables() {
         for _ in 0..10 {
-            let order = random.order(u);
-            let exact = entry_in(order, 7, u, g, &table).len();
-            calls.write_entry(7, (u, g, order), &table, &result(random, exact));
+            let (order, fact) = (random.order(u), random.fact(u, g));
+            let exact = entry_under(order, 7, u, g, &fact, &table).len();
+            calls.write_entry(7, (u, g, order), &fact, &table, &result(random, exact));
         }
     }
     for (u, g) in pairs(0, 10) {
         for _ in 0..80 {
-            let mut table = condition(random, u, g);
+            let (mut fact, mut table) = random.under_fact(u, g);
             let route = 1 + random.below(250) as u64;
             let right = random.order(u);
-            let exact = entry_in(right, route, u, g, &table).len();
+            let exact = entry_under(right, route, u, g, &fact, &table).len();
+            damage(random, &mut fact);
             damage(random, &mut table);
             let order = if random.once_in(6) { order(random, u) } else { right };
-            calls.write_entry(route, (u, g, order), &table, &result(random, exact));
+            calls.write_entry(route, (u, g, order), &fact, &table, &result(random, exact));
         }
-        let table = condition(random, u, g);
+        let (fact, table) = random.under_fact(u, g);
         let order = random.order(u);
-        let exact = entry_in(order, 250, u, g, &table).len();
+        let exact = entry_under(order, 250, u, g, &fact, &table).len();
         for length in [exact - 1, exact, exact + 1, LONGEST_ENTRY, LONGEST_ENTRY + 1] {
-            calls.write_entry(250, (u, g, order), &table, &garbage(random, length));
+            calls.write_entry(250, (u, g, order), &fact, &table, &garbage(random, length));
+        }
+        for fact in wrong_facts(u, g) {
+            calls.write_entry(9, (u, g, order), &fact, &table, &garbage(random, exact));
+            calls.write_entry(9, (u, g, order), &fact, &table, &[]);
+            calls.write_entry(9, (u, g, order), &fact, &table[1..], &[]);
+            calls.write_entry(9, (u, g, order), &fact[1..], &table, &[]);
         }
         // Every monomial: such an entry has the whole written order.
         let table = vec![1; 1 << (u + g)];
-        calls.write_entry(7, (u, g, order), &table, &garbage(random, LONGEST_ENTRY));
+        for fact in [no_fact(u, g), every_monomial(u, g)] {
+            calls.write_entry(7, (u, g, order), &fact, &table, &garbage(random, LONGEST_ENTRY));
+        }
     }
     for table in long_conditions(random) {
-        let order = reverse_order(6);
-        let exact = entry_in(order, 250, 6, 4, &table).len();
+        let (order, fact) = (reverse_order(6), every_monomial(6, 4));
+        let exact = entry_under(order, 250, 6, 4, &fact, &table).len();
         for length in [exact - 1, exact, LONGEST_ENTRY] {
-            calls.write_entry(250, (6, 4, order), &table, &garbage(random, length));
+            calls.write_entry(250, (6, 4, order), &fact, &table, &garbage(random, length));
         }
     }
     calls
+}
+
+/// The fact with all monomials that have no unknown: 1 in state 0 alone. Without givens it is 1.
+fn every_monomial(u: u64, g: u64) -> Vec<u8> {
+    leaving_out(u, g, |state| state == 0)
 }
 
 pub fn run_reading() -> Calls {
@@ -80,7 +96,8 @@ pub fn run_reading() -> Calls {
             _ => (1024, 6144),
         };
         let order = [(); 6].map(|()| random.number() as u8);
-        calls.read_entry(&bytes, order, &result(random, table), &result(random, answers));
+        let [fact, table, answers] = [table, table, answers].map(|exact| result(random, exact));
+        calls.read_entry(&bytes, order, &fact, &table, &answers);
     }
     calls
 }
@@ -98,12 +115,17 @@ pub fn run_audits() -> Calls {
 fn entries(random: &mut Random) -> Vec<Vec<u8>> {
     let mut all = damaged_entries(random);
     for (u, g, table) in bench_tables() {
-        all.extend(other_answers(random, u, g, &table));
+        all.extend(other_answers(random, u, g, &no_fact(u, g), &table));
     }
     for (u, g) in pairs(0, 10) {
         for _ in 0..6 {
-            let table = condition(random, u, g);
-            all.extend(other_answers(random, u, g, &table));
+            let (fact, table) = under_fact(random, u, g);
+            all.extend(other_answers(random, u, g, &fact, &table));
+        }
+        for fact in wrong_facts(u, g) {
+            let (order, table) = (random.order(u), condition(random, u, g));
+            all.push(built(order, 7, u, g, &fact, &table, &[]));
+            all.push(built_none(order, 7, u, g, &fact, &table, 0));
         }
         for _ in 0..12 {
             let bytes = any_entry(random, u, g);
@@ -114,6 +136,7 @@ fn entries(random: &mut Random) -> Vec<Vec<u8>> {
             let table = condition(random, u, g);
             let bytes = entry(1, u, g, &table);
             all.push(reordered(random, u, &bytes));
+            all.push(with_other_fact(random, u, g, &bytes));
         }
         for route in [0, 251, 255] {
             let table = condition(random, u, g);
@@ -129,9 +152,10 @@ fn entries(random: &mut Random) -> Vec<Vec<u8>> {
         all.push(vec![1, 9, u, g, 4, 8]);
     }
     for table in long_conditions(random) {
-        all.push(entry_in(reverse_order(6), 250, 6, 4, &table));
+        all.push(entry_under(reverse_order(6), 250, 6, 4, &every_monomial(6, 4), &table));
     }
-    let full = built(reverse_order(6), 250, 6, 4, &[1; 1024], &[1; 6144]);
+    let fact = every_monomial(6, 4);
+    let full = built(reverse_order(6), 250, 6, 4, &fact, &[1; 1024], &[1; 6144]);
     assert_eq!(full.len(), LONGEST_ENTRY);
     all.push([&full[..], &full].concat());
     all.push(full[..LONGEST_ENTRY - 1].to_vec());
@@ -140,28 +164,45 @@ fn entries(random: &mut Random) -> Vec<Vec<u8>> {
 }
 
 /// Whole entries whose answers or state are perhaps not those solved afresh.
-fn other_answers(random: &mut Random, u: u64, g: u64, table: &[u8]) -> Vec<Vec<u8>> {
+fn other_answers(random: &mut Random, u: u64, g: u64, fact: &[u8], table: &[u8]) -> Vec<Vec<u8>> {
     let route = random.below(256) as u8;
     let order = random.order(u);
     let mut answers = vec![0; u as usize * table.len()];
-    let mut all = vec![built(order, route, u, g, table, &answers)];
+    let mut all = vec![built(order, route, u, g, fact, table, &answers)];
     for method in [reference::lowenheim, reference::particular, reference::boole] {
-        if method(u, g, order, table, &mut answers) == Ok(reference::Solved::Done) {
-            all.push(built(order, route, u, g, table, &answers));
+        if method(u, g, order, fact, table, &mut answers) == Ok(reference::Solved::Done) {
+            all.push(built(order, route, u, g, fact, table, &answers));
         }
     }
-    // the answers of one order under another
-    all.push(built(random.order(u), route, u, g, table, &answers));
-    all.push(built(default_order(u), route, u, g, table, &answers));
+    // the answers of one order, or of one fact, under another
+    all.push(built(random.order(u), route, u, g, fact, table, &answers));
+    all.push(built(default_order(u), route, u, g, fact, table, &answers));
+    all.push(built(order, route, u, g, &random.fact(u, g), table, &answers));
+    all.push(built(order, route, u, g, &no_fact(u, g), table, &answers));
     if !answers.is_empty() {
         // one monomial more or less
         let place = random.below(answers.len());
         answers[place] ^= 1;
-        all.push(built(order, route, u, g, table, &answers));
+        all.push(built(order, route, u, g, fact, table, &answers));
     }
-    all.push(built_none(order, route, u, g, table, random.below(1 << g) as u8));
-    all.push(built_none(order, route, u, g, table, random.number() as u8));
+    all.push(built_none(order, route, u, g, fact, table, random.below(1 << g) as u8));
+    all.push(built_none(order, route, u, g, fact, table, random.number() as u8));
     all
+}
+
+/// An entry without kind 7, with some put in, of masks that are mostly below 2^n, mostly in their place.
+fn with_other_fact(random: &mut Random, u: u64, g: u64, bytes: &[u8]) -> Vec<u8> {
+    let mut records = split(bytes);
+    for _ in 0..1 + random.below(2) {
+        let mask = match random.below(8) {
+            0 => random.number() as u16,
+            1 => random.below(1 << (u + g)) as u16,
+            _ => (random.below(1 << g) << u) as u16,
+        };
+        let place = if random.once_in(4) { random.below(records.len()) } else { 1 };
+        records.insert(place, vec![7, mask as u8, (mask >> 8) as u8]);
+    }
+    records.concat()
 }
 
 /// An entry without kind 6, with one put in, right or wrong, mostly in its place.
@@ -199,11 +240,11 @@ pub fn damaged(random: &mut Random, bytes: &[u8]) -> Vec<u8> {
     let place = random.below(bytes.len());
     match random.below(8) {
         0 => bytes[place] = random.number() as u8,
-        1 => bytes[place] = random.below(8) as u8,
+        1 => bytes[place] = random.below(9) as u8,
         2 => bytes[place] ^= 1 << random.below(8),
         3 => bytes.truncate(place),
         4 => {
-            bytes.insert(place, random.below(7) as u8);
+            bytes.insert(place, random.below(8) as u8);
         }
         5 => drop(bytes.remove(place)),
         _ => return moved(random, &bytes),
@@ -237,11 +278,11 @@ fn long_conditions(random: &mut Random) -> Vec<Vec<u8>> {
 }
 
 fn long_condition(random: &mut Random) -> Vec<u8> {
-    let mut answers = vec![0; 6 * 1024];
+    let (fact, mut answers) = (every_monomial(6, 4), vec![0; 6 * 1024]);
     let mut length = |table: &[u8]| {
         let ones = |table: &[u8]| table.iter().filter(|&&byte| byte == 1).count();
-        match plain::boole::<u64>(6, 4, reverse_order(6), table, &mut answers) {
-            Ok(reference::Solved::Done) => 13 + 3 * ones(table) + 4 * ones(&answers),
+        match plain::boole::<u64>(6, 4, reverse_order(6), &fact, table, &mut answers) {
+            Ok(reference::Solved::Done) => 3 * ones(table) + 4 * ones(&answers),
             _ => 0,
         }
     };

@@ -1,5 +1,6 @@
 //! What the cases of several calls are made from.
 
+use reference::cases::facts::no_fact;
 use reference::cases::orders::wrong_orders;
 use reference::cases::{Random, TOO_LARGE};
 use reference::Order;
@@ -45,6 +46,16 @@ pub fn order(random: &mut Random, u: u64) -> Order {
         }
         1 => Order([(); 6].map(|()| random.number() as u8)),
         _ => random.any_order(u),
+    }
+}
+
+/// A fact and a condition: the fact mostly right, or 0; the condition any, or one that has a solution
+/// under the fact alone.
+pub fn under_fact(random: &mut Random, u: u64, g: u64) -> (Vec<u8>, Vec<u8>) {
+    match random.below(3) {
+        0 => (no_fact(u, g), condition(random, u, g)),
+        1 => (random.any_fact(u, g), condition(random, u, g)),
+        _ => random.under_fact(u, g),
     }
 }
 

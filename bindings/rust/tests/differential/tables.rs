@@ -41,52 +41,42 @@ fn around(random: &mut Random, bound: usize) -> u64 {
 }
 
 pub fn run_sums() -> Calls {
-    run_pairs(SUM, 120, any_second)
+    run_pairs(SUM, 120)
 }
 
 pub fn run_products() -> Calls {
-    run_pairs(PRODUCT, 90, any_second)
+    run_pairs(PRODUCT, 90)
 }
 
 pub fn run_substitutions() -> Calls {
-    run_pairs(SUBSTITUTE, 80, any_second)
+    run_pairs(SUBSTITUTE, 80)
 }
 
-/// Makes the second table of a pair, of a length, for U, G and the first table.
-type Second = fn(&mut Random, (u64, u64), &[u8], usize) -> Vec<u8>;
-
-/// Whatever the first table is.
-fn any_second(random: &mut Random, _: (u64, u64), _: &[u8], length: usize) -> Vec<u8> {
-    random.any_table(length)
-}
-
-/// Cases for a call on two tables, of which the second and the result may be answer tables.
-pub fn run_pairs(call: PairCall, many: usize, make: Second) -> Calls {
+/// Cases for a call on two tables, of which the second may be an answer table.
+fn run_pairs(call: PairCall, many: usize) -> Calls {
     let mut calls = Calls::new('P');
     let random = &mut Random::new(call.name.as_bytes()[0] as char);
-    let length =
-        |answers: bool, u: u64, g: u64| (1 << (u + g)) * if answers { u as usize } else { 1 };
-    let second = |u: u64, g: u64| length(call.reads_answers, u, g);
-    let third = |u: u64, g: u64| length(call.writes_answers, u, g);
+    let length = |u: u64, g: u64| 1 << (u + g);
+    let second = |u: u64, g: u64| length(u, g) * if call.reads_answers { u as usize } else { 1 };
     for (u, g) in wrong_letters(random) {
         calls.pair(call, u, g, &random.table(16, 2), &random.table(64, 2), &garbage(random, 64));
         calls.pair(call, u, g, &[7], &[], &[]);
     }
     for (u, g, table) in bench_tables() {
-        let other = make(random, (u, g), &table, second(u, g));
-        calls.pair(call, u, g, &table, &other, &result(random, third(u, g)));
+        let other = random.any_table(second(u, g));
+        calls.pair(call, u, g, &table, &other, &result(random, length(u, g)));
     }
     for (u, g) in pairs(0, 10) {
         for _ in 0..many {
             let mut a = condition(random, u, g);
-            let mut b = make(random, (u, g), &a, second(u, g));
+            let mut b = random.any_table(second(u, g));
             damage(random, &mut a);
             damage(random, &mut b);
-            calls.pair(call, u, g, &a, &b, &result(random, third(u, g)));
+            calls.pair(call, u, g, &a, &b, &result(random, length(u, g)));
         }
         let a = condition(random, u, g);
-        let b = make(random, (u, g), &a, second(u, g));
-        one_short(&mut calls, call, (u, g), &a, &b, &garbage(random, third(u, g)));
+        let b = random.any_table(second(u, g));
+        one_short(&mut calls, call, (u, g), &a, &b, &garbage(random, length(u, g)));
     }
     calls
 }

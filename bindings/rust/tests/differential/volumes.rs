@@ -2,8 +2,9 @@
 
 use crate::calls::Calls;
 use crate::entries::{damaged, rerouted};
-use crate::making::{condition, garbage};
-use reference::cases::entries::{damaged_entries, entry, entry_in};
+use crate::making::garbage;
+use reference::cases::entries::{built, damaged_entries, entry, entry_under};
+use reference::cases::facts::wrong_facts;
 use reference::cases::{pairs, Random};
 
 pub fn run() -> Calls {
@@ -29,6 +30,14 @@ pub fn run() -> Calls {
         let volume = [&before[..], &bytes, &after].concat();
         calls.walk(&volume, random.pick(&[0, 0, before.len()]));
     }
+    for (u, g) in pairs(0, 6) {
+        for fact in wrong_facts(u, g) {
+            let (order, table) = (random.order(u), random.solvable(u, g));
+            let wrong = built(order, 7, u, g, &fact, &table, &[]);
+            calls.walk(&[&before[..], &wrong, &after].concat(), 0);
+            calls.walk(&[&wrong[..], &after].concat(), 0);
+        }
+    }
     calls
 }
 
@@ -46,9 +55,10 @@ fn volume(random: &mut Random, many: usize, letters: u64) -> Vec<Vec<u8>> {
             route = 1 + random.below(250);
         }
         let (u, g) = random.pick(&letters);
-        let table = condition(random, u, g);
+        let (fact, table) = random.under_fact(u, g);
         let order = random.order(u);
-        entries.push(entry_in(order, (1 + (route - 1) % 250) as u64, u, g, &table));
+        let route = (1 + (route - 1) % 250) as u64;
+        entries.push(entry_under(order, route, u, g, &fact, &table));
     }
     entries
 }
