@@ -1,10 +1,10 @@
 //! The calls, the engine's beside plain Rust's in both forms, two of them once more in the reverse
-//! order, the handed form accepted and refused, and the steps of a session together. All get the same
-//! lent inputs, and write over a buffer of their own again and again: none is cleared first.
+//! order, three under a fact, the handed form accepted and refused, and the steps of a session
+//! together. Where a row names no fact it is 0. All get the same lent inputs, and write over a buffer of their own again and again: none is cleared first.
 
 use crate::inputs::{counts, default_order, reverse_order, Inputs};
 use crate::timing::{compare, Compared, Effort};
-use layodegi::{Answer, Question};
+use layodegi::{Answer, Question, NO_FACT};
 use reference::plain::{self, Block, Bytes};
 use reference::Step;
 use reference::LONGEST_ENTRY;
@@ -25,7 +25,7 @@ pub struct Call {
     pub measure: fn(&Inputs, Effort) -> Compared,
 }
 
-pub const CALLS: [Call; 18] = [
+pub const CALLS: [Call; 21] = [
     Call { name: "read_text", note: "", measure: read_text },
     Call { name: "value", note: "", measure: value },
     Call { name: "sum", note: "", measure: sum },
@@ -34,14 +34,17 @@ pub const CALLS: [Call; 18] = [
     Call { name: "derivative", note: "", measure: derivative },
     Call { name: "boole", note: "", measure: boole },
     Call { name: "boole", note: " in reverse order", measure: boole_reversed },
+    Call { name: "boole", note: " under a fact", measure: boole_under_fact },
     Call { name: "particular", note: "", measure: particular },
     Call { name: "lowenheim", note: "", measure: lowenheim },
     Call { name: "lowenheim_handed", note: ", accepted", measure: lowenheim_handed },
     Call { name: "lowenheim_handed", note: ", refused", measure: lowenheim_handed_refused },
     Call { name: "write_entry", note: "", measure: write_entry },
     Call { name: "write_entry", note: " in reverse order", measure: write_entry_reversed },
+    Call { name: "write_entry", note: " under a fact", measure: write_entry_under_fact },
     Call { name: "read_entry", note: "", measure: read_entry },
     Call { name: "audit", note: "", measure: audit },
+    Call { name: "audit", note: " under a fact", measure: audit_under_fact },
     Call { name: "walk", note: "", measure: walk },
     Call { name: "session", note: ", five steps", measure: session },
 ];
@@ -194,31 +197,27 @@ fn derivative(inputs: &Inputs, effort: Effort) -> Compared {
 }
 
 fn boole(inputs: &Inputs, effort: Effort) -> Compared {
-    solve(
-        inputs,
-        default_order(inputs.letters),
-        effort,
-        layodegi::boole,
-        plain::boole::<Bytes>,
-        plain::boole::<u64>,
-    )
+    boole_on(inputs.letters, default_order(inputs.letters), &inputs.without_facts(), effort)
 }
 
 fn boole_reversed(inputs: &Inputs, effort: Effort) -> Compared {
-    solve(
-        inputs,
-        reverse_order(inputs.letters),
-        effort,
-        layodegi::boole,
-        plain::boole::<Bytes>,
-        plain::boole::<u64>,
-    )
+    boole_on(inputs.letters, reverse_order(inputs.letters), &inputs.without_facts(), effort)
+}
+
+fn boole_under_fact(inputs: &Inputs, effort: Effort) -> Compared {
+    boole_on(inputs.letters, default_order(inputs.letters), &inputs.under_facts(), effort)
+}
+
+fn boole_on(counted: Letters, order: Order, asked: &[Asked], effort: Effort) -> Compared {
+    let (bytes, words) = (plain::boole::<Bytes>, plain::boole::<u64>);
+    solve(counted, order, asked, effort, layodegi::boole, bytes, words)
 }
 
 fn particular(inputs: &Inputs, effort: Effort) -> Compared {
     solve(
-        inputs,
+        inputs.letters,
         default_order(inputs.letters),
+        &inputs.without_facts(),
         effort,
         layodegi::particular,
         plain::particular::<Bytes>,
@@ -228,8 +227,9 @@ fn particular(inputs: &Inputs, effort: Effort) -> Compared {
 
 fn lowenheim(inputs: &Inputs, effort: Effort) -> Compared {
     solve(
-        inputs,
+        inputs.letters,
         default_order(inputs.letters),
+        &inputs.without_facts(),
         effort,
         layodegi::lowenheim,
         plain::lowenheim::<Bytes>,
@@ -237,24 +237,28 @@ fn lowenheim(inputs: &Inputs, effort: Effort) -> Compared {
     )
 }
 
-/// A call that solves, in an order.
+/// A fact and a condition.
+type Asked = (Vec<u8>, Vec<u8>);
+
+/// A call that solves conditions under facts, in an order.
 fn solve(
-    inputs: &Inputs,
+    counted: Letters,
     order: Order,
+    asked: &[Asked],
     effort: Effort,
-    engine: impl Fn(layodegi::Letters, layodegi::Order, &[u8], &mut [u8]) -> Engine,
-    bytes: impl Fn(u64, u64, Order, &[u8], &mut [u8]) -> Plain,
-    words: impl Fn(u64, u64, Order, &[u8], &mut [u8]) -> Plain,
+    engine: impl Fn(layodegi::Letters, layodegi::Order, &[u8], &[u8], &mut [u8]) -> Engine,
+    bytes: impl Fn(u64, u64, Order, &[u8], &[u8], &mut [u8]) -> Plain,
+    words: impl Fn(u64, u64, Order, &[u8], &[u8], &mut [u8]) -> Plain,
 ) -> Compared {
-    let (letters, (u, g)) = (engine_letters(inputs.letters), counts(inputs.letters));
+    let (letters, (u, g)) = (engine_letters(counted), counts(counted));
     let for_engine = engine_order(order);
     measure(
         effort,
-        &inputs.conditions,
-        inputs.letters.answer_length(),
-        |condition, out| engine(letters, for_engine, condition, out),
-        |condition, out| bytes(u, g, order, condition, out),
-        |condition, out| words(u, g, order, condition, out),
+        asked,
+        counted.answer_length(),
+        |(fact, condition), out| engine(letters, for_engine, fact, condition, out),
+        |(fact, condition), out| bytes(u, g, order, fact, condition, out),
+        |(fact, condition), out| words(u, g, order, fact, condition, out),
         both_solved,
     )
 }
@@ -282,31 +286,35 @@ fn handed(
         effort,
         pairs,
         counted.answer_length(),
-        |(condition, handed), out| layodegi::lowenheim_handed(letters, condition, handed, out),
-        |(condition, handed), out| plain::lowenheim_handed::<Bytes>(u, g, condition, handed, out),
-        |(condition, handed), out| plain::lowenheim_handed::<u64>(u, g, condition, handed, out),
+        |(f, handed), out| layodegi::lowenheim_handed(letters, NO_FACT, f, handed, out),
+        |(f, handed), out| plain::lowenheim_handed::<Bytes>(u, g, NO_FACT, f, handed, out),
+        |(f, handed), out| plain::lowenheim_handed::<u64>(u, g, NO_FACT, f, handed, out),
         same,
     )
 }
 
 fn write_entry(inputs: &Inputs, effort: Effort) -> Compared {
-    write_entry_in(inputs, default_order(inputs.letters), effort)
+    write_on(inputs.letters, default_order(inputs.letters), &inputs.without_facts(), effort)
 }
 
 fn write_entry_reversed(inputs: &Inputs, effort: Effort) -> Compared {
-    write_entry_in(inputs, reverse_order(inputs.letters), effort)
+    write_on(inputs.letters, reverse_order(inputs.letters), &inputs.without_facts(), effort)
 }
 
-fn write_entry_in(inputs: &Inputs, order: Order, effort: Effort) -> Compared {
-    let (letters, (u, g)) = (engine_letters(inputs.letters), counts(inputs.letters));
+fn write_entry_under_fact(inputs: &Inputs, effort: Effort) -> Compared {
+    write_on(inputs.letters, default_order(inputs.letters), &inputs.under_facts(), effort)
+}
+
+fn write_on(counted: Letters, order: Order, asked: &[Asked], effort: Effort) -> Compared {
+    let (letters, (u, g)) = (engine_letters(counted), counts(counted));
     let for_engine = engine_order(order);
     measure(
         effort,
-        &inputs.conditions,
+        asked,
         LONGEST_ENTRY,
-        |condition, out| layodegi::write_entry(7, letters, for_engine, condition, out),
-        |condition, out| plain::write_entry::<Bytes>(7, u, g, order, condition, out),
-        |condition, out| plain::write_entry::<u64>(7, u, g, order, condition, out),
+        |(fact, f), out| layodegi::write_entry(7, letters, for_engine, fact, f, out),
+        |(fact, f), out| plain::write_entry::<Bytes>(7, u, g, order, fact, f, out),
+        |(fact, f), out| plain::write_entry::<u64>(7, u, g, order, fact, f, out),
         |engine, plain| engine.is_ok() && engine.ok() == plain.ok(),
     )
 }
@@ -316,23 +324,13 @@ fn read_entry(inputs: &Inputs, effort: Effort) -> Compared {
     measure(
         effort,
         &inputs.entries,
-        length + inputs.letters.answer_length(),
+        2 * length + inputs.letters.answer_length(),
         |entry, out| {
-            let (condition, answers) = out.split_at_mut(length);
-            layodegi::read_entry(entry, condition, answers)
+            let [fact, condition, answers] = three_buffers(out, length);
+            layodegi::read_entry(entry, fact, condition, answers)
         },
-        |entry, out| {
-            let (condition, answers) = out.split_at_mut(length);
-            let mut order = Order([0; 6]);
-            let read = plain::read_entry::<Bytes>(entry, &mut order, condition, answers);
-            read.map(|reading| (reading, order))
-        },
-        |entry, out| {
-            let (condition, answers) = out.split_at_mut(length);
-            let mut order = Order([0; 6]);
-            let read = plain::read_entry::<u64>(entry, &mut order, condition, answers);
-            read.map(|reading| (reading, order))
-        },
+        |entry, out| plain_read::<Bytes>(entry, three_buffers(out, length)),
+        |entry, out| plain_read::<u64>(entry, three_buffers(out, length)),
         |engine, plain| match (engine, plain) {
             (Ok(engine), Ok((plain, order))) => {
                 engine.order == engine_order(order) && same_entry(Ok(engine.entry), Ok(plain))
@@ -342,10 +340,34 @@ fn read_entry(inputs: &Inputs, effort: Effort) -> Compared {
     )
 }
 
+/// For the fact and the condition, of a length, and for the answers.
+fn three_buffers(out: &mut [u8], length: usize) -> [&mut [u8]; 3] {
+    let (fact, rest) = out.split_at_mut(length);
+    let (condition, answers) = rest.split_at_mut(length);
+    [fact, condition, answers]
+}
+
+fn plain_read<B: Block>(
+    entry: &[u8],
+    [fact, condition, answers]: [&mut [u8]; 3],
+) -> Result<(Reading, Order), Refusal> {
+    let mut order = Order([0; 6]);
+    let reading = plain::read_entry::<B>(entry, &mut order, fact, condition, answers)?;
+    Ok((reading, order))
+}
+
 fn audit(inputs: &Inputs, effort: Effort) -> Compared {
+    audit_on(&inputs.entries, effort)
+}
+
+fn audit_under_fact(inputs: &Inputs, effort: Effort) -> Compared {
+    audit_on(&inputs.entries_under_facts(), effort)
+}
+
+fn audit_on(entries: &[Vec<u8>], effort: Effort) -> Compared {
     measure(
         effort,
-        &inputs.entries,
+        entries,
         0,
         |entry, _| layodegi::audit(entry),
         |entry, _| plain::audit::<Bytes>(entry),

@@ -1,5 +1,6 @@
 //! What the calls are measured on: texts, tables, entries and a volume, from a fixed seed.
 
+use reference::cases::facts::no_fact;
 use reference::cases::{self, handed};
 use reference::plain;
 use reference::{Letters, Order, Solved, LONGEST_ENTRY};
@@ -34,7 +35,8 @@ impl Random {
 pub enum Kind {
     /// Texts as a designer writes them, and the conditions that they are read into.
     Typical,
-    /// Texts of as many letters as fit; tables in which every second monomial is present.
+    /// Texts of as many letters as fit; tables in which every second monomial is present, in a fact
+    /// every second without an unknown.
     Dense,
 }
 
@@ -43,6 +45,8 @@ pub struct Inputs {
     pub texts: Vec<Vec<u8>>,
     /// Conditions that have a solution.
     pub conditions: Vec<Vec<u8>>,
+    /// A fact for each condition, none of them 0.
+    pub facts: Vec<Vec<u8>>,
     /// Two tables each.
     pub pairs: Vec<(Vec<u8>, Vec<u8>)>,
     /// A condition and polynomials to be handed over.
@@ -61,14 +65,38 @@ impl Inputs {
         let pairs = (0..COUNT).map(|place| (conditions[place].clone(), next(place))).collect();
         let handed =
             (0..COUNT).map(|place| (conditions[place].clone(), answers(letters, &next(place))));
-        let handed = handed.collect();
-        let entries: Vec<_> = conditions
-            .iter()
-            .enumerate()
-            .map(|(place, condition)| entry(1 + place as u64, letters, condition))
-            .collect();
-        let volumes = vec![entries.concat()];
-        Inputs { letters, texts, conditions, pairs, handed, entries, volumes }
+        let handed =
+            handed.map(|(condition, answers)| (condition, answers.expect("a solution"))).collect();
+        let facts = (0..COUNT).map(|_| fact(letters, kind, &mut random)).collect();
+        let mut inputs = Inputs {
+            letters,
+            texts,
+            conditions,
+            facts,
+            pairs,
+            handed,
+            entries: vec![],
+            volumes: vec![],
+        };
+        inputs.entries = entries(letters, &inputs.without_facts());
+        inputs.volumes = vec![inputs.entries.concat()];
+        inputs
+    }
+
+    /// The fact 0 and each condition.
+    pub fn without_facts(&self) -> Vec<(Vec<u8>, Vec<u8>)> {
+        let (u, g) = counts(self.letters);
+        self.conditions.iter().map(|condition| (no_fact(u, g), condition.clone())).collect()
+    }
+
+    /// Each condition behind its fact.
+    pub fn under_facts(&self) -> Vec<(Vec<u8>, Vec<u8>)> {
+        self.facts.iter().cloned().zip(self.conditions.iter().cloned()).collect()
+    }
+
+    /// The entries of the conditions under their facts.
+    pub fn entries_under_facts(&self) -> Vec<Vec<u8>> {
+        entries(self.letters, &self.under_facts())
     }
 
     /// Each condition and dense polynomials that make it zero: at each state and choice they lead to
@@ -94,7 +122,9 @@ impl Inputs {
                 changed
             });
             let mut refused = changed.filter(|changed| {
-                plain::lowenheim_handed::<u64>(u, g, condition, changed, &mut answers).is_err()
+                let fact = no_fact(u, g);
+                plain::lowenheim_handed::<u64>(u, g, &fact, condition, changed, &mut answers)
+                    .is_err()
             });
             *handed = refused.next().expect("there is always one more");
         }
@@ -196,28 +226,57 @@ fn solvable(letters: Letters, kind: Kind, random: &mut Random) -> Vec<u8> {
         let mut condition = vec![0; letters.table_length()];
         let text = route_condition(letters, random);
         plain::read_text::<u64>(u, g, &text, &mut condition).expect("a text of the grammar");
-        let mut answers = vec![0; letters.answer_length()];
-        let solved = plain::boole::<u64>(u, g, default_order(letters), &condition, &mut answers);
-        if solved == Ok(Solved::Done) {
+        if answers(letters, &condition).is_some() {
             return condition;
         }
     }
 }
 
-fn answers(letters: Letters, condition: &[u8]) -> Vec<u8> {
+/// Pairs of givens that exclude each other, as contacts of the same points do; or about every second
+/// monomial of the givens, the one with all of them among these.
+fn fact(letters: Letters, kind: Kind, random: &mut Random) -> Vec<u8> {
     let (u, g) = counts(letters);
-    let mut answers = vec![0; letters.answer_length()];
-    let solved = plain::boole::<u64>(u, g, default_order(letters), condition, &mut answers);
-    assert_eq!(solved, Ok(Solved::Done));
-    answers
+    let mut fact = no_fact(u, g);
+    if kind == Kind::Dense {
+        for masks in fact.chunks_exact_mut(1 << letters.unknowns) {
+            masks[0] = random.below(2) as u8;
+        }
+        fact[letters.table_length() - (1 << letters.unknowns)] = 1;
+        return fact;
+    }
+    let mut givens: Vec<u8> = (0..letters.givens as u8).map(|i| b'a' + i).collect();
+    for place in (1..givens.len()).rev() {
+        givens.swap(place, random.below(place + 1));
+    }
+    let mut text = Vec::new();
+    for (place, given) in givens.into_iter().enumerate() {
+        if place > 0 {
+            text.push(b"|*"[place % 2]);
+        }
+        text.push(given);
+    }
+    plain::read_text::<u64>(u, g, &text, &mut fact).expect("a text of the grammar");
+    fact
 }
 
-fn entry(route: u64, letters: Letters, condition: &[u8]) -> Vec<u8> {
+/// Boole's answers, if there are any.
+fn answers(letters: Letters, condition: &[u8]) -> Option<Vec<u8>> {
     let (u, g) = counts(letters);
-    let mut entry = vec![0; LONGEST_ENTRY];
+    let (order, fact) = (default_order(letters), no_fact(u, g));
+    let mut answers = vec![0; letters.answer_length()];
+    let solved = plain::boole::<u64>(u, g, order, &fact, condition, &mut answers);
+    (solved == Ok(Solved::Done)).then_some(answers)
+}
+
+/// The entries of conditions under facts, routes rising from 1.
+fn entries(letters: Letters, asked: &[(Vec<u8>, Vec<u8>)]) -> Vec<Vec<u8>> {
+    let (u, g) = counts(letters);
     let order = default_order(letters);
-    let length =
-        plain::write_entry::<u64>(route, u, g, order, condition, &mut entry).expect("an entry");
-    entry.truncate(length);
-    entry
+    let entry = |(route, (fact, condition)): (u64, &(Vec<u8>, Vec<u8>))| {
+        let mut entry = vec![0; LONGEST_ENTRY];
+        let written = plain::write_entry::<u64>(route, u, g, order, fact, condition, &mut entry);
+        entry.truncate(written.expect("an entry"));
+        entry
+    };
+    (1..).zip(asked).map(entry).collect()
 }
