@@ -108,7 +108,7 @@ gatheredQuestions x fits route inOrder =
     ∷ asks Order inOrder
     ∷ []
 
--- what going over the entry gives: the first no of 10, 11, 1, 2, 12 and 17, or 0, and what the entry says
+-- what going over the entry gives: the first no of 10, 11, 1, 2, 12, 17, 22 and 23, or 0, and what the entry says
 abbrev pub surveyOf : List Record → Survey
 surveyOf rs =
     record { refusal = firstNo (entryQuestions rs); heading = headingOf rs; verdict = said (heldVerdict rs); order = orderIn rs }
