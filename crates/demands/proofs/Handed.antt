@@ -12,7 +12,7 @@ use borrow.Author.Tests.{le-leb, not-true}
 use Rattle.ring.specs.Polynomial.{Polynomial, substitute}
 use Rattle.ring.specs.Table.{present, held, forUnknowns}
 use Rattle.ring.proofs.Every.{every-all, every-of}
-use Rattle.ring.proofs.Table.{present-take, held-front, empty-exactly}
+use Rattle.ring.proofs.Table.{held-front, empty-exactly}
 use Rattle.tables.specs.declared.Question.the-variants.{Letters, Handed}
 use Rattle.tables.specs.Questions.{Asked, asks, firstNo, lettersFit, hasRoom, bufferQuestions, roomQuestions, bitQuestions}
 use Rattle.tables.specs.Answered.{refused, after, answered, _into_, call}
@@ -27,7 +27,7 @@ use Rattle.solution.proofs.Blocked.{no-true}
 use Rattle.solution.proofs.General.{each-other}
 use Rattle.solution.proofs.Verdict.{AreBooles, booles-general}
 use Rattle.solution.proofs.Handed.{handed-exactly, accepted-general, accepted-solvable, none-accepted}
-use Rattle.solution.proofs.UnderFact.{where-cong, general-where, handed-where}
+use Rattle.solution.proofs.UnderFact.{where-front, general-where, handed-where}
 use Rattle.calls.specs.Questions.{factQuestions, asksHanded, handedBuffers, solvingQuestions, handedQuestions}
 use Rattle.calls.specs.Operations.{substituteTable}
 use Rattle.calls.specs.Solving.{handedTable, handedCall}
@@ -45,7 +45,7 @@ module _ (U G : ℕ) (fact condition handed : List ℕ) where
 
   front-is : front ≡ lentPolynomial U G fact condition
   front-is =
-      ap present (where-cong (U + G) _ condition _ fact (present-take (2 ^ (U + G)) condition) (present-take (2 ^ (U + G)) fact))
+      ap present (where-front (U + G) condition fact)
 
   -- the test is the same on it
   solves-front : handedSolves U G front (held (U + G) handed) ≡ solves

@@ -9,9 +9,8 @@ use Prim.Native.Nat.{ℕ, _+_, _*_, _^_, _<_, _≤_}
 use native.Mathlib.Omega.{arith}
 use lib.ListN.{length, take}
 use lib.Seq.{take-all}
-use Rattle.ring.specs.Polynomial.{value}
+use Rattle.ring.specs.Polynomial.{Polynomial, value}
 use Rattle.ring.specs.Table.{IsTable, present, held, answerTable}
-use Rattle.ring.proofs.Table.{present-take}
 use Rattle.tables.specs.declared.Question.the-variants.{Letters, Room, Bits, Solution, Order, Handed}
 use Rattle.tables.specs.Questions.{Asked, asks, asksGiving, lettersFit, hasRoom, holdsBits, roomQuestions, bitQuestions, bufferQuestions}
 use Rattle.tables.specs.Answered.{call, _into_}
@@ -27,7 +26,7 @@ use Rattle.solution.specs.Elimination.{booleTable, particularTable, lowenheimTa
 use Rattle.solution.specs.General.{Solves, RightVerdict}
 use Rattle.solution.specs.UnderFact.{SolvesWhere}
 use Rattle.solution.proofs.Letters.{own-holds}
-use Rattle.solution.proofs.UnderFact.{without-fact, same-where, where-cong, zero-exactly, right-where}
+use Rattle.solution.proofs.UnderFact.{without-fact, same-where, where-front, zero-exactly, right-where}
 use Rattle.entry.specs.Held.{records, answersIn, says}
 use Rattle.entry.specs.Entry.{orderRecords, factRecords, conditionRecords, entryRecords, entry}
 use Rattle.calls.specs.Questions.{factQuestions, solvingQuestions, handedQuestions}
@@ -85,11 +84,8 @@ module _ (U G : ℕ) (fact s t : List ℕ) (is-s : IsTable (U + G) s) (is-t : Is
   one-table : tableWhereZero (U + G) s fact ≡ tableWhereZero (U + G) t fact
   one-table = same-where (U + G) s t fact agree
 
-  front-of : (f : List ℕ) → tableWhereZero (U + G) (take k f) (take k fact) ≡ tableWhereZero (U + G) f fact
-  front-of f = where-cong (U + G) (take k f) f (take k fact) fact (present-take k f) (present-take k fact)
-
   one-front : tableWhereZero (U + G) (take k s) (take k fact) ≡ tableWhereZero (U + G) (take k t) (take k fact)
-  one-front = front-of s ∙ one-table ∙ sym (front-of t)
+  one-front = where-front (U + G) s fact ∙ one-table ∙ sym (where-front (U + G) t fact)
 
   same-room : hasRoom k (length s) ≡ hasRoom k (length t)
   same-room = rw (is-s .size, is-t .size)
@@ -141,19 +137,27 @@ module _ (U G : ℕ) (fact s t : List ℕ) (is-s : IsTable (U + G) s) (is-t : Is
       ∙ ap (λ (x : Bool). handing b room (hasRoom k (length t)) x (tableWhereZero (U + G) s fact)) same-bits
       ∙ ap (handing b room (hasRoom k (length t)) (holdsBits k t)) one-table
 
+  -- the same questions, and the same answers
+  same-call : {qs ps : List Asked} {a b : List ℕ} (answers : List ℕ) → qs ≡ ps → a ≡ b
+      → call qs [] (a into answers ∷ []) ≡ call ps [] (b into answers ∷ [])
+  same-call answers same-asked same-made = ap₂ (λ (qs : List Asked) (a : List ℕ). call qs [] (a into answers ∷ [])) same-asked same-made
+
+  solving-same : (made : Polynomial → Substitution) (order answers : List ℕ)
+      → call (solvingQuestions U G order fact s (length answers)) []
+      (answerTable U (U + G) (made (present (tableWhereZero (U + G) (take k s) (take k fact)))) into answers ∷ [])
+      ≡ call (solvingQuestions U G order fact t (length answers)) []
+      (answerTable U (U + G) (made (present (tableWhereZero (U + G) (take k t) (take k fact)))) into answers ∷ [])
+  solving-same made order answers =
+      same-call answers (same-solving order (length answers)) (ap (λ (p : List ℕ). answerTable U (U + G) (made (present p))) one-front)
+
   -- conditions that differ only where g is 1 have the same answers, by every call
   pub left-out : SameAnswers U G fact s t
   unfolding booleTable particularTable lowenheimTable handedTable
   left-out =
       record {
-        boole = λ order answers. ap₂ (λ (qs : List Asked) (a : List ℕ). call qs [] (a into answers ∷ [])) (same-solving order (length answers))
-            (ap (λ (p : List ℕ). answerTable U (U + G) (booleAnswers (U + G) (present p) (take U order))) one-front);
-        particular = λ order answers. ap₂ (λ (qs : List Asked) (a : List ℕ). call qs [] (a into answers ∷ []))
-            (same-solving order (length answers))
-            (ap (λ (p : List ℕ). answerTable U (U + G) (particular U G (take U order) (present p))) one-front);
-        lowenheim = λ order answers. ap₂ (λ (qs : List Asked) (a : List ℕ). call qs [] (a into answers ∷ []))
-            (same-solving order (length answers))
-            (ap (λ (p : List ℕ). answerTable U (U + G) (ownLowenheim U G (take U order) (present p))) one-front);
-        handed = λ b answers. ap₂ (λ (qs : List Asked) (a : List ℕ). call qs [] (a into answers ∷ [])) (same-handed b (length answers))
+        boole = λ order answers. solving-same (λ p. booleAnswers (U + G) p (take U order)) order answers;
+        particular = λ order answers. solving-same (particular U G (take U order)) order answers;
+        lowenheim = λ order answers. solving-same (ownLowenheim U G (take U order)) order answers;
+        handed = λ b answers. same-call answers (same-handed b (length answers))
             (ap (λ (p : List ℕ). answerTable U (U + G) (lowenheim (U + G) (present p) (held (U + G) b))) one-table);
       }

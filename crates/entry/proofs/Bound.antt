@@ -3,12 +3,12 @@
 -- With U = 6 there are at most 4 givens, and that is 4 + 7 + 3 * 16 + 3 * 1,024 + 4 * 6,144 + 2 = 27,709; with fewer unknowns, and at most
 -- 8 givens, the answers take 4,096 less, and the fact at most 720 more.
 -- Assumes nothing.
-use mathlib.Core.Path.{_≡_, refl, ap, _∙_}
+use mathlib.Core.Path.{_≡_, refl, sym, ap, ap₂, _∙_}
 use mathlib.Core.Bool.{Bool, true, false, cond}
 use mathlib.Core.List.{List, [], _∷_, _++_, map}
 use mathlib.Core.Logic.{_⊎_, inl, inr}
 use Prim.Native.Nat.{ℕ, zero, suc, _+_, _*_, _^_, _≤_}
-use native.Mathlib.Nat.{suc-mul, mul-le-mul}
+use native.Mathlib.Nat.{add-comm, mul-zero, suc-mul, mul-suc, mul-le-mul}
 use native.Mathlib.Omega.{arith}
 use lib.Pow.{pow-mono}
 use lib.Dec.{ltb}
@@ -37,20 +37,27 @@ monomials-most n f = omega (arith, length-monomials n f, count-most (2 ^ n) f)
 pub length-bytes : (rs ss : List Record) → length (bytes (rs ++ ss)) ≡ length (bytes rs) + length (bytes ss)
 length-bytes rs ss = ap length (bytes-append rs ss) ∙ length-append (bytes rs) (bytes ss)
 
+-- records of one length
+each-bytes : (k : ℕ) (made : ℕ → Record) → ((m : ℕ) → length (made m) ≡ k) → (ms : List ℕ) → length (bytes (map made ms)) ≡ k * length ms
+unfolding bytes
+each-bytes k made long [] = sym (mul-zero k)
+each-bytes k made long (m ∷ ms) =
+    length-append (made m) (bytes (map made ms))
+    ∙ ap₂ _+_ (long m) (each-bytes k made long ms)
+    ∙ add-comm k (k * length ms)
+    ∙ sym (mul-suc k (length ms))
+
 pub condition-bytes : (ms : List ℕ) → length (bytes (map conditionRecord ms)) ≡ 3 * length ms
-unfolding bytes fields bodyOf lowFirst
-condition-bytes [] = refl
-condition-bytes (m ∷ ms) = omega (arith, condition-bytes ms)
+unfolding fields bodyOf lowFirst
+condition-bytes = each-bytes 3 conditionRecord (λ m. refl)
 
 pub fact-bytes : (ms : List ℕ) → length (bytes (map factRecord ms)) ≡ 3 * length ms
-unfolding bytes fields bodyOf lowFirst
-fact-bytes [] = refl
-fact-bytes (m ∷ ms) = omega (arith, fact-bytes ms)
+unfolding fields bodyOf lowFirst
+fact-bytes = each-bytes 3 factRecord (λ m. refl)
 
 pub answer-bytes : (j : ℕ) (ms : List ℕ) → length (bytes (map (answerRecord j) ms)) ≡ 4 * length ms
-unfolding bytes fields bodyOf lowFirst
-answer-bytes j [] = refl
-answer-bytes j (m ∷ ms) = omega (arith, answer-bytes j ms)
+unfolding fields bodyOf lowFirst
+answer-bytes j = each-bytes 4 (answerRecord j) (λ m. refl)
 
 -- the order's record, if there is one
 pub order-size : (c : Condition) → length (bytes (orderRecords c)) ≡ cond (isDefault (c .U) (orderBytes (c .order))) 0 7

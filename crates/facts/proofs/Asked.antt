@@ -2,11 +2,10 @@
 -- With no unknown in g, its value at a point is that in the point's state, so that 23 is answered yes exactly if g is 0 at some point.
 -- Assumes nothing.
 use mathlib.Core.Path.{_≡_, refl, sym, ap, _∙_}
-use mathlib.Core.Bool.{Bool, true, false, not, _&&_}
+use mathlib.Core.Bool.{Bool, true, false, not}
 use mathlib.Core.List.{List, [], _∷_, _++_}
-use Prim.Native.Nat.{ℕ, _+_, _*_, _%_, _^_, _≤_, _<_}
+use Prim.Native.Nat.{ℕ, _+_, _*_, _^_, _≤_, _<_}
 use native.Mathlib.Omega.{arith}
-use lib.Dec.{eqb}
 use lib.Pow.{pow-pos}
 use lib.ListN.{length, take}
 use borrow.Author.Tests.{not-true}
@@ -14,10 +13,8 @@ use Rattle.ring.specs.Letters.{point}
 use Rattle.ring.specs.Polynomial.{value}
 use Rattle.ring.specs.Table.{present}
 use Rattle.ring.proofs.Bool.{never}
-use Rattle.ring.proofs.Every.{every-all, every-of, every-cong}
+use Rattle.ring.proofs.Every.{every-all, every-of}
 use Rattle.ring.proofs.Points.{parts, point-lt}
-use Rattle.ring.proofs.Table.{present-take}
-use Rattle.ring.proofs.Value.{value-cong}
 use Rattle.tables.specs.declared.Question.the-variants.{FactLetters, FactStates}
 use Rattle.tables.specs.Questions.{Asked, asks, firstNo}
 use Rattle.tables.specs.Answered.{refused, answered, Buffer, call}
@@ -32,6 +29,7 @@ use Rattle.solution.specs.Elimination.{isZero}
 use Rattle.solution.proofs.Blocked.{zero-values, no-true}
 use Rattle.solution.proofs.UnderFact.{some-state-counts, fact-in}
 use Rattle.calls.specs.Questions.{factQuestions}
+use Rattle.calls.proofs.Questions.{front-givens, front-states}
 use Rattle.facts.specs.Inner.Kept.{keptWords}
 
 module _ (u g : ℕ) (t : List ℕ) where
@@ -85,15 +83,8 @@ module _ (u g : ℕ) (t : List ℕ) where
 
 -- the questions turn on the table alone, and not on what stands behind it
 pub fact-front : (u g : ℕ) (t : List ℕ) → factQuestions u g (take (2 ^ (u + g)) t) ≡ factQuestions u g t
-unfolding factQuestions hasNoUnknown someStateCounts valueInState
-fact-front u g t =
-    let same = present-take (2 ^ (u + g)) t in
-    rw (
-      every-cong (2 ^ (u + g)) _ (λ m. not (present t m && not (eqb (m % 2 ^ u) 0)))
-          (λ m l. ap (λ (x : Bool). not (x && not (eqb (m % 2 ^ u) 0))) (same m l)),
-      every-cong (2 ^ g) _ (λ s. value (u + g) (present t) (point u (record { 0 = s }) (record { 0 = 0 })))
-          (λ s l. value-cong (u + g) _ _ _ same),
-    )
+unfolding factQuestions
+fact-front u g t = rw (front-givens u g t, front-states u g t)
 
 -- a no to one of them, in front of further questions: nothing has changed
 pub fact-stops : (u g : ℕ) (t : List ℕ) (further : List Asked) (values : List ℕ) (buffers : List Buffer) (found : ℕ)

@@ -544,7 +544,7 @@ fn fact_at(s: &[u8]) -> usize
     4
 }
 
-// Has an entry that passes the questions before 22 a fact other than 0?
+// Has an entry that passes the questions before 22 a record of its fact? If not, the fact is 0; that is all that is needed of it.
 pub fn has_fact(s: &[u8]) -> bool
     requires { ⌜ firstNo (recordQuestions (records (now s))) ≡ 0 ⌝ }
     ensures { λ b. ⌜ (b ≡ false → heldCondition (records (now (s .entry))) .fact

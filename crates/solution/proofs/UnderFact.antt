@@ -7,6 +7,7 @@ use mathlib.Core.Bool.{Bool, true, false, not, _&&_, and-true, and-false}
 use mathlib.Core.List.{List}
 use Prim.Native.Nat.{ℕ, _+_, _*_, _%_, _^_, _<_}
 use lib.Dec.{eqb}
+use lib.ListN.{take}
 use lib.Pow.{pow-pos, high}
 use borrow.Author.Tests.{le-ltb, not-true}
 use Rattle.ring.specs.declared.State.{State}
@@ -14,12 +15,12 @@ use Rattle.ring.specs.declared.Choice.{Choice}
 use Rattle.ring.specs.Letters.{point, pointWhere}
 use Rattle.ring.specs.Polynomial.{Polynomial, _⊕_, everyBelow, value, constant, sum}
 use Rattle.ring.specs.Table.{IsTable, present, table}
-use Rattle.ring.proofs.Bool.{and-left, and-right, both, never}
+use Rattle.ring.proofs.Bool.{xor-comm, and-left, and-right, both, never}
 use Rattle.ring.proofs.Every.{every-all, every-of, every-not, every-cong}
 use Rattle.ring.proofs.Points.{bit-pointWhere, pointWhere-lt, same-above}
 use Rattle.ring.proofs.Value.{value-cong, value-none, value-sum, value-product}
 use Rattle.ring.proofs.Substitute.{value-constant}
-use Rattle.ring.proofs.Table.{is-table, same-table, present-table}
+use Rattle.ring.proofs.Table.{is-table, same-table, present-table, present-take}
 use Rattle.solution.specs.Letters.{Letter, HoldsGivens, Valuation, valueOver}
 use Rattle.solution.specs.Substitution.{Substitution, letterAt, ownLetters, putIn, MakesZero}
 use Rattle.solution.specs.Fact.{whereZero, hasNoUnknown, valueInState, someStateCounts, IsFact, noFact}
@@ -33,10 +34,6 @@ use Rattle.solution.proofs.Handed.{handed-exactly}
 use Rattle.solution.proofs.Unknowns.{value-no-unknown}
 
 -- ---- values
-xor-true : (b : Bool) → (b ⊕ true) ≡ not b
-xor-true true = refl
-xor-true false = refl
-
 -- the value of f*(1 + g)
 pub value-where : (n : ℕ) (f g : List ℕ) (p : ℕ)
     → value n (present (tableWhereZero n f g)) p ≡ (value n (present f) p && not (value n (present g) p))
@@ -46,7 +43,7 @@ value-where n f g p =
     ∙ value-product n (present f) (sum (present g) (constant true)) p
     ∙ ap (λ (x : Bool). value n (present f) p && x)
     (value-sum n (present g) (constant true) p
-    ∙ ap (λ (x : Bool). value n (present g) p ⊕ x) (value-constant n true p) ∙ xor-true (value n (present g) p))
+    ∙ ap (λ (x : Bool). value n (present g) p ⊕ x) (value-constant n true p) ∙ xor-comm (value n (present g) p) true)
 
 where-table : (n : ℕ) (f g : List ℕ) → IsTable n (tableWhereZero n f g)
 unfolding tableWhereZero table
@@ -88,13 +85,16 @@ agree-where n f h g e p z =
     at k = value-where n k g p ∙ ap (λ (x : Bool). value n (present k) p && not x) z ∙ and-true (value n (present k) p)
 
 -- bytes behind the tables play no part
-pub where-cong : (n : ℕ) (f f′ g g′ : List ℕ) → ((m : ℕ) → m < 2 ^ n → present f m ≡ present f′ m)
+where-cong : (n : ℕ) (f f′ g g′ : List ℕ) → ((m : ℕ) → m < 2 ^ n → present f m ≡ present f′ m)
     → ((m : ℕ) → m < 2 ^ n → present g m ≡ present g′ m) → tableWhereZero n f g ≡ tableWhereZero n f′ g′
 where-cong n f f′ g g′ ef eg =
     same-table n _ _ (where-table n f g) (where-table n f′ g′) (λ p l.
     value-where n f g p
     ∙ ap₂ (λ (x y : Bool). x && not y) (value-cong n (present f) (present f′) p ef) (value-cong n (present g) (present g′) p eg)
     ∙ sym (value-where n f′ g′ p))
+
+pub where-front : (n : ℕ) (f g : List ℕ) → tableWhereZero n (take (2 ^ n) f) (take (2 ^ n) g) ≡ tableWhereZero n f g
+where-front n f g = where-cong n _ f _ g (present-take (2 ^ n) f) (present-take (2 ^ n) g)
 
 -- ---- questions 22 and 23 turn on the monomials in n letters alone
 pub no-unknown-cong : (U n : ℕ) (g h : Polynomial) → ((m : ℕ) → m < 2 ^ n → g m ≡ h m) → hasNoUnknown U n g ≡ hasNoUnknown U n h
@@ -174,20 +174,16 @@ module _ (U G : ℕ) (f g : List ℕ) (givens : hasNoUnknown U (U + G) (present 
   pub general-where : (a : Substitution) → General U G solvedOne a ↔ GeneralWhere U G (present f) (present g) a
   general-where a = (
     λ h. record {
-      makes-zero = exactly (ownLetters U G) (own-holds U G) a .0 (h .makes-zero);
-      each-makes-zero = λ L l τ. exactly L l (λ j. putIn U G L (a j) τ) .0 (h .each-makes-zero L l τ);
-      every-instance = λ L l σ z. h .every-instance L l σ (exactly L l σ .1 z);
+      makes-zero = zero-exactly (ownLetters U G) (own-holds U G) a .0 (h .makes-zero);
+      each-makes-zero = λ L l τ. zero-exactly L l (λ j. putIn U G L (a j) τ) .0 (h .each-makes-zero L l τ);
+      every-instance = λ L l σ z. h .every-instance L l σ (zero-exactly L l σ .1 z);
     },
     λ h. record {
-      makes-zero = exactly (ownLetters U G) (own-holds U G) a .1 (h .makes-zero);
-      each-makes-zero = λ L l τ. exactly L l (λ j. putIn U G L (a j) τ) .1 (h .each-makes-zero L l τ);
-      every-instance = λ L l σ z. h .every-instance L l σ (exactly L l σ .0 z);
+      makes-zero = zero-exactly (ownLetters U G) (own-holds U G) a .1 (h .makes-zero);
+      each-makes-zero = λ L l τ. zero-exactly L l (λ j. putIn U G L (a j) τ) .1 (h .each-makes-zero L l τ);
+      every-instance = λ L l σ z. h .every-instance L l σ (zero-exactly L l σ .0 z);
     },
   )
-    where
-      exactly : (L : List Letter) → HoldsGivens G L → (σ : Substitution)
-          → MakesZero U G solvedOne L σ ↔ MakesZeroWhere U G (present f) (present g) L σ
-      exactly = zero-exactly
 
   -- 'Löwenheim's formula and the test of C-15 read f*(1 + g)': 21 is answered yes exactly if the handed substitution makes f zero wherever
   -- g is zero

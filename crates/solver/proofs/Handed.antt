@@ -13,7 +13,7 @@ use borrow.Author.Tests.{lt-ltb}
 use Rattle.ring.specs.Letters.{bit}
 use Rattle.ring.specs.Polynomial.{Polynomial, _⊕_, value, letter, sum, substitute}
 use Rattle.ring.specs.Table.{AreBits, IsTable, present, held, answerTable, forUnknowns}
-use Rattle.ring.proofs.Table.{values-back, present-take, held-take, answerTable-cong, length-answerTable}
+use Rattle.ring.proofs.Table.{values-back, held-take, answerTable-cong, length-answerTable}
 use Rattle.ring.proofs.Value.{product-cong}
 use Rattle.tables.specs.declared.Question.the-variants.{Letters, Room, Bits, Handed}
 use Rattle.tables.specs.Questions.{Asked, asks, firstNo, lettersFit, hasRoom, holdsBits, roomQuestions, bitQuestions, bufferQuestions}
@@ -32,7 +32,7 @@ use Rattle.solution.specs.Condition.{tableWhereZero}
 use Rattle.solution.specs.Elimination.{lowenheim, handedSolves}
 use Rattle.solution.proofs.Blocked.{zero-values, not-zero}
 use Rattle.solution.proofs.Handed.{handed-cong}
-use Rattle.solution.proofs.UnderFact.{where-cong}
+use Rattle.solution.proofs.UnderFact.{where-front}
 use Rattle.solution.proofs.Values.{value-lowenheim}
 use Rattle.facts.proofs.Asked.{fact-front, fact-stops}
 use Rattle.calls.specs.Questions.{factQuestions, asksHanded, handedQuestions}
@@ -147,18 +147,18 @@ module _ (u g : ℕ) (fact t handed : List ℕ) where
 
 -- ---- the calls' own buffers, of which the parts that count are lent on
 module _ (u g k : ℕ) (fact t handed : List ℕ) (e : k ≡ 2 ^ (u + g)) where
-  where-front : tableWhereZero (u + g) (take k t) (take k fact) ≡ tableWhereZero (u + g) t fact
-  where-front = rw e (where-cong (u + g) _ _ _ _ (present-take (2 ^ (u + g)) t) (present-take (2 ^ (u + g)) fact))
+  solved-front : tableWhereZero (u + g) (take k t) (take k fact) ≡ tableWhereZero (u + g) t fact
+  solved-front = rw e (where-front (u + g) t fact)
 
   test-front : asksHanded u g (take k fact) (take k t) (take (u * k) handed) ≡ asksHanded u g fact t handed
   test-front =
-      rw (where-front, e)
+      rw (solved-front, e)
       (ap (asks Handed) (handed-cong u g _ _ _ _ (λ m l. refl) (λ j hj m hm. held-take (u + g) u handed j m hj hm)))
 
   table-front : handedTable u g (take k fact) (take k t) (take (u * k) handed) ≡ handedTable u g fact t handed
   unfolding handedTable lowenheim sum
   table-front =
-      rw (where-front, e)
+      rw (solved-front, e)
       (answerTable-cong u (u + g) _ _ (λ j m hj hm.
       ap (λ (b : Bool). letter j m ⊕ b) (product-cong (u + g) _ _ _ _ (λ i l. refl)
       (λ i l. ap (λ (b : Bool). letter j i ⊕ b) (held-take (u + g) u handed j i hj l)) m)))

@@ -157,19 +157,19 @@ pub room-for : (U n most : ℕ) → U ≤ 6 → 2 ^ n ≤ most → (U + 1) * 2 ^
 room-for U n most few l = let h : U + 1 ≤ 7 = omega arith in mul-le-mul h l
 
 -- ---- 14, where the code has the entry's size
-module _ (made out : List ℕ) {orders size : ℕ} (e : 6 + (orders + size) ≡ length made) where
-  pub output-short : {o s number : ℕ} → o ≡ orders → s ≡ size → number ≡ 14 → length out < 6 + (o + s)
+module _ (made out : List ℕ) {heads size : ℕ} (e : 6 + (heads + size) ≡ length made) where
+  pub output-short : {h s number : ℕ} → h ≡ heads → s ≡ size → number ≡ 14 → length out < 6 + (h + s)
       → answered (written (Refused number)) (out ∷ []) ≡ handOut made out
   unfolding handOut outputFits firstNo
-  output-short {o} {s} {number} eo es en l =
+  output-short {h} {s} {number} eh es en l =
       let short : length out < length made = omega arith in
       call-refused (asks Output (outputFits made (length out)) ∷ []) (length made ∷ []) (made into out ∷ []) number refl
       (en ∙ sym (no-to Output (outputFits made (length out)) [] [] (lt-leb (length made) (length out) short))) (λ z. omega arith)
 
-  pub output-done : {o s r : ℕ} {new : List ℕ} → o ≡ orders → s ≡ size → 6 + (o + s) ≤ length out → Put out 0 made r new
+  pub output-done : {h s r : ℕ} {new : List ℕ} → h ≡ heads → s ≡ size → 6 + (h + s) ≤ length out → Put out 0 made r new
       → answered (written (Done r)) (new ∷ []) ≡ handOut made out
   unfolding handOut outputFits firstNo
-  output-done {o} {s} {r} {new} eo es l p =
+  output-done {h} {s} {r} {new} eh es l p =
       let fits : length made ≤ length out = omega arith in
       let asked : List Asked = asks Output (outputFits made (length out)) ∷ [] in
       let z : firstNo asked ≡ 0 = yes-counts Output (outputFits made (length out)) [] [] (le-leb (length made) (length out) fits) in

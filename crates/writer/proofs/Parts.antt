@@ -25,7 +25,7 @@ use Rattle.solution.proofs.OrderAsked.{six-members}
 use Rattle.entry.specs.Record.{Record, fields, lowFirst, bodyOf, endRecord, factRecord, bytes, isDefault}
 use Rattle.entry.specs.Inner.Codes.{listedRecord}
 use Rattle.entry.proofs.Back.{bytes-append}
-use Rattle.entry.proofs.Bound.{monomials-most, fact-bytes}
+use Rattle.entry.proofs.Bound.{fact-bytes}
 use Rattle.entry.proofs.Codes.{condition-listed, answer-listed, each, each-bytes, Putting, putting-start, part-fits, putting-more}
 use Rattle.entry.proofs.Codes.{putting-end, putting-all}
 use Rattle.writer.specs.declared.Listing.{Listing}
@@ -113,7 +113,7 @@ module _ (U : ℕ) (order : List ℕ) {default : Bool} (asked : default ≡ isDe
         → Put l₀ 0 (1 ∷ route ∷ U ∷ G ∷ bytes (archivedOrder U order)) r l₂
     start-kept e q = put-same (put-both p q) (ap (λ (l : List ℕ). 1 ∷ route ∷ U ∷ G ∷ l) (sym (order-kept e)))
 
--- ---- how many monomials a table has
+-- ---- how many bytes a fact takes: three for each monomial of its table
 pub counted-more : (fact : List ℕ) → AreBits fact → (m : ℕ) → count m (present fact) + getD fact m 0 ≡ count (m + 1) (present fact)
 unfolding count present
 counted-more fact bits m = rw (add-one m) (ap (λ (x : ℕ). count m (present fact) + x) (go (getD fact m 0) (bits m)))
@@ -128,12 +128,13 @@ unfolding count
 counted-none fact = refl
 
 pub counted-all : (fact : List ℕ) {counted m : ℕ} → (m ≤ length fact) × (counted ≡ count m (present fact)) → length fact ≤ m → (n : ℕ)
-    → length fact ≡ 2 ^ n → counted ≡ length (monomials n (present fact))
+    → length fact ≡ 2 ^ n → 3 * counted ≡ length (bytes (archivedFact n fact))
+unfolding archivedFact
 counted-all fact {counted} {m} (l, e) h n size =
-    let whole : m ≡ 2 ^ n = omega arith in e ∙ ap (λ (k : ℕ). count k (present fact)) whole ∙ sym (length-monomials n (present fact))
-
-pub fact-small : (n : ℕ) (fact : List ℕ) {counted : ℕ} → n ≤ 10 → counted ≡ length (monomials n (present fact)) → counted ≤ 1024
-fact-small n fact h e = let few : 2 ^ n ≤ 1024 = pow-mono h in omega (arith, e, monomials-most n (present fact))
+    let whole : m ≡ 2 ^ n = omega arith in
+    let all : counted ≡ length (monomials n (present fact)) =
+    e ∙ ap (λ (k : ℕ). count k (present fact)) whole ∙ sym (length-monomials n (present fact)) in
+    omega (arith, all, fact-bytes (monomials n (present fact)))
 
 -- ---- the records of a fact
 -- of one mask
@@ -230,11 +231,6 @@ module _ (U G : ℕ) (order fact : List ℕ) where
   heads-length : length (bytes (archivedHeads U G order fact))
       ≡ length (bytes (archivedOrder U order)) + length (bytes (archivedFact (U + G) fact))
   heads-length = ap length heads-bytes ∙ length-append (bytes (archivedOrder U order)) (bytes (archivedFact (U + G) fact))
-
-  -- three bytes for each monomial of the fact
-  pub fact-size : {counted : ℕ} → counted ≡ length (monomials (U + G) (present fact)) → 3 * counted ≡ length (bytes (archivedFact (U + G) fact))
-  unfolding archivedFact
-  fact-size e = omega (arith, e, fact-bytes (monomials (U + G) (present fact)))
 
   pub heads-size : {o facts : ℕ} → o ≡ length (bytes (archivedOrder U order)) → facts ≡ length (bytes (archivedFact (U + G) fact))
       → o + facts ≡ length (bytes (archivedHeads U G order fact))

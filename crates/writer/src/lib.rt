@@ -11,7 +11,7 @@ ghost use mathlib.Core.List.{List, [], _∷_, _++_, map};
 ghost use Prim.Native.Nat.{ℕ, _+_, _-_, _*_, _/_, _%_, _^_, _≤_, _<_};
 ghost use lib.ListN.{length, take};
 ghost use Rattle.ring.specs.Polynomial.{value};
-ghost use Rattle.ring.specs.Table.{IsTable, AreBits, present};
+ghost use Rattle.ring.specs.Table.{IsTable, AreBits};
 ghost use Rattle.tables.specs.Questions.{firstNo};
 ghost use Rattle.tables.specs.Answered.{answered};
 ghost use Rattle.tables.specs.Inner.Put.{Put};
@@ -381,22 +381,23 @@ fn order_size(u: usize, order: [u8; 6]) -> usize
     7
 }
 
-fn widened(x: u8) -> usize
+fn wide_byte(x: u8) -> usize
     ensures { λ r. ⌜ r ≡ x ⌝ }
 {
     x as usize
 }
 
-// How many monomials the fact has. No early way out, so that the loop is one of whole vectors.
-fn count_ones(fact: &[u8]) -> usize
-    requires { ⌜ AreBits (now fact) ⌝ }
-    ensures { λ r. ⌜ ((n : ℕ) → length (now (fact .entry)) ≡ 2 ^ n → r ≡ length (monomials n (present (now (fact .entry))))) ⌝ }
+// How many bytes the fact takes: three for a monomial. No early way out, so that the loop is one of whole vectors.
+fn fact_size(fact: &[u8]) -> usize
+    requires { ⌜ AreBits (now fact) × (length (now fact) ≤ 1024) ⌝ }
+    ensures { λ r. ⌜ ((n : ℕ) → length (now (fact .entry)) ≡ 2 ^ n → r ≡ length (bytes (archivedFact n (now (fact .entry)))))
+        × (r ≤ 3072) ⌝ }
 {
     let mut count = 0usize;
     for m in 0..fact.len() {
-        count += widened(fact[m]);
+        count += wide_byte(fact[m]);
     }
-    count
+    3 * count
 }
 
 // Question 14 of a listed entry, before anything is written.
@@ -417,7 +418,7 @@ fn hand_out(
     ensures { λ r. ⌜ answered (written r) (now (out .exit) ∷ [])
         ≡ handOut (bytes (entryFrom route u g (archivedHeads u g order (now (fact .entry))) found (now (codes .entry)))) (now (out .entry)) ⌝ }
 {
-    let facts = 3 * count_ones(fact);
+    let facts = fact_size(fact);
     let size = 6 + (order_size(u, order) + facts + records_size(found));
     if out.len() < size {
         return Written::Refused(tables::number(Question::Output));

@@ -8,8 +8,8 @@ use Rattle.ring.specs.Polynomial.{count}
 use Rattle.ring.specs.Table.{present}
 use Rattle.ring.proofs.Parity.{count-most}
 use Rattle.writer.proofs.Parts.{counted-none, counted-more, counted-all}
-use Rattle.writer.proofs.count_ones.Statement.{statement}
-use Rattle.writer.proofs.count_ones.Tie as tie
+use Rattle.writer.proofs.fact_size.Statement.{statement}
+use Rattle.writer.proofs.fact_size.Tie as tie
 
 abbrev Inv-loop : tie.InvT-loop
 Inv-loop fact count₀ m₀ m-end counted m = (m ≤ length fact) × (counted ≡ count m (present fact))
@@ -23,25 +23,26 @@ loop-holds c = (omega arith, counted-none _)
 add-count : tie.Need-add-count Inv-loop μ-loop
 add-count c =
     let turn = (c .before .before .before .loop) in
-    omega (
-      arith,
-      turn .inv .0,
-      turn .inv .1,
-      count-most (turn .m) (present ((c .before .before .before .before .before .args) .fact .now)),
-      (c .widened) .ensures,
-      (c .before .before .before .before .before .pre) (turn .m),
-    )
+    omega (arith, turn .inv .0, turn .inv .1, count-most (turn .m) (present ((c .before .before .before .before .before .args) .fact .now)), (c .wide-byte) .ensures, (c .before .before .before .before .before .pre) .0 (turn .m))
 
 loop-again : tie.Need-loop-again Inv-loop μ-loop
 loop-again c =
     let turn = (c .before .before .before .loop) in
-    (omega arith, ap₂ _+_ (turn .inv .1) ((c .widened) .ensures) ∙ counted-more _ (c .before .before .before .before .before .pre) (turn .m))
+    (omega arith, ap₂ _+_ (turn .inv .1) ((c .wide-byte) .ensures) ∙ counted-more _ ((c .before .before .before .before .before .pre) .0) (turn .m))
+
+mul-result : tie.Need-mul-result Inv-loop μ-loop
+mul-result c =
+    let turn = (c .before .loop) in omega (arith, turn .inv .0, turn .inv .1, count-most (turn .m) (present ((c .before .before .before .args) .fact .now)), (c .before .before .before .pre) .1)
 
 returns : tie.Need-returns Inv-loop μ-loop
-returns c = counted-all _ ((c .before .loop) .inv) ((c .loop-test) .left)
+returns c =
+    let turn = (c .before .loop) in (
+      counted-all _ (turn .inv) ((c .loop-test) .left),
+      omega (arith, turn .inv .0, turn .inv .1, count-most (turn .m) (present ((c .before .before .before .args) .fact .now)), (c .before .before .before .pre) .1),
+    )
 
-pub count-ones-spec : {M : Type 1} → statement M
-count-ones-spec =
+pub fact-size-spec : {M : Type 1} → statement M
+fact-size-spec =
     tie.close
     (tie.spec
     Inv-loop
@@ -53,4 +54,5 @@ count-ones-spec =
     (λ c. search needs)
     (λ c. search needs)
     loop-again
+    mul-result
     returns)
