@@ -1,6 +1,7 @@
 //! The calls, the engine's beside plain Rust's in both forms, two of them once more in the reverse
 //! order, three under a fact, the handed form accepted and refused, and the steps of a session
-//! together. Where a row names no fact it is 0. All get the same lent inputs, and write over a buffer of their own again and again: none is cleared first.
+//! together. Where a row names no fact it is 0. All get the same lent inputs, and write over a buffer
+//! of their own again and again: none is cleared first.
 
 use crate::inputs::{counts, default_order, reverse_order, Inputs};
 use crate::timing::{compare, Compared, Effort};

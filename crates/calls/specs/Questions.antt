@@ -11,7 +11,7 @@ use Rattle.ring.specs.declared.State.{State}
 use Rattle.ring.specs.declared.Choice.{Choice}
 use Rattle.ring.specs.Table.{present, held}
 use Rattle.tables.specs.declared.Question.the-variants.{Letters, Route, TextLength, Signs, Declared, Grammar, Solution, Records, Kinds}
-use Rattle.tables.specs.declared.Question.the-variants.{Numbers, Afresh, Output, Rising, Range, Order, Name, Marked, Mask, Handed, FactLetters, FactStates}
+use Rattle.tables.specs.declared.Question.the-variants.{Numbers, Afresh, Output, Rising, Range, Order, Name, Marked, Mask, Handed, FactGivens, FactState}
 use Rattle.tables.specs.Questions.{Asked, asks, asksGiving, lettersFit, Lent, reads, writes, bitQuestions, bufferQuestions, inRange}
 use Rattle.grammar.specs.Symbols.{allSigns, allDeclared}
 use Rattle.grammar.specs.Reader.{grammarReads}
@@ -69,8 +69,8 @@ textQuestions U G text room =
 -- '22, has g no unknown; 23, is g 0 in some state': what is put to a fact
 unfoldable pub factQuestions : ℕ → ℕ → List ℕ → List Asked
 factQuestions U G fact =
-    asks FactLetters (hasNoUnknown U (U + G) (present fact))
-    ∷ asks FactStates (someStateCounts U G (present fact))
+    asks FactGivens (hasNoUnknown U (U + G) (present fact))
+    ∷ asks FactState (someStateCounts U G (present fact))
     ∷ []
 
 -- '9. Has the condition a solution? (a no also gives the state)': the smallest in which every choice gives the condition the value 1

@@ -15,7 +15,7 @@ use Rattle.ring.specs.Table.{present}
 use Rattle.ring.proofs.Bool.{never}
 use Rattle.ring.proofs.Every.{every-all, every-of}
 use Rattle.ring.proofs.Points.{parts, point-lt}
-use Rattle.tables.specs.declared.Question.the-variants.{FactLetters, FactStates}
+use Rattle.tables.specs.declared.Question.the-variants.{FactGivens, FactState}
 use Rattle.tables.specs.Questions.{Asked, asks, firstNo}
 use Rattle.tables.specs.Answered.{refused, answered, Buffer, call}
 use Rattle.tables.proofs.FirstNo.{no-to, yes-counts, none-no}
@@ -46,7 +46,7 @@ module _ (u g : ℕ) (t : List ℕ) where
   pub letters-no : {r : ℕ} {said : Bool} → r ≡ 22 → said ≡ hasNoUnknown u (u + g) (present t) → not said ≡ true
       → r ≡ firstNo (factQuestions u g t)
   unfolding factQuestions
-  letters-no e es n = e ∙ sym (no-to FactLetters _ [] _ (failed es n))
+  letters-no e es n = e ∙ sym (no-to FactGivens _ [] _ (failed es n))
 
   -- 22 is answered yes, and `kept` is looked through for a point that counts
   module _ {said : Bool} (kept : List ℕ) (r end : ℕ) (es : said ≡ hasNoUnknown u (u + g) (present t)) (n : not said ≡ false)
@@ -57,9 +57,9 @@ module _ (u g : ℕ) (t : List ℕ) where
     kept-at : (p : ℕ) → p < 2 ^ (u + g) → bitAt kept p ≡ not (value (u + g) (present t) p)
     kept-at p l = at-known _ _ kept ek p (omega (arith, room (u + g)))
 
-    behind : firstNo (factQuestions u g t) ≡ firstNo (asks FactStates (someStateCounts u g (present t)) ∷ [])
+    behind : firstNo (factQuestions u g t) ≡ firstNo (asks FactState (someStateCounts u g (present t)) ∷ [])
     unfolding factQuestions
-    behind = yes-counts FactLetters _ [] _ no-unknown
+    behind = yes-counts FactGivens _ [] _ no-unknown
 
     pub states-yes : r < end → 0 ≡ firstNo (factQuestions u g t)
     states-yes l =
@@ -76,7 +76,7 @@ module _ (u g : ℕ) (t : List ℕ) where
     pub states-no : {number : ℕ} → number ≡ 23 → end ≤ r → number ≡ firstNo (factQuestions u g t)
     unfolding valueInState
     states-no e l =
-        e ∙ sym (behind ∙ no-to FactStates _ [] [] (no-true (someStateCounts u g (present t)) (λ yes-said.
+        e ∙ sym (behind ∙ no-to FactState _ [] [] (no-true (someStateCounts u g (present t)) (λ yes-said.
         let s = some-state-counts u g (present t) .0 yes-said in
         let inside = point-lt u g (s .0) (record { 0 = 0 }) (s .1) (pow-pos u) in
         never (kept-at _ inside ∙ ap not (s .2)) (first .zeros _ (omega arith)))))

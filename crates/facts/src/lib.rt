@@ -62,14 +62,14 @@ pub fn keep(u: usize, g: usize, fact: &[u8], kept: &mut [u64]) -> u8
         return 0;
     }
     if !has_no_unknown(u, fact) {
-        return tables::number(Question::FactLetters);
+        return tables::number(Question::FactGivens);
     }
     words::take_values(u + g, fact, kept);
     words::complement(kept);
     if words::first_one(kept) < tables::pow2(u + g) {
         return 0;
     }
-    tables::number(Question::FactStates)
+    tables::number(Question::FactState)
 }
 
 // Questions 22 and 23: the first no, or 0 and the values of f*(1 + g) in `values`. Uses up `kept`.

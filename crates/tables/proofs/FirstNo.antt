@@ -10,7 +10,7 @@ use borrow.Author.Tests.{eq-eqb}
 use Rattle.ring.proofs.Bool.{and-left, and-right, never}
 use Rattle.tables.specs.declared.Question.{Question}
 use Rattle.tables.specs.declared.Question.the-variants.{Letters, Route, TextLength, Room, Signs, Declared, Grammar, Bits, Solution}
-use Rattle.tables.specs.declared.Question.the-variants.{Records, Kinds, Numbers, Afresh, Output, Rising, Range, Order, Name, Marked, Mask, Handed, FactLetters, FactStates}
+use Rattle.tables.specs.declared.Question.the-variants.{Records, Kinds, Numbers, Afresh, Output, Rising, Range, Order, Name, Marked, Mask, Handed, FactGivens, FactState}
 use Rattle.tables.specs.Questions.{Asked, asks, asksGiving, number, firstNo}
 use Rattle.tables.specs.Inner.Asking.{also}
 
@@ -37,8 +37,8 @@ number-within Name = (omega arith, omega arith)
 number-within Marked = (omega arith, omega arith)
 number-within Mask = (omega arith, omega arith)
 number-within Handed = (omega arith, omega arith)
-number-within FactLetters = (omega arith, omega arith)
-number-within FactStates = (omega arith, omega arith)
+number-within FactGivens = (omega arith, omega arith)
+number-within FactState = (omega arith, omega arith)
 
 pub number-some : (question : Question) → number question ≡ 0 → ⊥
 number-some question e = omega (arith, number-within question .0)

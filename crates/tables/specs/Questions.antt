@@ -11,7 +11,7 @@ use Rattle.ring.specs.declared.State.{State}
 use Rattle.ring.specs.declared.Choice.{Choice}
 use Rattle.tables.specs.declared.Question.{Question}
 use Rattle.tables.specs.declared.Question.the-variants.{Letters, Route, TextLength, Room, Signs, Declared, Grammar, Bits, Solution}
-use Rattle.tables.specs.declared.Question.the-variants.{Records, Kinds, Numbers, Afresh, Output, Rising, Range, Order, Name, Marked, Mask, Handed, FactLetters, FactStates}
+use Rattle.tables.specs.declared.Question.the-variants.{Records, Kinds, Numbers, Afresh, Output, Rising, Range, Order, Name, Marked, Mask, Handed, FactGivens, FactState}
 
 -- the number of each question, 1 to 16 document 01's
 abbrev pub number : Question → ℕ
@@ -59,9 +59,9 @@ number Mask = 20
 -- 'does the handed substitution make the condition zero' (document 02, C-15)
 number Handed = 21
 -- 'has g no unknown' (document 02, C-16)
-number FactLetters = 22
+number FactGivens = 22
 -- 'is g 0 in some state' (document 02, C-16)
-number FactStates = 23
+number FactState = 23
 
 -- a question as it is put: whether the answer is yes, and what a no gives with its number
 pub data Asked : Type 0 where

@@ -33,8 +33,8 @@ pub enum Question {
     Marked, // When returning, is it marked?
     Mask, // Has the set S only declared letters?
     Handed, // Does the handed substitution make the condition zero?
-    FactLetters, // Has the fact no unknown?
-    FactStates, // Is the fact 0 in some state?
+    FactGivens, // Has the fact no unknown?
+    FactState, // Is the fact 0 in some state?
 }
 
 // The number of a question.
@@ -63,8 +63,8 @@ pub fn number(question: Question) -> u8
         Question::Marked => 19,
         Question::Mask => 20,
         Question::Handed => 21,
-        Question::FactLetters => 22,
-        Question::FactStates => 23,
+        Question::FactGivens => 22,
+        Question::FactState => 23,
     }
 }
 
