@@ -57,7 +57,7 @@ unfolding lettersIn count
 halving zero m = refl
 halving (suc n) m =
     count-first n (bit m)
-    ∙ ap₂ _+_ (ap digit (bit-zero m) ∙ digit-low m) (count-cong n (λ j. bit m (suc j)) (bit (m / 2)) (bit-suc m) ∙ halving n (m / 2))
+    ∙ ap₂ _+_ (ap digit (bit-zero m) ∙ digit-low m) (count-cong n (λ j. bit m (suc j)) (bit (m / 2)) (λ j _. bit-suc m j) ∙ halving n (m / 2))
 
 pub letters-in : (n m : ℕ) → m < 2 ^ n → letters m ≡ lettersIn n m
 letters-in n m h = letters-count n m h ∙ halving n m

@@ -1,2 +1,3 @@
 pub mod LookUp
+pub mod Sums
 pub mod Work

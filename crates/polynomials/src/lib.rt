@@ -2,26 +2,63 @@
 // unknowns of a condition.
 // Nothing here is a public call of the library: the functions are for the crates above, which ask the questions first
 // and then lend slices of exactly the length that is needed. All but the sum go to values in words, and come back; `put_handed` stays there.
+// What a product, a sum or a substitution comes to is counted where its table is made: the number of monomials present.
 ghost use mathlib.Core.Path.{_≡_};
 ghost use mathlib.Core.List.{_++_};
 ghost use Prim.Native.Nat.{ℕ, _+_, _-_, _*_, _/_, _%_, _^_, _≤_, _<_};
 ghost use lib.ListN.{length, getD, drop};
 ghost use Rattle.ring.specs.Letters.{bit, pointWhere};
 ghost use Rattle.ring.specs.Lists.{listed};
-ghost use Rattle.ring.specs.Polynomial.{Polynomial, value, sum, product, substitute};
+ghost use Rattle.ring.specs.Polynomial.{Polynomial, count, value, sum, product, substitute};
 ghost use Rattle.ring.specs.Join.{join};
 ghost use Rattle.ring.specs.Derivative.{derivative};
-ghost use Rattle.ring.specs.Table.{AreBits, IsTable, present, table, held, forUnknowns};
+ghost use Rattle.ring.specs.Length.{monomialCount};
+ghost use Rattle.ring.specs.Table.{AreBits, IsTable, present, tabulate, table, held, forUnknowns};
 ghost use Rattle.words.specs.Inner.Words.{wordOf, wordsOf, bitAt, answerWords};
 ghost use Rattle.polynomials.specs.Inner.LookUp.{chosen, placeOf, putFor};
 
-// The sum of two tables, into a third.
-pub fn add(n: usize, a: &[u8], b: &[u8], out: &mut [u8])
-    requires { ⌜ IsTable n (now a) × IsTable n (now b) × (length (now out) ≡ 2 ^ n) ⌝ }
-    ensures { λ _. ⌜ now (out .exit) ≡ table n (sum (present (now (a .entry))) (present (now (b .entry)))) ⌝ }
+// The sum of at most 128 bytes of each, and how many bytes of it are 1. That is a byte too, so that the loop is one of whole vectors.
+fn add_few(a: &[u8], b: &[u8], out: &mut [u8]) -> u8
+    requires { ⌜ (length (now out) ≤ 128) × (length (now a) ≡ length (now out)) × (length (now b) ≡ length (now out))
+        × AreBits (now a) × AreBits (now b) ⌝ }
+    ensures { λ r. ⌜ (now (out .exit) ≡ tabulate (length (now (out .entry))) (sum (present (now (a .entry))) (present (now (b .entry)))))
+        × (r ≡ count (length (now (out .entry))) (sum (present (now (a .entry))) (present (now (b .entry))))) ⌝ }
 {
-    tables::copy(out, a);
-    tables::add_into(out, b);
+    let mut ones = 0u8;
+    for i in 0..out.len() {
+        let byte = a[i] ^ b[i];
+        out[i] = byte;
+        ones += byte;
+    }
+    ones
+}
+
+// The same of any number of blocks of 128 bytes.
+fn add_blocks(a: &[u8], b: &[u8], out: &mut [u8], blocks: usize) -> usize
+    requires { ⌜ (blocks ≤ 8) × (length (now out) ≡ blocks * 128) × (length (now a) ≡ blocks * 128) × (length (now b) ≡ blocks * 128)
+        × AreBits (now a) × AreBits (now b) ⌝ }
+    ensures { λ r. ⌜ (now (out .exit) ≡ tabulate (blocks * 128) (sum (present (now (a .entry))) (present (now (b .entry)))))
+        × (r ≡ count (blocks * 128) (sum (present (now (a .entry))) (present (now (b .entry))))) ⌝ }
+{
+    let mut ones = 0;
+    for w in 0..blocks {
+        let start = w * 128;
+        let end = start + 128;
+        ones += add_few(&a[start..end], &b[start..end], &mut out[start..end]) as usize;
+    }
+    ones
+}
+
+// The sum of two tables, into a third, and the number of its monomials.
+pub fn add(n: usize, a: &[u8], b: &[u8], out: &mut [u8]) -> usize
+    requires { ⌜ (n ≤ 10) × IsTable n (now a) × IsTable n (now b) × (length (now out) ≡ 2 ^ n) ⌝ }
+    ensures { λ r. ⌜ (now (out .exit) ≡ table n (sum (present (now (a .entry))) (present (now (b .entry)))))
+        × (r ≡ monomialCount n (present (now (out .exit)))) ⌝ }
+{
+    if n < 7 {
+        return add_few(a, b, out) as usize;
+    }
+    add_blocks(a, b, out, tables::pow2(n - 7))
 }
 
 fn multiply_with(
@@ -31,26 +68,28 @@ fn multiply_with(
     out: &mut [u8],
     first: &mut [u64],
     second: &mut [u64],
-)
+) -> usize
     requires { ⌜ (n ≤ 10) × IsTable n (now a) × IsTable n (now b) × (length (now out) ≡ 2 ^ n) × (length (now first) ≡ 2 ^ (n - 6))
         × (length (now second) ≡ 2 ^ (n - 6)) ⌝ }
-    ensures { λ _. ⌜ now (out .exit) ≡ table n (product n (present (now (a .entry))) (present (now (b .entry)))) ⌝ }
+    ensures { λ r. ⌜ (now (out .exit) ≡ table n (product n (present (now (a .entry))) (present (now (b .entry)))))
+        × (r ≡ monomialCount n (present (now (out .exit)))) ⌝ }
 {
     words::take_values(n, a, first);
     words::take_values(n, b, second);
     words::multiply_into(first, second);
-    words::put_table(n, first, out);
+    words::put_table(n, first, out)
 }
 
-// The product of two tables, into a third. The scratch words live here.
-pub fn multiply(n: usize, a: &[u8], b: &[u8], out: &mut [u8])
+// The product of two tables, into a third, and the number of its monomials. The scratch words live here.
+pub fn multiply(n: usize, a: &[u8], b: &[u8], out: &mut [u8]) -> usize
     requires { ⌜ (n ≤ 10) × IsTable n (now a) × IsTable n (now b) × (length (now out) ≡ 2 ^ n) ⌝ }
-    ensures { λ _. ⌜ now (out .exit) ≡ table n (product n (present (now (a .entry))) (present (now (b .entry)))) ⌝ }
+    ensures { λ r. ⌜ (now (out .exit) ≡ table n (product n (present (now (a .entry))) (present (now (b .entry)))))
+        × (r ≡ monomialCount n (present (now (out .exit)))) ⌝ }
 {
     let k = words::word_count(n);
     let mut first = [0u64; 16];
     let mut second = [0u64; 16];
-    multiply_with(n, a, b, out, &mut first[..k], &mut second[..k]);
+    multiply_with(n, a, b, out, &mut first[..k], &mut second[..k])
 }
 
 // Two tables joined, into a third: f + h + f*h.
@@ -228,28 +267,31 @@ fn substitute_with(
     out: &mut [u8],
     f: &mut [u64],
     parts: &mut [u64],
-)
+) -> usize
     requires { ⌜ (u ≤ 6) × (u + g ≤ 10) × IsTable (u + g) (now condition) × (length (now handed) ≡ u * 2 ^ (u + g)) × AreBits (now handed)
         × (length (now out) ≡ 2 ^ (u + g)) ⌝ }
     requires { ⌜ (length (now f) ≡ 2 ^ (u + g - 6)) × (length (now parts) ≡ 6 * 2 ^ (u + g - 6)) ⌝ }
-    ensures { λ _. ⌜ now (out .exit)
-        ≡ table (u + g) (substitute (u + g) (u + g) (present (now (condition .entry))) (forUnknowns u (held (u + g) (now (handed .entry))))) ⌝ }
+    ensures { λ r. ⌜ (now (out .exit)
+        ≡ table (u + g) (substitute (u + g) (u + g) (present (now (condition .entry))) (forUnknowns u (held (u + g) (now (handed .entry))))))
+        × (r ≡ monomialCount (u + g) (present (now (out .exit)))) ⌝ }
 {
     words::take_values(u + g, condition, f);
     put_handed(u, u + g, handed, f, parts);
-    words::put_table(u + g, f, out);
+    words::put_table(u + g, f, out)
 }
 
-// Handed polynomials put for the unknowns of a condition, all at once; the givens stay. The scratch words live here.
-pub fn substitute(u: usize, g: usize, condition: &[u8], handed: &[u8], out: &mut [u8])
+// Handed polynomials put for the unknowns of a condition, all at once, and the number of monomials of what comes out; the givens stay. The
+// scratch words live here.
+pub fn substitute(u: usize, g: usize, condition: &[u8], handed: &[u8], out: &mut [u8]) -> usize
     requires { ⌜ (u ≤ 6) × (u + g ≤ 10) × IsTable (u + g) (now condition) × (length (now handed) ≡ u * 2 ^ (u + g)) × AreBits (now handed)
         × (length (now out) ≡ 2 ^ (u + g)) ⌝ }
-    ensures { λ _. ⌜ now (out .exit)
-        ≡ table (u + g) (substitute (u + g) (u + g) (present (now (condition .entry))) (forUnknowns u (held (u + g) (now (handed .entry))))) ⌝ }
+    ensures { λ r. ⌜ (now (out .exit)
+        ≡ table (u + g) (substitute (u + g) (u + g) (present (now (condition .entry))) (forUnknowns u (held (u + g) (now (handed .entry))))))
+        × (r ≡ monomialCount (u + g) (present (now (out .exit)))) ⌝ }
 {
     let k = words::word_count(u + g);
     let all = 6 * k;
     let mut f = [0u64; 16];
     let mut parts = [0u64; 96];
-    substitute_with(u, g, condition, handed, out, &mut f[..k], &mut parts[..all]);
+    substitute_with(u, g, condition, handed, out, &mut f[..k], &mut parts[..all])
 }

@@ -10,5 +10,6 @@ pub mod Transform
 pub mod Restrict
 pub mod Substitute
 pub mod Table
+pub mod Length
 pub mod Join
 pub mod Derivative

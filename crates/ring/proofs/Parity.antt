@@ -14,10 +14,11 @@ use Rattle.ring.specs.Letters.{digit}
 use Rattle.ring.specs.Polynomial.{_⊕_, count, odd}
 use Rattle.ring.proofs.Bool.{xor-assoc, and-xor, xor-false, ac, digit-lt}
 
-pub count-cong : (k : ℕ) (g h : ℕ → Bool) → ((i : ℕ) → g i ≡ h i) → count k g ≡ count k h
+-- tests that agree below the bound
+pub count-cong : (k : ℕ) (g h : ℕ → Bool) → ((i : ℕ) → i < k → g i ≡ h i) → count k g ≡ count k h
 unfolding count
 count-cong zero g h e = refl
-count-cong (suc k) g h e = ap₂ _+_ (count-cong k g h e) (ap digit (e k))
+count-cong (suc k) g h e = ap₂ _+_ (count-cong k g h (λ i l. e i (omega arith))) (ap digit (e k (omega arith)))
 
 -- the first number apart
 pub count-first : (k : ℕ) (test : ℕ → Bool) → count (suc k) test ≡ digit (test 0) + count k (λ j. test (suc j))

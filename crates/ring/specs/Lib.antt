@@ -4,3 +4,4 @@ pub mod Lists
 pub mod Join
 pub mod Derivative
 pub mod Table
+pub mod Length

@@ -1,51 +1,21 @@
--- The machine's counts on a word, and what they tell of the points: the number of ones, and the first one.
+-- The machine's count of a word's trailing zeros, and what it tells of the points: the first one.
 -- Assumes nothing.
-use mathlib.Core.Path.{_≡_, refl, sym, ap, ap₂, _∙_}
-use mathlib.Core.Bool.{Bool, true, false}
+use mathlib.Core.Path.{_≡_, refl, sym, ap, _∙_}
+use mathlib.Core.Bool.{true, false}
 use mathlib.Core.List.{List}
 use Prim.Native.Nat.{ℕ, zero, suc, _+_, _-_, _*_, _/_, _%_, _^_, _≤_, _<_}
 use native.Mathlib.Nat.{pow-suc, zero-div}
 use native.Mathlib.Decide.{decLt}
 use native.Mathlib.Omega.{arith}
-use lib.Arith.{lt-one}
-use lib.Count.{ones, ones-step, under, trailingZeros}
+use lib.Count.{under, trailingZeros}
 use lib.ListN.{length, getD}
 use borrow.Author.Tests.{eq-eqb, ne-eqb}
-use Rattle.ring.specs.Letters.{digit, bit}
-use Rattle.ring.specs.Polynomial.{count}
+use Rattle.ring.specs.Letters.{bit}
 use Rattle.ring.proofs.Mask.{low}
-use Rattle.ring.proofs.Parity.{count-first, count-add}
-use Rattle.ring.proofs.Points.{bit-zero, bit-suc, digit-low}
+use Rattle.ring.proofs.Points.{bit-zero, bit-suc}
 use Rattle.words.specs.Inner.Words.{bitAt, First}
 use Rattle.words.proofs.Words.{bit-at}
 
--- ---- the number of ones
-count-below : (k : ℕ) (g h : ℕ → Bool) → ((i : ℕ) → i < k → g i ≡ h i) → count k g ≡ count k h
-unfolding count
-count-below zero g h e = refl
-count-below (suc k) g h e = ap₂ (λ (x : ℕ) (b : Bool). x + digit b) (count-below k g h (λ i l. e i (omega arith))) (e k (omega arith))
-
-ones-count : (k n : ℕ) → n < 2 ^ k → ones n ≡ count k (bit n)
-unfolding count ones
-ones-count zero n h = ap ones (lt-one h)
-ones-count (suc k) n h =
-    ones-step n
-    ∙ ap₂ _+_ (sym (digit-low n) ∙ ap digit (sym (bit-zero n)))
-    (ones-count k (n / 2) (omega (arith, pow-suc 2 k)) ∙ count-below k _ _ (λ i l. sym (bit-suc n i)))
-    ∙ sym (count-first k (bit n))
-
-pub count-start : (test : ℕ → Bool) (k : ℕ) → k ≡ 0 → 0 ≡ count (64 * k) test
-unfolding count
-count-start test k e = rw e
-
-pub count-word : (ws : List ℕ) (i s : ℕ) → getD ws i 0 < 2 ^ 64 → s ≡ count (64 * i) (bitAt ws)
-    → s + ones (getD ws i 0) ≡ count (64 * (i + 1)) (bitAt ws)
-count-word ws i s l e =
-    let n : 64 * (i + 1) ≡ 64 * i + 64 = omega arith in
-    ap₂ _+_ e (ones-count 64 (getD ws i 0) l ∙ count-below 64 _ _ (λ j m. sym (bit-at ws i j m)))
-    ∙ sym (ap (λ (x : ℕ). count x (bitAt ws)) n ∙ count-add (64 * i) 64 (bitAt ws))
-
--- ---- the first one
 pub trailing-first : (k n : ℕ) → n < 2 ^ k → 0 < n → (trailingZeros k n < k) × First k (bit n) (trailingZeros k n)
 unfolding trailingZeros low
 trailing-first zero n l p = absurd (omega arith)

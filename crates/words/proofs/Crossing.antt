@@ -5,7 +5,7 @@ use mathlib.Core.Bool.{Bool, true, false, not, _&&_, cond, and-comm, and-false, 
 use mathlib.Core.List.{List, [], _∷_}
 use Prim.Native.Nat.{ℕ, zero, suc, _+_, _-_, _*_, _/_, _%_, _^_, _≤_, _<_}
 use native.Mathlib.Decide.{decLt}
-use native.Mathlib.Nat.{mod-lt, mul-comm, mul-one, sub-zero, div-one, pow-suc}
+use native.Mathlib.Nat.{mod-lt, mul-comm, mul-one, zero-add, sub-zero, div-one, pow-suc}
 use native.Mathlib.Omega.{arith}
 use lib.Dec.{eqb, ltb, leb}
 use lib.Bits.{bitAnd, bitXor, and-le-r, xor-lt}
@@ -95,7 +95,7 @@ unfoldable pub rowsFrom : (ℕ → Bool) → ℕ → ℕ → ℕ
 rowsFrom x j zero = 0
 rowsFrom x j (suc k) = rowsFrom x (suc j) k * 2 + eightOf x (j * 8)
 
-eight-most : (x : ℕ → Bool) (p : ℕ) → eightOf x p ≤ 0x0101_0101_0101_0101
+pub eight-most : (x : ℕ → Bool) (p : ℕ) → eightOf x p ≤ 0x0101_0101_0101_0101
 unfolding eightOf
 eight-most x p =
     omega (
@@ -332,7 +332,7 @@ lows : ℕ → ℕ → Bool
 lows i k = Bool·beq (eqb (0x0101_0101_0101_0101 / 2 ^ (8 * i + k) % 2) 1) (lowest k)
 
 -- byte i of the word that the code makes
-row-byte : (v j i : ℕ) → j < 8 → i < 8 → bitAnd (v / 2 ^ j) 0x0101_0101_0101_0101 / 2 ^ (8 * i) % 256 ≡ digit (bit v (crossed (j * 8 + i)))
+pub row-byte : (v j i : ℕ) → j < 8 → i < 8 → bitAnd (v / 2 ^ j) 0x0101_0101_0101_0101 / 2 ^ (8 * i) % 256 ≡ digit (bit v (crossed (j * 8 + i)))
 unfolding lows lowest everyBelow bit
 row-byte v j i lj li =
     rw (crossed-small j i lj li) (same-letters 8 _ _ (mod-lt (x / 2 ^ (8 * i)) (pow-pos 8)) (small (bit v (j + 8 * i))) bits)
@@ -371,13 +371,17 @@ pub row-listed : (v j : ℕ) (ys : List ℕ) → j < 8 → ys ≡ listed 8 (λ i
     → ys ≡ listed 8 (λ i. digit (bit v (crossed (j * 8 + i))))
 row-listed v j ys l e = e ∙ listed-cong 8 _ _ (λ i k. row-byte v j i l k)
 
--- the 64 bytes of one word among those of all
+-- the points of one word among those of all, and their bytes
+pub word-point : (words : List ℕ) (w v i : ℕ) → v ≡ getD words w 0 → i < 64 → bit v (crossed i) ≡ bitAt words (crossed (w * 64 + i))
+word-point words w v i ev l =
+    ap (λ (x : ℕ). bit x (crossed i)) ev ∙ sym (bit-at words w (crossed i) (crossed-lt 1 i l))
+    ∙ ap (bitAt words) (sym (crossed-in w i l) ∙ ap (λ (x : ℕ). crossed (x + i)) (mul-comm 64 w))
+
 pub word-listed : (words : List ℕ) (w v k : ℕ) (ys : List ℕ) → v ≡ getD words w 0 → k ≡ 64 → ys ≡ tabulate k (λ p. bit v (crossed p))
     → ys ≡ listed 64 (λ i. digit (bitAt words (crossed (w * 64 + i))))
 word-listed words w v k ys ev ek e =
-    e ∙ ap (λ (x : ℕ). tabulate x (λ p. bit v (crossed p))) ek ∙ tabulate-listed 64 (λ p. bit v (crossed p)) ∙ listed-cong 64 _ _ (λ i l.
-    ap digit (ap (λ (x : ℕ). bit x (crossed i)) ev ∙ sym (bit-at words w (crossed i) (crossed-lt 1 i l))
-    ∙ ap (bitAt words) (sym (crossed-in w i l) ∙ ap (λ (x : ℕ). crossed (x + i)) (mul-comm 64 w))))
+    e ∙ ap (λ (x : ℕ). tabulate x (λ p. bit v (crossed p))) ek ∙ tabulate-listed 64 (λ p. bit v (crossed p))
+    ∙ listed-cong 64 _ _ (λ i l. ap digit (word-point words w v i ev l))
 
 -- words crossed, and then their bytes
 pub large-bytes : (n : ℕ) (ws ws′ out out′ : List ℕ) → length ws ≡ 2 ^ (n - 6) → length out ≡ 2 ^ n
@@ -397,11 +401,7 @@ small-bytes n v ws ws′ out out′ h size all e ev eo =
     let few : length out ≤ 64 = small-size n out h all in
     large-bytes n ws ws′ out out′ size all e
     (eo ∙ tabulate-cong (length out) _ _ (λ p l.
-    ap (λ (x : ℕ). bit x (crossed p)) ev ∙ sym (bit-at ws′ 0 (crossed p) (crossed-lt 1 p (omega arith)))
-    ∙ ap (bitAt ws′) (flat (crossed p))))
-  where
-    flat : (i : ℕ) → 64 * 0 + i ≡ i
-    flat i = omega arith
+    word-point ws′ 0 v p ev (omega arith) ∙ ap (λ (x : ℕ). bitAt ws′ (crossed x)) (zero-add p)))
 
 pub eights : (n k : ℕ) (out : List ℕ) → k ≡ 2 ^ (n - 3) → 3 ≤ n → n < 6 → length out ≡ 2 ^ n → (k ≤ 8) × (length out ≡ k * 8)
 eights n k out ek l h size =

@@ -3,8 +3,8 @@
 // Nothing here is a public call of the library: the functions are for the crates above, which ask the questions first
 // and then lend slices of exactly the length that is needed.
 ghost use mathlib.Core.Path.{_≡_};
-ghost use mathlib.Core.Bool.{true, false, _&&_, cond};
-ghost use Prim.Native.Nat.{_+_, _-_, _*_, _/_, _%_, _^_, _≤_, _<_};
+ghost use mathlib.Core.Bool.{Bool, true, false, _&&_, cond};
+ghost use Prim.Native.Nat.{ℕ, _+_, _-_, _*_, _/_, _%_, _^_, _≤_, _<_};
 ghost use lib.Bits.{bitAnd, bitOr};
 ghost use lib.ListN.{length, getD};
 ghost use Rattle.ring.specs.Lists.{listed};
@@ -12,8 +12,9 @@ ghost use Rattle.ring.specs.Letters.{digit, bit, assign};
 ghost use Rattle.ring.specs.Polynomial.{_⊕_, count, value};
 ghost use Rattle.ring.specs.Derivative.{flipped};
 ghost use Rattle.ring.specs.Table.{AreBits, IsTable, present, tabulate, table};
+ghost use Rattle.ring.specs.Length.{monomialCount};
 ghost use Rattle.words.specs.Inner.Words.{wordOf, wordsOf, bitAt, First, lowLetters, stepped, steppedBelow, xorRun, turned, crossed};
-ghost use Rattle.words.specs.Inner.Words.{eightOf};
+ghost use Rattle.words.specs.Inner.Words.{eightOf, lanesOf};
 
 // The number of words of n letters.
 pub fn word_count(n: usize) -> usize
@@ -168,55 +169,76 @@ fn put_eight(word: u64, out: &mut [u8])
     out[7] = low_byte(word >> 56);
 }
 
-// The bits of a crossed word, a byte each, eight at a time.
-fn unpack_word(word: u64, out: &mut [u8], eights: usize)
+// The bits of a crossed word, a byte each, eight at a time, and the sum of these eights.
+fn unpack_word(word: u64, out: &mut [u8], eights: usize) -> u64
     requires { ⌜ (eights ≤ 8) × (length (now out) ≡ eights * 8) ⌝ }
-    ensures { λ _. ⌜ now (out .exit) ≡ tabulate (length (now (out .entry))) (λ p. bit word (crossed p)) ⌝ }
+    ensures { λ r. ⌜ (now (out .exit) ≡ tabulate (length (now (out .entry))) (λ p. bit word (crossed p)))
+        × (r ≡ lanesOf eights (λ p. bit word (crossed p))) ⌝ }
 {
+    let mut lanes = 0u64;
     for j in 0..eights {
         let start = j * 8;
         let end = start + 8;
-        put_eight((word >> j) & 0x0101_0101_0101_0101, &mut out[start..end]);
+        let eight = (word >> j) & 0x0101_0101_0101_0101;
+        put_eight(eight, &mut out[start..end]);
+        lanes += eight;
     }
+    lanes
 }
 
-// The values that crossed words hold, a byte each.
-fn unpack_all(words: &[u64], out: &mut [u8])
-    requires { ⌜ length (now out) ≡ 64 * length (now words) ⌝ }
-    ensures { λ _. ⌜ now (out .exit) ≡ tabulate (length (now (out .entry))) (λ p. bitAt (now (words .entry)) (crossed p)) ⌝ }
+// The values that crossed words hold, a byte each, and the sum of their eights. They are 128 at most, so no byte of the sum runs over.
+fn unpack_all(words: &[u64], out: &mut [u8]) -> u64
+    requires { ⌜ (length (now out) ≡ 64 * length (now words)) × (length (now words) ≤ 16) ⌝ }
+    ensures { λ r. ⌜ (now (out .exit) ≡ tabulate (length (now (out .entry))) (λ p. bitAt (now (words .entry)) (crossed p)))
+        × (r ≡ lanesOf (length (now (words .entry)) * 8) (λ p. bitAt (now (words .entry)) (crossed p))) ⌝ }
 {
+    let mut lanes = 0u64;
     for w in 0..words.len() {
         let start = w * 64;
         let end = start + 64;
-        unpack_word(words[w], &mut out[start..end], 8);
+        lanes += unpack_word(words[w], &mut out[start..end], 8);
     }
+    lanes
 }
 
-// The values that words hold, a byte each.
-fn unpack_each(words: &[u64], out: &mut [u8])
-    requires { ⌜ length (now out) ≤ 64 * length (now words) ⌝ }
-    ensures { λ _. ⌜ now (out .exit) ≡ tabulate (length (now (out .entry))) (bitAt (now (words .entry))) ⌝ }
+// The number of points with the value 1, from the sum of their eights: its bytes added up, two, then four and then eight.
+fn sum_lanes(lanes: u64) -> usize
+    ensures { λ r. ⌜ ((k : ℕ) (h : ℕ → Bool) → k ≤ 128 → lanes ≡ lanesOf k h → r ≡ count (k * 8) h) ⌝ }
 {
-    for p in 0..out.len() {
-        out[p] = bit_of(words[p >> 6], p & 63);
-    }
+    let pairs = (lanes & 0x00ff_00ff_00ff_00ff) + ((lanes >> 8) & 0x00ff_00ff_00ff_00ff);
+    let folded = pairs % 4294967296 + (pairs >> 32);
+    (folded % 65536 + (folded >> 16)) as usize
 }
 
-// The values that words hold, which it uses up, as a table.
-pub fn unpack(n: usize, words: &mut [u64], out: &mut [u8])
+// The values that words hold, a byte each, and how many of them are 1.
+fn unpack_each(words: &[u64], out: &mut [u8]) -> usize
+    requires { ⌜ length (now out) ≤ 64 * length (now words) ⌝ }
+    ensures { λ r. ⌜ (now (out .exit) ≡ tabulate (length (now (out .entry))) (bitAt (now (words .entry))))
+        × (r ≡ count (length (now (out .entry))) (bitAt (now (words .entry)))) ⌝ }
+{
+    let mut found = 0;
+    for p in 0..out.len() {
+        let byte = bit_of(words[p >> 6], p & 63);
+        out[p] = byte;
+        found += byte as usize;
+    }
+    found
+}
+
+// The values that words hold, which it uses up, as a table, and how many of them are 1. Counted here, where they become bytes:
+// plain x86-64 has no instruction that counts a word's ones, and a loop of its own costs more.
+fn unpack(n: usize, words: &mut [u64], out: &mut [u8]) -> usize
     requires { ⌜ (n ≤ 10) × (length (now words) ≡ 2 ^ (n - 6)) × (length (now out) ≡ 2 ^ n) ⌝ }
-    ensures { λ _. ⌜ now (out .exit) ≡ table n (bitAt (now (words .entry))) ⌝ }
+    ensures { λ r. ⌜ (now (out .exit) ≡ table n (bitAt (now (words .entry)))) × (r ≡ monomialCount n (present (now (out .exit)))) ⌝ }
 {
     if n < 3 {
-        unpack_each(words, out);
-        return;
+        return unpack_each(words, out);
     }
     cross_all(words);
     if n < 6 {
-        unpack_word(words[0], out, tables::pow2(n - 3));
-        return;
+        return sum_lanes(unpack_word(words[0], out, tables::pow2(n - 3)));
     }
-    unpack_all(words, out);
+    sum_lanes(unpack_all(words, out))
 }
 
 // The value that words hold at a point.
@@ -351,31 +373,34 @@ pub fn take_values(n: usize, t: &[u8], words: &mut [u64])
     to_values(words, further(n));
 }
 
-// The table of coefficients whose values stand in words, which it uses up.
-pub fn put_table(n: usize, words: &mut [u64], out: &mut [u8])
+// The table of coefficients whose values stand in words, which it uses up, and the number of its monomials.
+pub fn put_table(n: usize, words: &mut [u64], out: &mut [u8]) -> usize
     requires { ⌜ (n ≤ 10) × (length (now words) ≡ 2 ^ (n - 6)) × (length (now out) ≡ 2 ^ n) ⌝ }
-    ensures { λ _. ⌜ now (out .exit) ≡ table n (value n (bitAt (now (words .entry)))) ⌝ }
+    ensures { λ r. ⌜ (now (out .exit) ≡ table n (value n (bitAt (now (words .entry)))))
+        × (r ≡ monomialCount n (present (now (out .exit)))) ⌝ }
 {
     to_values(words, further(n));
-    unpack(n, words, out);
+    unpack(n, words, out)
 }
 
-fn put_copy_with(n: usize, slot: &[u64], out: &mut [u8], own: &mut [u64])
+fn put_copy_with(n: usize, slot: &[u64], out: &mut [u8], own: &mut [u64]) -> usize
     requires { ⌜ (n ≤ 10) × (length (now slot) ≡ 2 ^ (n - 6)) × (length (now out) ≡ 2 ^ n) × (length (now own) ≡ 2 ^ (n - 6)) ⌝ }
-    ensures { λ _. ⌜ now (out .exit) ≡ table n (value n (bitAt (now (slot .entry)))) ⌝ }
+    ensures { λ r. ⌜ (now (out .exit) ≡ table n (value n (bitAt (now (slot .entry)))))
+        × (r ≡ monomialCount n (present (now (out .exit)))) ⌝ }
 {
     copy(own, slot);
-    put_table(n, own, out);
+    put_table(n, own, out)
 }
 
-// The table of coefficients whose values stand in words, which stay. The scratch words live here.
-pub fn put_copy(n: usize, slot: &[u64], out: &mut [u8])
+// The table of coefficients whose values stand in words, which stay, and the number of its monomials. The scratch words live here.
+pub fn put_copy(n: usize, slot: &[u64], out: &mut [u8]) -> usize
     requires { ⌜ (n ≤ 10) × (length (now slot) ≡ 2 ^ (n - 6)) × (length (now out) ≡ 2 ^ n) ⌝ }
-    ensures { λ _. ⌜ now (out .exit) ≡ table n (value n (bitAt (now (slot .entry)))) ⌝ }
+    ensures { λ r. ⌜ (now (out .exit) ≡ table n (value n (bitAt (now (slot .entry)))))
+        × (r ≡ monomialCount n (present (now (out .exit)))) ⌝ }
 {
     let k = word_count(n);
     let mut own = [0u64; 16];
-    put_copy_with(n, slot, out, &mut own[..k]);
+    put_copy_with(n, slot, out, &mut own[..k])
 }
 
 pub fn copy(d: &mut [u64], s: &[u64])
@@ -617,16 +642,4 @@ pub fn first_one(words: &[u64]) -> usize
         }
     }
     64 * words.len()
-}
-
-// The number of points with the value 1.
-pub fn count_ones(words: &[u64]) -> usize
-    requires { ⌜ length (now words) ≤ 16 ⌝ }
-    ensures { λ r. ⌜ r ≡ count (64 * length (now (words .entry))) (bitAt (now (words .entry))) ⌝ }
-{
-    let mut sum = 0;
-    for i in 0..words.len() {
-        sum += u64::count_ones(words[i]) as usize;
-    }
-    sum
 }

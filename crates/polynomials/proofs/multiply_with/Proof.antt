@@ -17,7 +17,15 @@ put-table-requires c κs =
 
 returns : tie.Need-returns
 returns c =
-    product-done _ _ (c .before .before .before .before .before .before .before .before .before .before .before .before .before .before .before .before .before .before .before .before .before .before .before .before .before .args .a .now) (c .before .before .before .before .before .before .before .before .before .before .before .before .before .before .before .before .before .before .before .before .before .before .before .before .before .args .b .now) _ _ _ _ (size-words _ _ _ (c .before .before .before .before .before .before .before .before .before .before .before .before .before .before .before .before .before .before .take-values .ensures)) (c .before .before .before .before .before .before .before .before .before .before .before .before .before .before .before .before .before .before .take-values .ensures) (c .before .before .before .before .before .before .before .before .before .before .before .before .before .before .take-values2 .ensures) (c .before .before .before .before .before .before .before .before .before .multiply-into .ensures) (c .before .before .before .before .put-table .ensures)
+    let made = c .before .before .before .before in
+    let multiplied = made .before .before .before .before .before in
+    let second = multiplied .before .before .before .before .before in
+    let first = second .before .before .before .before in
+    let start = first .before .before .before .before .before .before .before in (
+      product-done _ _ (start .args .a .now) (start .args .b .now) _ _ _ _ (size-words _ _ _ (first .take-values .ensures))
+          (first .take-values .ensures) (second .take-values2 .ensures) (multiplied .multiply-into .ensures) (made .put-table .ensures .0),
+      made .put-table .ensures .1,
+    )
 
 pub multiply-with-spec : {M : Type 1} → statement M
 multiply-with-spec =

@@ -6,7 +6,14 @@ use Rattle.polynomials.proofs.substitute_with.Tie as tie
 
 returns : tie.Need-returns
 returns c =
-    substitute-done _ _ ((c .before .before .before .before .before .before .before .before .before .before .before .before .before .before .before .before .before .before .before .before .before .before .before .args) .condition .now) ((c .before .before .before .before .before .before .before .before .before .before .before .before .before .before .before .before .before .before .before .before .before .before .before .args) .handed .now) _ _ _ ((c .before .before .before .before .before .before .before .before .before .before .before .put-handed) .ensures .0) ((c .before .before .before .before .before .before .before .before .before .before .before .before .before .before .before .before .take-values) .ensures) ((c .before .before .before .before .put-table) .ensures)
+    let made = c .before .before .before .before in
+    let put = made .before .before .before .before .before .before .before in
+    let taken = put .before .before .before .before .before in
+    let start = taken .before .before .before .before .before .before .before in (
+      substitute-done _ _ (start .args .condition .now) (start .args .handed .now) _ _ _ (put .put-handed .ensures .0)
+          (taken .take-values .ensures) (made .put-table .ensures .0),
+      made .put-table .ensures .1,
+    )
 
 pub substitute-with-spec : {M : Type 1} → statement M
 substitute-with-spec =
