@@ -9,6 +9,7 @@ use Rattle.ring.specs.Letters.{bit, point}
 use Rattle.ring.specs.Polynomial.{count, odd, within, value, constant, letter, sum, product, restrict, monomial, substitute, everyBelow}
 use Rattle.ring.specs.Table.{present, tabulate, table, held, answerTable, forUnknowns}
 use Rattle.ring.specs.Lists.{listed, has, times}
+use Rattle.ring.specs.Length.{monomialCount, totalCount}
 use Rattle.tables.specs.Questions.{firstNo, lettersFit, hasRoom, areBits, holdsBits, roomQuestions, bitQuestions, bufferQuestions, inRange}
 use Rattle.tables.specs.Answered.{Reply, accepted, refused, reply, after, answered, call}
 use Rattle.order.specs.Order.{letters, before}
@@ -193,30 +194,30 @@ pub handed-asked : (firstNo (handedQuestions 7 0 [] [] [] 0) ≡ 1)
 unfolding firstNo handedQuestions handedSolves isZero everyBelow substitute monomial product odd count constant letter bit present held forUnknowns lettersFit bufferQuestions roomQuestions bitQuestions hasRoom holdsBits areBits factQuestions hasNoUnknown someStateCounts valueInState tableWhereZero whereZero table tabulate sum value within point
 handed-asked = (refl, refl, refl, refl, refl, refl)
 
--- what the handed form answers and leaves in a buffer of sevens, by masks 1, u, a, u*a or 1, u, v, u*v
+-- what the handed form answers, its total of monomials, and what it leaves in a buffer of sevens, by masks 1, u, a, u*a or 1, u, v, u*v
 pub handed-answered :
     -- `u+a`: a gives u = a, and the byte behind the answers stays; 0, which solves in state 0 only, is refused, and changes nothing
     (handedCall 1 1 (0 ∷ 0 ∷ 0 ∷ 0 ∷ []) (0 ∷ 1 ∷ 1 ∷ 0 ∷ []) (0 ∷ 0 ∷ 1 ∷ 0 ∷ []) (7 ∷ 7 ∷ 7 ∷ 7 ∷ 7 ∷ [])
-    ≡ answered (accepted []) ((0 ∷ 0 ∷ 1 ∷ 0 ∷ 7 ∷ []) ∷ []))
+    ≡ answered (accepted (1 ∷ [])) ((0 ∷ 0 ∷ 1 ∷ 0 ∷ 7 ∷ []) ∷ []))
     × (handedCall 1 1 (0 ∷ 0 ∷ 0 ∷ 0 ∷ []) (0 ∷ 1 ∷ 1 ∷ 0 ∷ []) (0 ∷ 0 ∷ 0 ∷ 0 ∷ []) (7 ∷ 7 ∷ 7 ∷ 7 ∷ 7 ∷ [])
     ≡ answered (refused 21 []) ((7 ∷ 7 ∷ 7 ∷ 7 ∷ 7 ∷ []) ∷ []))
     -- `u+v`: v for both gives u = v, v = v; 1 for both gives u + v + u*v for both
     × (handedCall 2 0 (0 ∷ 0 ∷ 0 ∷ 0 ∷ []) (0 ∷ 1 ∷ 1 ∷ 0 ∷ []) (0 ∷ 0 ∷ 1 ∷ 0 ∷ 0 ∷ 0 ∷ 1 ∷ 0 ∷ []) (7 ∷ 7 ∷ 7 ∷ 7 ∷ 7 ∷ 7 ∷ 7 ∷ 7 ∷ [])
-    ≡ answered (accepted []) ((0 ∷ 0 ∷ 1 ∷ 0 ∷ 0 ∷ 0 ∷ 1 ∷ 0 ∷ []) ∷ []))
+    ≡ answered (accepted (2 ∷ [])) ((0 ∷ 0 ∷ 1 ∷ 0 ∷ 0 ∷ 0 ∷ 1 ∷ 0 ∷ []) ∷ []))
     × (handedCall 2 0 (0 ∷ 0 ∷ 0 ∷ 0 ∷ []) (0 ∷ 1 ∷ 1 ∷ 0 ∷ []) (1 ∷ 0 ∷ 0 ∷ 0 ∷ 1 ∷ 0 ∷ 0 ∷ 0 ∷ []) (7 ∷ 7 ∷ 7 ∷ 7 ∷ 7 ∷ 7 ∷ 7 ∷ 7 ∷ [])
-    ≡ answered (accepted []) ((0 ∷ 1 ∷ 1 ∷ 1 ∷ 0 ∷ 1 ∷ 1 ∷ 1 ∷ []) ∷ []))
+    ≡ answered (accepted (6 ∷ [])) ((0 ∷ 1 ∷ 1 ∷ 1 ∷ 0 ∷ 1 ∷ 1 ∷ 1 ∷ []) ∷ []))
     -- `a` is 'none'
     × (handedCall 1 1 (0 ∷ 0 ∷ 0 ∷ 0 ∷ []) (0 ∷ 0 ∷ 1 ∷ 0 ∷ []) (0 ∷ 0 ∷ 1 ∷ 0 ∷ []) (7 ∷ 7 ∷ 7 ∷ 7 ∷ []) ≡ answered (refused 21 []) ((7 ∷ 7 ∷ 7 ∷ 7 ∷ []) ∷ []))
     -- without letters: `0` and `1`
-    × (handedCall 0 0 (0 ∷ []) (0 ∷ []) [] (7 ∷ []) ≡ answered (accepted []) ((7 ∷ []) ∷ []))
+    × (handedCall 0 0 (0 ∷ []) (0 ∷ []) [] (7 ∷ []) ≡ answered (accepted (0 ∷ [])) ((7 ∷ []) ∷ []))
     × (handedCall 0 0 (0 ∷ []) (1 ∷ []) [] (7 ∷ []) ≡ answered (refused 21 []) ((7 ∷ []) ∷ []))
     -- `a*u+b*u+b`, by masks 1, u, a, u*a, b, u*b, a*b, u*a*b: under the fact a*b the handed b gives u + b + a*u + b*u + a*b, and without it is
     -- refused
     × (handedCall 1 2 (0 ∷ 0 ∷ 0 ∷ 0 ∷ 0 ∷ 0 ∷ 1 ∷ 0 ∷ []) (0 ∷ 0 ∷ 0 ∷ 1 ∷ 1 ∷ 1 ∷ 0 ∷ 0 ∷ []) (0 ∷ 0 ∷ 0 ∷ 0 ∷ 1 ∷ 0 ∷ 0 ∷ 0 ∷ [])
-    (7 ∷ 7 ∷ 7 ∷ 7 ∷ 7 ∷ 7 ∷ 7 ∷ 7 ∷ []) ≡ answered (accepted []) ((0 ∷ 1 ∷ 0 ∷ 1 ∷ 1 ∷ 1 ∷ 1 ∷ 0 ∷ []) ∷ []))
+    (7 ∷ 7 ∷ 7 ∷ 7 ∷ 7 ∷ 7 ∷ 7 ∷ 7 ∷ []) ≡ answered (accepted (5 ∷ [])) ((0 ∷ 1 ∷ 0 ∷ 1 ∷ 1 ∷ 1 ∷ 1 ∷ 0 ∷ []) ∷ []))
     × (handedCall 1 2 (0 ∷ 0 ∷ 0 ∷ 0 ∷ 0 ∷ 0 ∷ 0 ∷ 0 ∷ []) (0 ∷ 0 ∷ 0 ∷ 1 ∷ 1 ∷ 1 ∷ 0 ∷ 0 ∷ []) (0 ∷ 0 ∷ 0 ∷ 0 ∷ 1 ∷ 0 ∷ 0 ∷ 0 ∷ [])
     (7 ∷ 7 ∷ 7 ∷ 7 ∷ 7 ∷ 7 ∷ 7 ∷ 7 ∷ []) ≡ answered (refused 21 []) ((7 ∷ 7 ∷ 7 ∷ 7 ∷ 7 ∷ 7 ∷ 7 ∷ 7 ∷ []) ∷ []))
-unfolding call reply after handedTable lowenheim sum answerTable tabulate firstNo handedQuestions handedSolves isZero everyBelow substitute monomial product odd count constant letter bit present held forUnknowns lettersFit bufferQuestions roomQuestions bitQuestions hasRoom holdsBits areBits factQuestions hasNoUnknown someStateCounts valueInState tableWhereZero whereZero table value within point
+unfolding call reply after totalCount monomialCount handedTable lowenheim sum answerTable tabulate firstNo handedQuestions handedSolves isZero everyBelow substitute monomial product odd count constant letter bit present held forUnknowns lettersFit bufferQuestions roomQuestions bitQuestions hasRoom holdsBits areBits factQuestions hasNoUnknown someStateCounts valueInState tableWhereZero whereZero table value within point
 handed-answered = (refl, refl, refl, refl, refl, refl, refl, refl, refl)
 
 -- sessions over one unknown: 1 before the session's own 8, that before 4 of an added table and before 18, and 18 before 19

@@ -7,3 +7,4 @@ pub mod Entries
 pub mod Walk
 pub mod Volume
 pub mod Examples
+pub mod Lengths

@@ -1,7 +1,9 @@
 pub mod Questions
+pub mod Counted
 pub mod Operations
 pub mod Text
 pub mod Solving
+pub mod Shorter
 pub mod Entries
 pub mod Volume
 pub mod Walk

@@ -14,6 +14,7 @@ use Rattle.calls.specs.declared.Outcome.{Outcome}
 use Rattle.calls.specs.declared.Outcome.the-variants as outcome-variants
 use Rattle.calls.specs.declared.Valued.{Valued}
 use Rattle.calls.specs.declared.Valued.the-variants.{Value, Refused}
+use Rattle.calls.specs.Counted.{countedCall}
 use Rattle.calls.specs.Questions.{valueQuestions, pairQuestions, substituteQuestions, derivativeQuestions}
 
 -- this paper's number and values for each case of `Outcome`
@@ -33,7 +34,7 @@ valueAt U G t state choice = digit (value (U + G) (present t) (point U state cho
 abbrev pub valueCall : ℕ → ℕ → List ℕ → State → Choice → Answered Reply
 valueCall U G t state choice = call (valueQuestions U G t state choice) (valueAt U G t state choice ∷ []) []
 
--- the table of the sum of two tables, and that of their product, pairwise
+-- the table of the sum of two tables, and that of their product, pairwise: each call 'shall also hand back the number of monomials present'
 unfoldable pub sumTable : ℕ → ℕ → List ℕ → List ℕ → List ℕ
 sumTable U G a b = table (U + G) (sum (present a) (present b))
 
@@ -41,10 +42,10 @@ unfoldable pub productTable : ℕ → ℕ → List ℕ → List ℕ → List ℕ
 productTable U G a b = table (U + G) (product (U + G) (present a) (present b))
 
 abbrev pub sumCall : ℕ → ℕ → List ℕ → List ℕ → List ℕ → Answered Reply
-sumCall U G a b out = call (pairQuestions U G a b (length out)) [] (sumTable U G a b into out ∷ [])
+sumCall U G a b out = countedCall (U + G) (pairQuestions U G a b (length out)) (sumTable U G a b) out
 
 abbrev pub productCall : ℕ → ℕ → List ℕ → List ℕ → List ℕ → Answered Reply
-productCall U G a b out = call (pairQuestions U G a b (length out)) [] (productTable U G a b into out ∷ [])
+productCall U G a b out = countedCall (U + G) (pairQuestions U G a b (length out)) (productTable U G a b) out
 
 -- the table of the condition with the handed polynomials put for the unknowns, all at once; the givens stay
 unfoldable pub substituteTable : ℕ → ℕ → List ℕ → List ℕ → List ℕ
@@ -53,7 +54,7 @@ substituteTable U G condition handed =
 
 abbrev pub substituteCall : ℕ → ℕ → List ℕ → List ℕ → List ℕ → Answered Reply
 substituteCall U G condition handed out =
-    call (substituteQuestions U G condition handed (length out)) [] (substituteTable U G condition handed into out ∷ [])
+    countedCall (U + G) (substituteQuestions U G condition handed (length out)) (substituteTable U G condition handed) out
 
 -- the table of the derivative by S, 'for any lent table and S, a mask' (document 02, C-13)
 unfoldable pub derivativeTable : ℕ → ℕ → List ℕ → ℕ → List ℕ

@@ -1,4 +1,4 @@
--- The questions that each call puts, in their order (document 01, 'The questions, and the number if the answer is no'; document 02, C-11 to C-16):
+-- The questions that each call puts, in their order (document 01, 'The questions, and the number if the answer is no'; document 02, C-11 to C-17):
 -- 'The first no counts'. U unknowns and G givens, n = U + G; a table has 2 ^ n bytes, an answer or handed buffer U of them. A buffer that
 -- is only written comes as its number of bytes.
 -- Assumes nothing.
@@ -113,6 +113,12 @@ handedQuestions U G fact condition handed room =
     ∷ (bufferQuestions (handedBuffers U G fact condition handed room)
     ++ (factQuestions U G fact
     ++ (asksHanded U G fact condition handed ∷ [])))
+
+-- the shorter of two answer tables: 'It poses questions 1, 4 and 8'
+unfoldable pub shorterQuestions : ℕ → ℕ → List ℕ → List ℕ → List Asked
+shorterQuestions U G boole lowenheim =
+    asks Letters (lettersFit U G)
+    ∷ bufferQuestions (reads (U * 2 ^ (U + G)) boole ∷ reads (U * 2 ^ (U + G)) lowenheim ∷ [])
 
 -- 14: 'Is the output at least as long as what is to be written?'
 unfoldable pub outputFits : List ℕ → ℕ → Bool

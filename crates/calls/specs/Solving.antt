@@ -4,26 +4,26 @@ use mathlib.Core.List.{List, [], _∷_}
 use Prim.Native.Nat.{ℕ, _+_}
 use lib.ListN.{length}
 use Rattle.ring.specs.Table.{present, held, answerTable}
-use Rattle.tables.specs.Answered.{Reply, accepted, refused, Answered, call, _into_}
+use Rattle.tables.specs.Answered.{Reply, accepted, refused, Answered}
 use Rattle.solution.specs.Condition.{Condition, tableWhereZero}
 use Rattle.solution.specs.Order.{lentCondition}
 use Rattle.solution.specs.Elimination.{lowenheim, booleTable, particularTable, lowenheimTable}
-use Rattle.calls.specs.declared.Verdict.the-variants.{Solved, None}
 use Rattle.calls.specs.declared.Solving.{Solving}
-use Rattle.calls.specs.declared.Solving.the-variants.{Said, Refused}
+use Rattle.calls.specs.declared.Solving.the-variants.{Solved, None, Refused}
+use Rattle.calls.specs.Counted.{answersCall}
 use Rattle.calls.specs.Questions.{solvingQuestions, handedQuestions}
 
--- this paper's number and values for each case of `Solving`: question 9 'also gives the state'
+-- this paper's number and values for each case of `Solving`: the total of monomials, and question 9 'also gives the state'
 abbrev pub solving : Solving → Reply
-solving (Said Solved) = accepted []
-solving (Said (None state)) = refused 9 (state .0 ∷ [])
+solving (Solved total) = accepted (total ∷ [])
+solving (None state) = refused 9 (state .0 ∷ [])
 solving (Refused number) = refused number []
 
 -- a call that solves a condition and fills the answer buffer with one of its answer tables
 abbrev pub solvingCall : (Condition → List ℕ) → ℕ → ℕ → List ℕ → List ℕ → List ℕ → List ℕ → Answered Reply
 solvingCall answerTables U G order fact condition answers =
-    call (solvingQuestions U G order fact condition (length answers)) []
-    (answerTables (lentCondition U G order fact condition) into answers ∷ [])
+    answersCall U (U + G) (solvingQuestions U G order fact condition (length answers))
+    (answerTables (lentCondition U G order fact condition)) answers
 
 -- Boole's answers, the particular solution, and the engine's own Löwenheim answers
 abbrev pub booleCall : ℕ → ℕ → List ℕ → List ℕ → List ℕ → List ℕ → Answered Reply
@@ -42,4 +42,4 @@ handedTable U G fact condition handed =
 
 abbrev pub handedCall : ℕ → ℕ → List ℕ → List ℕ → List ℕ → List ℕ → Answered Reply
 handedCall U G fact condition handed answers =
-    call (handedQuestions U G fact condition handed (length answers)) [] (handedTable U G fact condition handed into answers ∷ [])
+    answersCall U (U + G) (handedQuestions U G fact condition handed (length answers)) (handedTable U G fact condition handed) answers

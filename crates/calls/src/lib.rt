@@ -9,6 +9,12 @@ pub enum Outcome {
     Refused(u8),
 }
 
+// The number of monomials in what a call has made, in an answer the total over its unknowns, or the number of the first no.
+pub enum Counted {
+    Monomials(usize),
+    Refused(u8),
+}
+
 // The value of a table, or the number of the first no.
 pub enum Valued {
     Value(u8),
@@ -21,9 +27,17 @@ pub enum Verdict {
     None(State),
 }
 
-// What a solving call says, or the number of the first no.
+// What a solving call says, or the number of the first no: the total of monomials in the answers, or the state of question 9.
 pub enum Solving {
-    Said(Verdict),
+    Solved(usize),
+    None(State),
+    Refused(u8),
+}
+
+// Which of two answer tables is the shorter, or the number of the first no.
+pub enum Shorter {
+    Boole,
+    Lowenheim,
     Refused(u8),
 }
 

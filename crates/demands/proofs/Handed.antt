@@ -137,7 +137,7 @@ module _ (U G : ℕ) (fact condition handed : List ℕ) where
 
     refused-by : solves ≡ false → handedCall U G fact condition handed answers ≡ answered (refused 21 []) (answers ∷ [])
     unfolding handedQuestions bufferQuestions roomQuestions bitQuestions factQuestions
-    refused-by e = sym (call-last-no before Handed solves [] [] (handedTable U G fact condition handed into answers ∷ []) before-yes e)
+    refused-by e = sym (call-last-no before Handed solves [] _ (handedTable U G fact condition handed into answers ∷ []) before-yes e)
 
     pub tested : HandedTested U G fact condition handed answers
     unfolding handedSolves isZero substituteTable factQuestions

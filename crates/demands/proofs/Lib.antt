@@ -3,6 +3,7 @@ pub mod UnderFact
 pub mod OverTheCalls
 pub mod TwoOrders
 pub mod Handed
+pub mod Shorter
 pub mod Refuted
 pub mod StarredRows
 pub mod SignRows

@@ -13,7 +13,6 @@ use Rattle.ring.specs.Polynomial.{Polynomial, value}
 use Rattle.ring.specs.Table.{IsTable, present, held, answerTable}
 use Rattle.tables.specs.declared.Question.the-variants.{Letters, Room, Bits, Solution, Order, Handed}
 use Rattle.tables.specs.Questions.{Asked, asks, asksGiving, lettersFit, hasRoom, holdsBits, roomQuestions, bitQuestions, bufferQuestions}
-use Rattle.tables.specs.Answered.{call, _into_}
 use Rattle.tables.proofs.Bits.{bits-are}
 use Rattle.order.proofs.Order.{monomials-none}
 use Rattle.solution.specs.Letters.{Letter, HoldsGivens}
@@ -30,6 +29,7 @@ use Rattle.solution.proofs.UnderFact.{without-fact, same-where, where-front, ze
 use Rattle.entry.specs.Held.{records, answersIn, says}
 use Rattle.entry.specs.Entry.{orderRecords, factRecords, conditionRecords, entryRecords, entry}
 use Rattle.calls.specs.Questions.{factQuestions, solvingQuestions, handedQuestions}
+use Rattle.calls.specs.Counted.{answersCall}
 use Rattle.calls.specs.Solving.{handedTable}
 use Rattle.demands.specs.Demand3.{Demand3}
 use Rattle.demands.specs.UnderFact.{Demand3Where, SameAnswers, plainVerdict, plainEntry}
@@ -139,14 +139,14 @@ module _ (U G : ℕ) (fact s t : List ℕ) (is-s : IsTable (U + G) s) (is-t : Is
 
   -- the same questions, and the same answers
   same-call : {qs ps : List Asked} {a b : List ℕ} (answers : List ℕ) → qs ≡ ps → a ≡ b
-      → call qs [] (a into answers ∷ []) ≡ call ps [] (b into answers ∷ [])
-  same-call answers same-asked same-made = ap₂ (λ (qs : List Asked) (a : List ℕ). call qs [] (a into answers ∷ [])) same-asked same-made
+      → answersCall U (U + G) qs a answers ≡ answersCall U (U + G) ps b answers
+  same-call answers same-asked same-made = ap₂ (λ (qs : List Asked) (a : List ℕ). answersCall U (U + G) qs a answers) same-asked same-made
 
   solving-same : (made : Polynomial → Substitution) (order answers : List ℕ)
-      → call (solvingQuestions U G order fact s (length answers)) []
-      (answerTable U (U + G) (made (present (tableWhereZero (U + G) (take k s) (take k fact)))) into answers ∷ [])
-      ≡ call (solvingQuestions U G order fact t (length answers)) []
-      (answerTable U (U + G) (made (present (tableWhereZero (U + G) (take k t) (take k fact)))) into answers ∷ [])
+      → answersCall U (U + G) (solvingQuestions U G order fact s (length answers))
+      (answerTable U (U + G) (made (present (tableWhereZero (U + G) (take k s) (take k fact))))) answers
+      ≡ answersCall U (U + G) (solvingQuestions U G order fact t (length answers))
+      (answerTable U (U + G) (made (present (tableWhereZero (U + G) (take k t) (take k fact))))) answers
   solving-same made order answers =
       same-call answers (same-solving order (length answers)) (ap (λ (p : List ℕ). answerTable U (U + G) (made (present p))) one-front)
 

@@ -3,6 +3,7 @@ pub mod UnderFact
 pub mod OverTheCalls
 pub mod TwoOrders
 pub mod Handed
+pub mod Shorter
 pub mod StarredRows
 pub mod SignRows
 pub mod Sample

@@ -15,5 +15,6 @@ pub mod OrderRecord
 pub mod Unique
 pub mod Canonical
 pub mod Passes
+pub mod Lengths
 pub mod Theorems
 pub mod Examples

@@ -6,6 +6,7 @@ use mathlib.Core.List.{List, [], _∷_}
 use Prim.Native.Nat.{ℕ, zero, suc, _+_}
 use lib.Dec.{eqb, leb}
 use lib.ListN.{length, take, drop}
+use Rattle.ring.specs.Letters.{digit}
 use Rattle.ring.specs.Polynomial.{Polynomial}
 use Rattle.ring.specs.Table.{table, answerTable}
 use Rattle.solution.specs.Substitution.{Substitution}
@@ -13,7 +14,7 @@ use Rattle.solution.specs.Condition.{Condition, underFact}
 use Rattle.solution.specs.Order.{defaultBytes}
 use Rattle.solution.specs.Elimination.{Verdict, solved, none}
 use Rattle.entry.specs.Record.{Record, routeField, unknownsField, givensField, maskField, stateField, size, kind, valueOf, isEnd}
-use Rattle.entry.specs.Record.{isNone, isOrder, isMonomial, tableIn}
+use Rattle.entry.specs.Record.{isAnswer, isNone, isOrder, isMonomial, tableIn}
 
 -- the record that the bytes begin with, no bytes where there is no whole one
 unfoldable pub next : List ℕ → Record
@@ -73,6 +74,11 @@ conditionIn rs m = hasMonomial 1 m rs
 -- 0 if there are none'
 unfoldable pub answersIn : List Record → Substitution
 answersIn rs j m = hasMonomial (suc (suc j)) m rs
+
+-- how many records are of kind 3: 'judge a circuit by its monomials' (document 02, C-17)
+unfoldable pub answerCount : List Record → ℕ
+answerCount [] = 0
+answerCount (r ∷ rs) = digit (isAnswer r) + answerCount rs
 
 -- 'It says 'none' and the state by kind 5. Without kind 5', it says that a is the answer
 unfoldable pub unlessNone : {A : Type 0} → A → List Record → Verdict A

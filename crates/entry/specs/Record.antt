@@ -150,6 +150,9 @@ valueIn f (g ∷ fs) bs = cond (sameField f g) (fromLowFirst (take (width g) bs)
 unfoldable pub valueOf : Field → Record → ℕ
 valueOf f r = valueIn f (fields (kind r)) (drop 1 r)
 
+abbrev pub isAnswer : Record → Bool
+isAnswer r = eqb (kind r) 3
+
 abbrev pub isEnd : Record → Bool
 isEnd r = eqb (kind r) 4
 

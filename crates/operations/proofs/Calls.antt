@@ -15,6 +15,7 @@ use Rattle.ring.specs.Letters.{digit, point}
 use Rattle.ring.specs.Polynomial.{_⊕_, value, sum, product, substitute}
 use Rattle.ring.specs.Derivative.{derivative}
 use Rattle.ring.specs.Table.{present, table, held, forUnknowns}
+use Rattle.ring.specs.Length.{monomialCount}
 use Rattle.ring.proofs.Points.{point-lt}
 use Rattle.ring.proofs.Value.{value-cong, product-cong}
 use Rattle.ring.proofs.Substitute.{substitute-cong, forUnknowns-cong}
@@ -60,6 +61,11 @@ module _ (u g k : ℕ) (a b : List ℕ) (e : k ≡ 2 ^ (u + g)) where
   pub length-substitute : k ≡ length (substituteTable u g a b)
   unfolding substituteTable
   length-substitute = e ∙ sym (length-table (u + g) _)
+
+-- the number of monomials of the table that is made
+pub counted-whole : (n r : ℕ) (front made : List ℕ) → front ≡ made → r ≡ monomialCount n (present front)
+    → _≡_ {A = List ℕ} (r ∷ []) (monomialCount n (present made) ∷ [])
+counted-whole n r front made e er = ap (λ (x : ℕ). x ∷ []) (er ∙ ap (λ (t : List ℕ). monomialCount n (present t)) e)
 
 pub derivative-whole : (u g k s : ℕ) (t : List ℕ) → k ≡ 2 ^ (u + g)
     → table (u + g) (derivative (u + g) s (present (take k t))) ≡ derivativeTable u g t s

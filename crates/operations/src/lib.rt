@@ -2,6 +2,7 @@
 // Public calls, none with a `requires`: `value`, `sum`, `product`, `substitute`, `derivative`. The other functions are theirs alone.
 // They ask the questions and lend the tables that have passed them; the work is `polynomials`'. Their contracts cite the polynomials' own
 // definitions.
+use calls::Counted;
 use calls::Outcome;
 use calls::Valued;
 use ring::Choice;
@@ -19,6 +20,7 @@ ghost use Rattle.ring.specs.Table.{present};
 ghost use Rattle.tables.specs.Questions.{firstNo, inRange};
 ghost use Rattle.tables.specs.Answered.{answered};
 ghost use Rattle.calls.specs.Questions.{valueQuestions, pairQuestions, substituteQuestions, derivativeQuestions};
+ghost use Rattle.calls.specs.Counted.{counted};
 ghost use Rattle.calls.specs.Operations.{outcome, valued, valueCall, sumCall, productCall, substituteCall, derivativeCall};
 
 // Monomial m is present, by its byte, and its letters are all 1 at the point p.
@@ -156,45 +158,48 @@ pub fn value(u: usize, g: usize, t: &[u8], state: State, choice: Choice) -> Valu
     Valued::Value(value_of(&t[..k], n, p))
 }
 
-// The sum of two tables, into a third.
-pub fn sum(u: usize, g: usize, a: &[u8], b: &[u8], out: &mut [u8]) -> Outcome
-    ensures { λ r. ⌜ answered (outcome r) (now (out .exit) ∷ []) ≡ sumCall u g (now (a .entry)) (now (b .entry)) (now (out .entry)) ⌝ }
+// The sum of two tables, into a third, and the number of its monomials.
+pub fn sum(u: usize, g: usize, a: &[u8], b: &[u8], out: &mut [u8]) -> Counted
+    ensures { λ r. ⌜ answered (counted r) (now (out .exit) ∷ []) ≡ sumCall u g (now (a .entry)) (now (b .entry)) (now (out .entry)) ⌝ }
 {
     let q = pair_refusal(u, g, a, b, out.len());
     if q != 0 {
-        return Outcome::Refused(q);
+        return Counted::Refused(q);
     }
     let k = tables::pow2(u + g);
-    polynomials::add(u + g, &a[..k], &b[..k], &mut out[..k]);
-    Outcome::Done
+    Counted::Monomials(polynomials::add(u + g, &a[..k], &b[..k], &mut out[..k]))
 }
 
-// The product of two tables, into a third.
-pub fn product(u: usize, g: usize, a: &[u8], b: &[u8], out: &mut [u8]) -> Outcome
-    ensures { λ r. ⌜ answered (outcome r) (now (out .exit) ∷ []) ≡ productCall u g (now (a .entry)) (now (b .entry)) (now (out .entry)) ⌝ }
+// The product of two tables, into a third, and the number of its monomials.
+pub fn product(u: usize, g: usize, a: &[u8], b: &[u8], out: &mut [u8]) -> Counted
+    ensures { λ r. ⌜ answered (counted r) (now (out .exit) ∷ []) ≡ productCall u g (now (a .entry)) (now (b .entry)) (now (out .entry)) ⌝ }
 {
     let q = pair_refusal(u, g, a, b, out.len());
     if q != 0 {
-        return Outcome::Refused(q);
+        return Counted::Refused(q);
     }
     let k = tables::pow2(u + g);
-    polynomials::multiply(u + g, &a[..k], &b[..k], &mut out[..k]);
-    Outcome::Done
+    Counted::Monomials(polynomials::multiply(u + g, &a[..k], &b[..k], &mut out[..k]))
 }
 
-// Handed polynomials put for the unknowns of a condition, all at once; the givens stay.
-pub fn substitute(u: usize, g: usize, condition: &[u8], handed: &[u8], out: &mut [u8]) -> Outcome
-    ensures { λ r. ⌜ answered (outcome r) (now (out .exit) ∷ [])
+// Handed polynomials put for the unknowns of a condition, all at once, and the number of monomials of what comes out; the givens stay.
+pub fn substitute(u: usize, g: usize, condition: &[u8], handed: &[u8], out: &mut [u8]) -> Counted
+    ensures { λ r. ⌜ answered (counted r) (now (out .exit) ∷ [])
         ≡ substituteCall u g (now (condition .entry)) (now (handed .entry)) (now (out .entry)) ⌝ }
 {
     let q = substitute_refusal(u, g, condition, handed, out.len());
     if q != 0 {
-        return Outcome::Refused(q);
+        return Counted::Refused(q);
     }
     let k = tables::pow2(u + g);
     let all = u * k;
-    polynomials::substitute(u, g, &condition[..k], &handed[..all], &mut out[..k]);
-    Outcome::Done
+    Counted::Monomials(polynomials::substitute(
+        u,
+        g,
+        &condition[..k],
+        &handed[..all],
+        &mut out[..k],
+    ))
 }
 
 // The derivative of a table by the letters of the mask s: the table plus the table with these letters inverted, all at once.

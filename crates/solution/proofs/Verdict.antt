@@ -40,10 +40,13 @@ module _ (U G : ℕ) (order : List ℕ) (is : IsOrder U order) (f : Polynomial) 
   pub own-general : General U G f (ownLowenheim U G order f)
   own-general = general U G f _ own-leads
 
-  -- the engine's own Löwenheim answers as a table of bytes
+  -- the engine's own Löwenheim answers, wherever they are held ..
+  pub owns-general : (a : Substitution) → ((j m : ℕ) → j < U → m < 2 ^ (U + G) → a j m ≡ ownLowenheim U G order f j m) → General U G f a
+  owns-general a same = general U G f a (leads-same U G f (ownLowenheim U G order f) a same own-leads)
+
+  -- .. as in a table of bytes
   pub own-table-general : General U G f (held (U + G) (answerTable U (U + G) (ownLowenheim U G order f)))
-  own-table-general =
-      general U G f _ (leads-same U G f (ownLowenheim U G order f) _ (held-answerTable U (U + G) (ownLowenheim U G order f)) own-leads)
+  own-table-general = owns-general _ (held-answerTable U (U + G) (ownLowenheim U G order f))
 
 -- the same of a condition
 module _ (c : Condition) (is : IsOrder (c .U) (c .order)) where

@@ -99,7 +99,7 @@ module _ (method : Method) (u g : ℕ) (order fact t lent : List ℕ) (q : ℕ)
   pub solving-refused : (q ≡ 0 → ⊥) → answered (refused q []) (lent ∷ []) ≡ solvingCall (tableBy method) u g order fact t lent
   unfolding solvingQuestions tableQuestions bufferQuestions roomQuestions bitQuestions
   solving-refused n =
-      call-stops (tableQuestions u g order fact t (length lent)) behind [] (tableBy method (lentCondition u g order fact t) into lent ∷ []) q
+      call-stops (tableQuestions u g order fact t (length lent)) behind _ (tableBy method (lentCondition u g order fact t) into lent ∷ []) q
       refl found n
 
   pub solving-done : q ≡ 0 → (k : ℕ) → k ≡ 2 ^ (u + g) → {gives : Reply} {front : List ℕ}
@@ -109,7 +109,7 @@ module _ (method : Method) (u g : ℕ) (order fact t lent : List ℕ) (q : ℕ)
   solving-done z k e done =
       let yes-all : firstNo (tableQuestions u g order fact t (length lent)) ≡ 0 = sym found ∙ z in
       rw e
-      (call-front behind [] (tableBy method (lentCondition u g order fact t)) lent _ (u * 2 ^ (u + g))
+      (call-front behind _ (tableBy method (lentCondition u g order fact t)) lent _ (u * 2 ^ (u + g))
       (length-tableBy method (lentCondition u g order fact t)) (passed u g order fact t lent found z refl .answer-room)
       (rw (e, fact-front u g fact) at done)
-      ∙ call-behind (tableQuestions u g order fact t (length lent)) behind [] _ yes-all)
+      ∙ call-behind (tableQuestions u g order fact t (length lent)) behind _ _ yes-all)

@@ -13,6 +13,7 @@ use borrow.Author.Tests.{lt-ltb}
 use Rattle.ring.specs.Letters.{bit}
 use Rattle.ring.specs.Polynomial.{Polynomial, _⊕_, value, letter, sum, substitute}
 use Rattle.ring.specs.Table.{AreBits, IsTable, present, held, answerTable, forUnknowns}
+use Rattle.ring.specs.Length.{totalCount}
 use Rattle.ring.proofs.Table.{values-back, held-take, answerTable-cong, length-answerTable}
 use Rattle.ring.proofs.Value.{product-cong}
 use Rattle.tables.specs.declared.Question.the-variants.{Letters, Room, Bits, Handed}
@@ -117,7 +118,7 @@ module _ (u g : ℕ) (fact t handed : List ℕ) where
     pub fact-refused-by : (q ≡ 0 → ⊥) → answered (refused q []) (lent ∷ []) ≡ handedBy u g fact t handed lent
     unfolding handedBy
     fact-refused-by some =
-        fact-stops u g fact (asksHanded u g fact t handed ∷ []) [] (handedTable u g fact t handed into lent ∷ []) q found some
+        fact-stops u g fact (asksHanded u g fact t handed ∷ []) _ (handedTable u g fact t handed into lent ∷ []) q found some
 
     -- .. or the values of f*(1 + g), a copy of them, and the handed polynomials put into the copy
     module _ (z : q ≡ 0) (values copied own : List ℕ) (r end : ℕ)
@@ -130,20 +131,24 @@ module _ (u g : ℕ) (fact t handed : List ℕ) where
       unfolding handedBy
       refused-by number numbered l =
           rw numbered
-          (call-last-no (factQuestions u g fact) Handed _ [] [] (handedTable u g fact t handed into lent ∷ []) (sym found ∙ z)
+          (call-last-no (factQuestions u g fact) Handed _ [] _ (handedTable u g fact t handed into lent ∷ []) (sym found ∙ z)
           (solves-no own r end size first e (put f (same ∙ taken)) l))
 
       pub mixed-by : (k : ℕ) (parts answers : List ℕ) → u ≤ 6 → end ≤ r → k ≡ 2 ^ (u + g - 6)
           → parts ≡ answerWords 6 (2 ^ (u + g - 6)) (putFor u (u + g) handed)
           → answers ≡ answerTable u (u + g)
           (λ j. value (u + g) (mixedValue (bitAt values) (partValue (2 ^ (u + g - 6)) (take (u * k) parts) j) j))
-          → length lent ≡ u * 2 ^ (u + g) → answered (accepted []) (answers ∷ []) ≡ handedBy u g fact t handed lent
+          → (total : ℕ) → total ≡ totalCount u (u + g) (held (u + g) answers) → length lent ≡ u * 2 ^ (u + g)
+          → answered (accepted (total ∷ [])) (answers ∷ []) ≡ handedBy u g fact t handed lent
       unfolding handedBy
-      mixed-by k parts answers few l ek ep written size-lent =
-          call-whole (factQuestions u g fact ++ (asksHanded u g fact t handed ∷ [])) [] (handedTable u g fact t handed) lent answers
+      mixed-by k parts answers few l ek ep written total counted size-lent =
+          let made : answers ≡ handedTable u g fact t handed = written ∙ formula-written k parts values few ek ep taken in
+          ap (λ (x : ℕ). answered (accepted (x ∷ [])) (answers ∷ []))
+          (counted ∙ ap (λ (s : List ℕ). totalCount u (u + g) (held (u + g) s)) made)
+          ∙ call-whole (factQuestions u g fact ++ (asksHanded u g fact t handed ∷ [])) _ (handedTable u g fact t handed) lent answers
           (then-further (factQuestions u g fact) (asksHanded u g fact t handed ∷ []) (sym found ∙ z)
           ∙ none-no (asksHanded u g fact t handed ∷ []) (solves-yes own r end size first e (put f (same ∙ taken)) l, tt))
-          (written ∙ formula-written k parts values few ek ep taken) (size-lent ∙ sym length-handed)
+          made (size-lent ∙ sym length-handed)
 
 -- ---- the calls' own buffers, of which the parts that count are lent on
 module _ (u g k : ℕ) (fact t handed : List ℕ) (e : k ≡ 2 ^ (u + g)) where
@@ -232,7 +237,7 @@ module _ (u g : ℕ) (fact t handed lent : List ℕ) (q : ℕ)
   pub handed-refused : (q ≡ 0 → ⊥) → answered (refused q []) (lent ∷ []) ≡ handedCall u g fact t handed lent
   unfolding handedQuestions handedTableQuestions bufferQuestions roomQuestions bitQuestions
   handed-refused n =
-      call-stops (handedTableQuestions u g fact t handed (length lent)) behind [] (handedTable u g fact t handed into lent ∷ []) q refl found n
+      call-stops (handedTableQuestions u g fact t handed (length lent)) behind _ (handedTable u g fact t handed into lent ∷ []) q refl found n
 
   pub handed-done : q ≡ 0 → (k : ℕ) → k ≡ 2 ^ (u + g) → {gives : Reply} {front : List ℕ}
       → answered gives (front ∷ []) ≡ handedBy u g (take k fact) (take k t) (take (u * k) handed) (take (u * k) lent)
@@ -242,8 +247,9 @@ module _ (u g : ℕ) (fact t handed lent : List ℕ) (q : ℕ)
       let yes-all : firstNo (handedTableQuestions u g fact t handed (length lent)) ≡ 0 = sym found ∙ z in
       let passed-all = handed-passed u g fact t handed lent found z e in
       let asked-front : factQuestions u g (take k fact) ≡ factQuestions u g fact = rw e (fact-front u g fact) in
-      let work : answered gives (front ∷ []) ≡ call behind [] (handedTable u g fact t handed into take (u * k) lent ∷ []) =
+      let total : List ℕ = totalCount u (u + g) (held (u + g) (handedTable u g fact t handed)) ∷ [] in
+      let work : answered gives (front ∷ []) ≡ call behind total (handedTable u g fact t handed into take (u * k) lent ∷ []) =
       done ∙ rw (asked-front, test-front u g k fact t handed e, table-front u g k fact t handed e) in
-      call-front behind [] (handedTable u g fact t handed) lent front (u * k) (length-handed u g fact t handed ∙ rw e)
+      call-front behind total (handedTable u g fact t handed) lent front (u * k) (length-handed u g fact t handed ∙ rw e)
       (passed-all .answer-room) work
-      ∙ call-behind (handedTableQuestions u g fact t handed (length lent)) behind [] _ yes-all
+      ∙ call-behind (handedTableQuestions u g fact t handed (length lent)) behind total _ yes-all

@@ -10,10 +10,12 @@ use lib.ListN.{length}
 use Rattle.ring.specs.declared.State.{State}
 use Rattle.ring.specs.Letters.{bit}
 use Rattle.ring.specs.Polynomial.{Polynomial, value}
+use Rattle.ring.specs.Table.{held}
+use Rattle.ring.specs.Length.{totalCount}
 use Rattle.ring.proofs.Table.{length-answerTable}
 use Rattle.tables.specs.declared.Question.the-variants.{Solution}
 use Rattle.tables.specs.Questions.{firstNo}
-use Rattle.tables.specs.Answered.{refused, answered, _into_}
+use Rattle.tables.specs.Answered.{accepted, refused, answered, _into_}
 use Rattle.tables.proofs.FirstNo.{none-no, then-further}
 use Rattle.tables.proofs.Answered.{call-last-no, call-whole}
 use Rattle.words.specs.Inner.Words.{bitAt, answerWords}
@@ -34,7 +36,7 @@ use Rattle.elimination.proofs.States.{state-room}
 use Rattle.facts.proofs.Asked.{fact-stops}
 use Rattle.calls.specs.declared.Verdict.{Verdict}
 use Rattle.calls.specs.declared.Verdict.the-variants.{Solved, None}
-use Rattle.calls.specs.declared.Solving.the-variants.{Said}
+use Rattle.calls.specs.declared.Solving.the-variants as solving-variants
 use Rattle.calls.specs.Questions.{factQuestions, asksSolution}
 use Rattle.calls.specs.Solving.{solving}
 use Rattle.solver.specs.declared.Method.{Method}
@@ -150,25 +152,30 @@ length-tableBy Lowenheim c = length-answerTable (c .U) (width c) _
 module _ (method : Method) (c : Condition) (lent : List ℕ) {q : ℕ} (found : q ≡ firstNo (factQuestions (c .U) (c .G) (c .fact))) where
   pub fact-refused : (q ≡ 0 → ⊥) → answered (refused q []) (lent ∷ []) ≡ solveBy method c lent
   unfolding solveBy
-  fact-refused n = fact-stops (c .U) (c .G) (c .fact) (asksSolution c ∷ []) [] (tableBy method c into lent ∷ []) q found n
+  fact-refused n = fact-stops (c .U) (c .G) (c .fact) (asksSolution c ∷ []) _ (tableBy method c into lent ∷ []) q found n
 
   -- .. or a verdict, from a copy of the condition's values
   module _ (z : q ≡ 0) (v : Verdict) (ws : List ℕ) {values used : List ℕ}
       (copied : used ≡ values) (taken : values ≡ valueWords c) (said : used ≡ valueWords c → verdict v ws ≡ solveWords c) where
-    pub none-by : {state : State} → v ≡ None state → answered (solving (Said (None state))) (lent ∷ []) ≡ solveBy method c lent
+    pub none-by : {state : State} → v ≡ None state → answered (solving (solving-variants.None state)) (lent ∷ []) ≡ solveBy method c lent
     unfolding solveBy
     none-by {state} told =
         let r = none-is c state (rw told at (said (copied ∙ taken))) in
         rw (r .1)
-        (call-last-no (factQuestions (c .U) (c .G) (c .fact)) Solution (solvable (width c) (polynomial c) (c .order)) _ []
+        (call-last-no (factQuestions (c .U) (c .G) (c .fact)) Solution (solvable (width c) (polynomial c) (c .order)) _ _
         (tableBy method c into lent ∷ []) (sym found ∙ z) (r .0))
 
-    pub solved-by : {answers : List ℕ} → v ≡ Solved → (values ≡ valueWords c → ws ≡ booleWords c → answers ≡ tableBy method c)
-        → length lent ≡ c .U * 2 ^ width c → answered (solving (Said Solved)) (answers ∷ []) ≡ solveBy method c lent
+    pub solved-by : {answers : List ℕ} {total : ℕ} → v ≡ Solved
+        → (values ≡ valueWords c → ws ≡ booleWords c → answers ≡ tableBy method c)
+        → total ≡ totalCount (c .U) (width c) (held (width c) answers) → length lent ≡ c .U * 2 ^ width c
+        → answered (solving (solving-variants.Solved total)) (answers ∷ []) ≡ solveBy method c lent
     unfolding solveBy
-    solved-by {answers} told written size =
+    solved-by {answers} told written counted size =
         let r = solved-is c ws (rw told at (said (copied ∙ taken))) in
-        call-whole (factQuestions (c .U) (c .G) (c .fact) ++ (asksSolution c ∷ [])) [] (tableBy method c) lent answers
+        let made : answers ≡ tableBy method c = written taken (r .1) in
+        ap (λ (x : ℕ). answered (accepted (x ∷ [])) (answers ∷ []))
+        (counted ∙ ap (λ (t : List ℕ). totalCount (c .U) (width c) (held (width c) t)) made)
+        ∙ call-whole (factQuestions (c .U) (c .G) (c .fact) ++ (asksSolution c ∷ [])) _ (tableBy method c) lent answers
         (then-further (factQuestions (c .U) (c .G) (c .fact)) (asksSolution c ∷ []) (sym found ∙ z)
         ∙ none-no (asksSolution c ∷ []) (r .0, tt))
-        (written taken (r .1)) (size ∙ sym (length-tableBy method c))
+        made (size ∙ sym (length-tableBy method c))

@@ -5,16 +5,20 @@ use mathlib.Core.Bool.{Bool, _&&_}
 use mathlib.Core.List.{List}
 use Prim.Native.Nat.{ℕ, _+_, _-_, _*_, _/_, _%_, _^_, _≤_, _<_}
 use native.Mathlib.Nat.{mul-le-mul}
+use native.Mathlib.Numerals.{add-one}
 use native.Mathlib.Omega.{arith}
-use lib.Pow.{high, low}
+use lib.Pow.{high, low, pow-mono}
 use lib.ListN.{length, getD, take, drop}
 use lib.Seq.{getD-take, getD-drop}
 use borrow.Rule.Slice.PartMut.{putMid}
 use Rattle.ring.specs.Letters.{digit, bit}
 use Rattle.ring.specs.Polynomial.{Polynomial, _⊕_, value}
-use Rattle.ring.specs.Table.{table, answerTable}
+use Rattle.ring.specs.Table.{present, table, held, answerTable}
+use Rattle.ring.specs.Length.{monomialCount, totalCount}
 use Rattle.ring.proofs.Lists.{listed-cong, tabulate-listed}
 use Rattle.ring.proofs.Value.{value-cong}
+use Rattle.ring.proofs.Parity.{count-most}
+use Rattle.ring.proofs.Length.{monomials-cong, monomials-table, total-answerTable, total-most}
 use Rattle.tables.proofs.Filled.{filled}
 use Rattle.words.specs.Inner.Words.{wordsOf, bitAt}
 use Rattle.words.proofs.Letters.{room}
@@ -56,6 +60,31 @@ pub tables-done : (n u j k : ℕ) (a : ℕ → Polynomial) (t₀ t : List ℕ) �
     → t ≡ filled (j * k) (answerByte n a) t₀ → t ≡ answerTable u n a
 unfolding answerTable answerByte
 tables-done n u j k a t₀ t ek ej size e = parts-end u (2 ^ n) j k (answerByte n a) t₀ t ek ej size e ∙ sym (tabulate-listed (u * 2 ^ n) _)
+
+-- the total of monomials: one table more ..
+pub total-more : (n j total r : ℕ) (a : ℕ → Polynomial) (g : Polynomial) (ys : List ℕ) → total ≡ totalCount j n a → ys ≡ table n g
+    → ((m : ℕ) → m < 2 ^ n → g m ≡ a j m) → r ≡ monomialCount n (present ys) → total + r ≡ totalCount (j + 1) n a
+unfolding totalCount
+total-more n j total r a g ys et ey same er =
+    rw add-one
+    (ap₂ _+_ et
+    (er ∙ ap (λ (t : List ℕ). monomialCount n (present t)) ey ∙ monomials-table n g ∙ monomials-cong n g (a j) same))
+
+-- .. which the code can count ..
+pub total-small : (n j total r : ℕ) (a : ℕ → Polynomial) (ys : List ℕ) → total ≡ totalCount j n a → r ≡ monomialCount n (present ys)
+    → j ≤ 6 → n ≤ 10 → total + r ≤ 7168
+unfolding monomialCount
+total-small n j total r a ys et er few h =
+    let most : 2 ^ n ≤ 2 ^ 10 = pow-mono h in
+    let all : j * 2 ^ n ≤ 6 * 2 ^ 10 = mul-le-mul few most in
+    omega (arith, et, er, total-most j n a, count-most (2 ^ n) (present ys))
+
+-- .. and all of them
+pub total-done : (n u j total : ℕ) (a : ℕ → Polynomial) (t : List ℕ) → j ≡ u → total ≡ totalCount j n a → t ≡ answerTable u n a
+    → total ≡ totalCount u n (held n t)
+total-done n u j total a t ej et e =
+    et ∙ ap (λ (x : ℕ). totalCount x n a) ej
+    ∙ sym (ap (λ (s : List ℕ). totalCount u n (held n s)) e ∙ total-answerTable u n a)
 
 -- the table of one part of words
 pub copied-table : (n k x : ℕ) (ws : List ℕ) → k ≡ 2 ^ (n - 6) → (m : ℕ) → m < 2 ^ n

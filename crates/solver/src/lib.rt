@@ -5,7 +5,7 @@
 // g: what is solved is f*(1 + g).
 // The work is done on truth values, 64 points to a word (`elimination`). It comes back to polynomials, and the contracts cite the
 // polynomials' own definitions.
-use calls::Outcome;
+use calls::Counted;
 use calls::Solving;
 use calls::Verdict;
 use ring::State;
@@ -16,14 +16,15 @@ ghost use mathlib.Core.List.{List, [], _∷_};
 ghost use Prim.Native.Nat.{ℕ, _+_, _-_, _*_, _^_, _≤_, _<_};
 ghost use lib.ListN.{length, take};
 ghost use Rattle.ring.specs.Polynomial.{value};
-ghost use Rattle.ring.specs.Table.{IsTable, AreBits, answerTable};
+ghost use Rattle.ring.specs.Table.{IsTable, AreBits, held, answerTable};
+ghost use Rattle.ring.specs.Length.{totalCount};
 ghost use Rattle.tables.specs.Questions.{firstNo};
 ghost use Rattle.tables.specs.Answered.{answered};
 ghost use Rattle.words.specs.Inner.Words.{wordsOf, bitAt};
 ghost use Rattle.solution.specs.Condition.{underFact};
 ghost use Rattle.solution.specs.Order.{orderFits};
 ghost use Rattle.solution.specs.Inner.ByPoints.{zeroChoice};
-ghost use Rattle.calls.specs.Operations.{outcome};
+ghost use Rattle.calls.specs.Counted.{counted};
 ghost use Rattle.calls.specs.Solving.{solving, solvingCall, booleCall, particularCall, lowenheimCall, handedCall};
 ghost use Rattle.solver.specs.Inner.Methods.{tableQuestions, tableBy, solveBy, valueWords, booleWords, solveWords, verdict};
 ghost use Rattle.solver.specs.Inner.Handed.{handedTableQuestions, handedBy};
@@ -238,15 +239,12 @@ fn solve_with(
     words::copy(used, values);
     let verdict = solve_values(u, g, order, used, found);
     match verdict {
-        Verdict::Solved => {
-            write_by(method, u, g, values, found, used, answers);
-            Solving::Said(Verdict::Solved)
-        }
-        Verdict::None(state) => Solving::Said(Verdict::None(state)),
+        Verdict::Solved => Solving::Solved(write_by(method, u, g, values, found, used, answers)),
+        Verdict::None(state) => Solving::None(state),
     }
 }
 
-// The tables of a method's answers, from the values of Boole's.
+// The tables of a method's answers, from the values of Boole's, and the total of their monomials.
 fn write_by(
     method: Method,
     u: usize,
@@ -255,40 +253,44 @@ fn write_by(
     found: &mut [u64],
     own: &mut [u64],
     answers: &mut [u8],
-)
+) -> usize
     requires { ⌜ (u ≤ 6) × (u + g ≤ 10) × (length (now values) ≡ 2 ^ (u + g - 6)) × (length (now found) ≡ u * 2 ^ (u + g - 6))
         × (length (now own) ≡ 2 ^ (u + g - 6)) × (length (now answers) ≡ u * 2 ^ (u + g)) ⌝ }
-    ensures { λ _. ⌜ ((order fact t : List ℕ) → now (values .entry) ≡ valueWords (underFact u g order fact t)
+    ensures { λ r. ⌜ ((order fact t : List ℕ) → now (values .entry) ≡ valueWords (underFact u g order fact t)
         → now (found .entry) ≡ booleWords (underFact u g order fact t)
-        → now (answers .exit) ≡ tableBy method (underFact u g order fact t)) ⌝ }
+        → now (answers .exit) ≡ tableBy method (underFact u g order fact t))
+        × (r ≡ totalCount u (u + g) (held (u + g) (now (answers .exit)))) ⌝ }
 {
     match method {
         Method::Boole => write_tables(u, u + g, found, answers),
         Method::Particular => {
             put_zeros(u, found);
-            write_tables(u, u + g, found, answers);
+            write_tables(u, u + g, found, answers)
         }
         Method::Lowenheim => {
             put_zeros(u, found);
-            write_mixed(u, u + g, values, found, own, answers);
+            write_mixed(u, u + g, values, found, own, answers)
         }
     }
 }
 
-// The tables of the polynomials whose values stand in `found`.
-fn write_tables(u: usize, n: usize, found: &[u64], answers: &mut [u8])
+// The tables of the polynomials whose values stand in `found`, and the total of their monomials.
+fn write_tables(u: usize, n: usize, found: &[u64], answers: &mut [u8]) -> usize
     requires { ⌜ (u ≤ 6) × (n ≤ 10) × (length (now found) ≡ u * 2 ^ (n - 6)) × (length (now answers) ≡ u * 2 ^ n) ⌝ }
-    ensures { λ _. ⌜ now (answers .exit) ≡ answerTable u n (λ j. value n (partValue (2 ^ (n - 6)) (now (found .entry)) j)) ⌝ }
+    ensures { λ r. ⌜ (now (answers .exit) ≡ answerTable u n (λ j. value n (partValue (2 ^ (n - 6)) (now (found .entry)) j)))
+        × (r ≡ totalCount u n (held n (now (answers .exit)))) ⌝ }
 {
     let k = words::word_count(n);
     let size = tables::pow2(n);
+    let mut total = 0;
     for x in 0..u {
         let start = x * k;
         let end = start + k;
         let from = x * size;
         let to = from + size;
-        words::put_copy(n, &found[start..end], &mut answers[from..to]);
+        total += words::put_copy(n, &found[start..end], &mut answers[from..to]);
     }
+    total
 }
 
 // Every unknown at 0.
@@ -301,23 +303,33 @@ fn put_zeros(u: usize, words: &mut [u64])
     }
 }
 
-// Löwenheim's answers from the values of the condition and of the polynomials b.
-fn write_mixed(u: usize, n: usize, values: &[u64], b: &[u64], own: &mut [u64], answers: &mut [u8])
+// Löwenheim's answers from the values of the condition and of the polynomials b, and the total of their monomials.
+fn write_mixed(
+    u: usize,
+    n: usize,
+    values: &[u64],
+    b: &[u64],
+    own: &mut [u64],
+    answers: &mut [u8],
+) -> usize
     requires { ⌜ (u ≤ 6) × (n ≤ 10) × (length (now values) ≡ 2 ^ (n - 6)) × (length (now b) ≡ u * 2 ^ (n - 6))
         × (length (now own) ≡ 2 ^ (n - 6)) × (length (now answers) ≡ u * 2 ^ n) ⌝ }
-    ensures { λ _. ⌜ now (answers .exit)
-        ≡ answerTable u n (λ j. value n (mixedValue (bitAt (now (values .entry))) (partValue (2 ^ (n - 6)) (now (b .entry)) j) j)) ⌝ }
+    ensures { λ r. ⌜ (now (answers .exit)
+        ≡ answerTable u n (λ j. value n (mixedValue (bitAt (now (values .entry))) (partValue (2 ^ (n - 6)) (now (b .entry)) j) j)))
+        × (r ≡ totalCount u n (held n (now (answers .exit)))) ⌝ }
 {
     let k = words::word_count(n);
     let size = tables::pow2(n);
+    let mut total = 0;
     for x in 0..u {
         let start = x * k;
         let end = start + k;
         let from = x * size;
         let to = from + size;
         words::mix(values, x, &b[start..end], own);
-        words::put_table(n, own, &mut answers[from..to]);
+        total += words::put_table(n, own, &mut answers[from..to]);
     }
+    total
 }
 
 // Questions 1, 4 and 8 of handed polynomials: the first no, or 0.
@@ -354,13 +366,13 @@ pub fn lowenheim_handed(
     condition: &[u8],
     handed: &[u8],
     answers: &mut [u8],
-) -> Outcome
-    ensures { λ r. ⌜ answered (outcome r) (now (answers .exit) ∷ [])
+) -> Counted
+    ensures { λ r. ⌜ answered (counted r) (now (answers .exit) ∷ [])
         ≡ handedCall u g (now (fact .entry)) (now (condition .entry)) (now (handed .entry)) (now (answers .entry)) ⌝ }
 {
     let q = handed_refusal(u, g, fact, condition, handed, answers.len());
     if q != 0 {
-        return Outcome::Refused(q);
+        return Counted::Refused(q);
     }
     let k = tables::pow2(u + g);
     let all = u * k;
@@ -382,10 +394,10 @@ fn test_and_mix(
     condition: &[u8],
     handed: &[u8],
     answers: &mut [u8],
-) -> Outcome
+) -> Counted
     requires { ⌜ (u ≤ 6) × (u + g ≤ 10) × IsTable (u + g) (now fact) × IsTable (u + g) (now condition)
         × (length (now handed) ≡ u * 2 ^ (u + g)) × AreBits (now handed) × (length (now answers) ≡ u * 2 ^ (u + g)) ⌝ }
-    ensures { λ r. ⌜ answered (outcome r) (now (answers .exit) ∷ [])
+    ensures { λ r. ⌜ answered (counted r) (now (answers .exit) ∷ [])
         ≡ handedBy u g (now (fact .entry)) (now (condition .entry)) (now (handed .entry)) (now (answers .entry)) ⌝ }
 {
     let k = words::word_count(u + g);
@@ -417,24 +429,23 @@ fn test_and_mix_with(
     values: &mut [u64],
     own: &mut [u64],
     parts: &mut [u64],
-) -> Outcome
+) -> Counted
     requires { ⌜ (u ≤ 6) × (u + g ≤ 10) × IsTable (u + g) (now fact) × IsTable (u + g) (now condition)
         × (length (now handed) ≡ u * 2 ^ (u + g)) × AreBits (now handed) × (length (now answers) ≡ u * 2 ^ (u + g)) ⌝ }
     requires { ⌜ (length (now values) ≡ 2 ^ (u + g - 6)) × (length (now own) ≡ 2 ^ (u + g - 6))
         × (length (now parts) ≡ 6 * 2 ^ (u + g - 6)) ⌝ }
-    ensures { λ r. ⌜ answered (outcome r) (now (answers .exit) ∷ [])
+    ensures { λ r. ⌜ answered (counted r) (now (answers .exit) ∷ [])
         ≡ handedBy u g (now (fact .entry)) (now (condition .entry)) (now (handed .entry)) (now (answers .entry)) ⌝ }
 {
     let q = facts::take_where_zero(u, g, fact, condition, values, own);
     if q != 0 {
-        return Outcome::Refused(q);
+        return Counted::Refused(q);
     }
     words::copy(own, values);
     polynomials::put_handed(u, u + g, handed, own, parts);
     if words::first_one(own) < tables::pow2(u + g) {
-        return Outcome::Refused(tables::number(Question::Handed));
+        return Counted::Refused(tables::number(Question::Handed));
     }
     let all = u * words::word_count(u + g);
-    write_mixed(u, u + g, values, &parts[..all], own, answers);
-    Outcome::Done
+    Counted::Monomials(write_mixed(u, u + g, values, &parts[..all], own, answers))
 }

@@ -116,6 +116,13 @@ pub call-done : (questions : List Asked) (values answer lent front : List ℕ) (
 unfolding call after
 call-done questions values answer lent front k z ef ek = rw (reply-accepted questions values z, z, ef, ek)
 
+-- the same with the values as the code comes to them
+pub call-done-giving : (questions : List Asked) (given values answer lent front : List ℕ) (k : ℕ) → given ≡ values → firstNo questions ≡ 0
+    → front ≡ answer → k ≡ length answer
+    → answered (accepted given) ((front ++ drop k lent) ∷ []) ≡ call questions values (answer into lent ∷ [])
+call-done-giving questions given values answer lent front k eg z ef ek =
+    ap (λ (v : List ℕ). answered (accepted v) ((front ++ drop k lent) ∷ [])) eg ∙ call-done questions values answer lent front k z ef ek
+
 -- the same of a buffer that is filled to its end
 pub call-whole : (questions : List Asked) (values answer lent front : List ℕ) → firstNo questions ≡ 0 → front ≡ answer
     → length lent ≡ length answer → answered (accepted values) (front ∷ []) ≡ call questions values (answer into lent ∷ [])

@@ -6,9 +6,9 @@ use native.Mathlib.Omega.{arith}
 use borrow.Author.Needs.{needs}
 use lib.ListN.{length}
 use lib.Seq.{length-take-le}
-use Rattle.tables.proofs.Answered.{call-refused, call-done}
+use Rattle.tables.proofs.Answered.{call-refused, call-done-giving}
 use Rattle.calls.proofs.Buffers.{readable-table}
-use Rattle.operations.proofs.Calls.{PairYes, pair-yes, pair-plain, product-whole, length-product}
+use Rattle.operations.proofs.Calls.{PairYes, pair-yes, pair-plain, counted-whole, product-whole, length-product}
 use Rattle.operations.proofs.product.Statement.{statement}
 use Rattle.operations.proofs.product.Tie as tie
 
@@ -33,8 +33,9 @@ returns-2 c =
     let worked = c .before .before in
     let known = worked .before .before .before .before in
     let asked = known .before .before in
-    call-done _ _ _ _ _ _ (sym (asked .pair-refusal .ensures) ∙ known .before .if1 .left)
-    (worked .multiply .ensures ∙ product-whole _ _ _ _ _ (known .pow2 .ensures)) (length-product _ _ _ _ _ (known .pow2 .ensures))
+    let made = worked .multiply .ensures .0 ∙ product-whole _ _ _ _ _ (known .pow2 .ensures) in
+    call-done-giving _ _ _ _ _ _ _ (counted-whole _ _ _ _ made (worked .multiply .ensures .1))
+    (sym (asked .pair-refusal .ensures) ∙ known .before .if1 .left) made (length-product _ _ _ _ _ (known .pow2 .ensures))
 
 pub product-spec : {M : Type 1} → statement M
 product-spec =

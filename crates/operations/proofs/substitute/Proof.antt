@@ -6,9 +6,9 @@ use native.Mathlib.Omega.{arith}
 use borrow.Author.Needs.{needs}
 use lib.ListN.{length}
 use lib.Seq.{length-take-le}
-use Rattle.tables.proofs.Answered.{call-refused, call-done}
+use Rattle.tables.proofs.Answered.{call-refused, call-done-giving}
 use Rattle.calls.proofs.Buffers.{readable-table}
-use Rattle.operations.proofs.Calls.{PairYes, substitute-yes, substitute-plain, substitute-whole, length-substitute}
+use Rattle.operations.proofs.Calls.{PairYes, substitute-yes, substitute-plain, counted-whole, substitute-whole, length-substitute}
 use Rattle.operations.proofs.substitute.Statement.{statement}
 use Rattle.operations.proofs.substitute.Tie as tie
 
@@ -45,8 +45,9 @@ returns-2 c =
     let worked = c .before .before in
     let known = worked .before .before .before .before in
     let asked = known .before .before in
-    call-done _ _ _ _ _ _ (sym (asked .substitute-refusal .ensures) ∙ known .before .if1 .left)
-    (worked .substitute .ensures ∙ substitute-whole _ _ _ _ _ (known .pow2 .ensures)) (length-substitute _ _ _ _ _ (known .pow2 .ensures))
+    let made = worked .substitute .ensures .0 ∙ substitute-whole _ _ _ _ _ (known .pow2 .ensures) in
+    call-done-giving _ _ _ _ _ _ _ (counted-whole _ _ _ _ made (worked .substitute .ensures .1))
+    (sym (asked .substitute-refusal .ensures) ∙ known .before .if1 .left) made (length-substitute _ _ _ _ _ (known .pow2 .ensures))
 
 pub substitute-spec : {M : Type 1} → statement M
 substitute-spec =

@@ -6,9 +6,9 @@ use native.Mathlib.Omega.{arith}
 use borrow.Author.Needs.{needs}
 use lib.ListN.{length}
 use lib.Seq.{length-take-le}
-use Rattle.tables.proofs.Answered.{call-refused, call-done}
+use Rattle.tables.proofs.Answered.{call-refused, call-done-giving}
 use Rattle.calls.proofs.Buffers.{readable-table}
-use Rattle.operations.proofs.Calls.{PairYes, pair-yes, pair-plain, sum-whole, length-sum}
+use Rattle.operations.proofs.Calls.{PairYes, pair-yes, pair-plain, counted-whole, sum-whole, length-sum}
 use Rattle.operations.proofs.sum.Statement.{statement}
 use Rattle.operations.proofs.sum.Tie as tie
 
@@ -26,15 +26,16 @@ add-requires c κs =
     let known = c .before .before .before in
     let f = all-yes (known .before) in
     let e = known .pow2 .ensures in
-    (readable-table _ _ _ e (f .first), readable-table _ _ _ e (f .second), length-take-le _ _ (omega (arith, e, f .room)) ∙ e)
+    (f .small, readable-table _ _ _ e (f .first), readable-table _ _ _ e (f .second), length-take-le _ _ (omega (arith, e, f .room)) ∙ e)
 
 returns-2 : tie.Need-returns-2
 returns-2 c =
     let worked = c .before .before in
     let known = worked .before .before .before .before in
     let asked = known .before .before in
-    call-done _ _ _ _ _ _ (sym (asked .pair-refusal .ensures) ∙ known .before .if1 .left)
-    (worked .add .ensures ∙ sum-whole _ _ _ _ _ (known .pow2 .ensures)) (length-sum _ _ _ _ _ (known .pow2 .ensures))
+    let made = worked .add .ensures .0 ∙ sum-whole _ _ _ _ _ (known .pow2 .ensures) in
+    call-done-giving _ _ _ _ _ _ _ (counted-whole _ _ _ _ made (worked .add .ensures .1))
+    (sym (asked .pair-refusal .ensures) ∙ known .before .if1 .left) made (length-sum _ _ _ _ _ (known .pow2 .ensures))
 
 pub sum-spec : {M : Type 1} → statement M
 sum-spec =

@@ -29,7 +29,8 @@ returns-2 c =
     let copied = solving .before .before .before .before .before in
     solved-by _ _ (start copied .args .answers .now) (taking copied .take-where-zero .ensures .0) (passed copied .if1 .left) _ _
     (copied .copy .ensures) (taking copied .take-where-zero .ensures .1 (passed copied .if1 .left)) (solving .solve-values .ensures _ _)
-    (case .enum-told .given .1) (written .write-by .ensures _ _ _) (start copied .pre .0 .5)
+    (case .enum-told .given .1) (written .write-by .ensures .0 _ _ _) (written .write-by .ensures .1)
+    (start copied .pre .0 .5)
 
 returns-3 : tie.Need-returns-3
 returns-3 c =

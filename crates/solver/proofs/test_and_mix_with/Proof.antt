@@ -104,7 +104,8 @@ returns-3 c =
     (taking copied .take-where-zero .ensures .0) (passed copied .if1 .left) _ _ _ _ _
     (taking copied .take-where-zero .ensures .1 (passed copied .if1 .left)) (copied .copy .ensures) (put .put-handed .ensures .1)
     (tested .before .first-one .ensures) (tested .pow2 .ensures) (put .put-handed .ensures .0) _ _ _ (begun .pre .0 .0)
-    (counted .before .if2 .left) (counted .word-count .ensures) (put .put-handed .ensures .2) (written .write-mixed .ensures) (begun .pre .0 .6)
+    (counted .before .if2 .left) (counted .word-count .ensures) (put .put-handed .ensures .2) (written .write-mixed .ensures .0) _
+    (written .write-mixed .ensures .1) (begun .pre .0 .6)
 
 pub test-and-mix-with-spec : {M : Type 1} → statement M
 test-and-mix-with-spec =

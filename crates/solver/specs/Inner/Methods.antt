@@ -6,7 +6,7 @@ use Prim.Native.Nat.{ℕ, _-_, _^_}
 use Rattle.ring.specs.Polynomial.{value}
 use Rattle.tables.specs.declared.Question.the-variants.{Letters, Order}
 use Rattle.tables.specs.Questions.{Asked, asks, lettersFit, bufferQuestions}
-use Rattle.tables.specs.Answered.{Reply, Answered, call, _into_}
+use Rattle.tables.specs.Answered.{Reply, Answered}
 use Rattle.words.specs.Inner.Words.{wordsOf, answerWords}
 use Rattle.solution.specs.Condition.{Condition, width, polynomial}
 use Rattle.solution.specs.Order.{orderFits}
@@ -15,6 +15,7 @@ use Rattle.solution.specs.Elimination.{solved, none, Verdict as Said}
 use Rattle.calls.specs.declared.Verdict.{Verdict}
 use Rattle.calls.specs.declared.Verdict.the-variants.{Solved, None}
 use Rattle.calls.specs.Questions.{factQuestions, asksSolution, solvingBuffers}
+use Rattle.calls.specs.Counted.{answersCall}
 use Rattle.solver.specs.declared.Method.{Method}
 use Rattle.solver.specs.declared.Method.the-variants.{Boole, Particular, Lowenheim}
 
@@ -32,7 +33,7 @@ tableBy Lowenheim = lowenheimTable
 -- questions 22, 23 and 9 and, if all are answered yes, the answer table of a method in the lent buffer
 unfoldable pub solveBy : Method → Condition → List ℕ → Answered Reply
 solveBy method c lent =
-    call (factQuestions (c .U) (c .G) (c .fact) ++ (asksSolution c ∷ [])) [] (tableBy method c into lent ∷ [])
+    answersCall (c .U) (width c) (factQuestions (c .U) (c .G) (c .fact) ++ (asksSolution c ∷ [])) (tableBy method c) lent
 
 -- ---- on words: 2 ^ (n - 6) of them to a polynomial in n letters
 -- the values of the condition
