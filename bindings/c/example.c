@@ -10,6 +10,7 @@
  * read back, 1 if a call refuses, 2 if the arguments are not three numbers, a text, at most six letters and a text.
  */
 #include "layodegi.h"
+#include "polynomials.h"
 
 #include <errno.h>
 #include <stdio.h>
@@ -100,45 +101,6 @@ static uint64_t write_and_read_back(const struct route_condition *asked, struct 
                                entry->condition, sizeof entry->condition, entry->answers, sizeof entry->answers);
 }
 
-static unsigned count_letters(size_t mask)
-{
-    unsigned count = 0;
-    for (; mask != 0; mask >>= 1)
-        count += (unsigned)(mask & 1);
-    return count;
-}
-
-/* A monomial: 1, or its letters with * between. */
-static void print_monomial(size_t mask, size_t unknowns)
-{
-    const char *between = "";
-    if (mask == 0)
-        fputs("1", stdout);
-    for (size_t bit = 0; mask >> bit != 0; bit++) {
-        if ((mask >> bit & 1) == 0)
-            continue;
-        printf("%s%c", between, bit < unknowns ? "uvwxyz"[bit] : "abcdefgh"[bit - unknowns]);
-        between = "*";
-    }
-}
-
-/* A polynomial in the written order: fewer letters first, then the smaller mask. */
-static void print_polynomial(const uint8_t *table, size_t unknowns, size_t givens)
-{
-    const char *between = "";
-    size_t length = layodegi_table_length(unknowns, givens);
-    for (unsigned letters = 0; letters <= unknowns + givens; letters++) {
-        for (size_t mask = 0; mask < length; mask++) {
-            if (table[mask] != 1 || count_letters(mask) != letters)
-                continue;
-            fputs(between, stdout);
-            print_monomial(mask, unknowns);
-            between = " + ";
-        }
-    }
-    puts(*between == '\0' ? "0" : "");
-}
-
 /* A state, as a number and as the values of the givens. */
 static void print_state(unsigned state, size_t givens)
 {
@@ -178,10 +140,7 @@ static void print_entry(const struct entry *entry)
         print_state(layodegi_entry_state(entry->code), givens);
         return;
     }
-    for (size_t unknown = 0; unknown < unknowns; unknown++) {
-        printf("%c = ", "uvwxyz"[unknown]);
-        print_polynomial(entry->answers + unknown * layodegi_table_length(unknowns, givens), unknowns, givens);
-    }
+    print_answers(entry->answers, unknowns, givens);
 }
 
 int main(int count, char **words)

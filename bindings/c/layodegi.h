@@ -28,7 +28,7 @@
  *   (layodegi_session_start alone writes its block even then). So every number and every byte may be passed: the
  *   function tests them itself.
  * - It returns a code of 64 bits: in the low byte the number of the first no, 0 if there is none; above it what
- *   the comment names, else 0. The inline functions below take a code apart.
+ *   the comment names, else 0. The inline functions below take a code apart; a code that is not 0 need not be a no.
  * - The caller owes this much: each pointer is not null, even where the length is 0, and points to that many bytes
  *   (an order to six, a session to LAYODEGI_SESSION); a buffer that is written overlaps no other buffer of the call;
  *   and nothing else changes them meanwhile.
@@ -114,21 +114,29 @@ uint64_t layodegi_value(size_t u, size_t g, const uint8_t *table, size_t table_l
 
 /*
  * The sum of two tables. Questions 1, 4, 8.
- * a and b: 2^n bytes each; out, written: 2^n bytes.
+ * a and b: 2^n bytes each; out, written: 2^n bytes. The code holds the number of monomials present in the sum
+ * (layodegi_code_number).
  */
 uint64_t layodegi_sum(size_t u, size_t g, const uint8_t *a, size_t a_length,
                       const uint8_t *b, size_t b_length, uint8_t *out, size_t out_length);
 
 /*
  * The product of two tables. Questions 1, 4, 8.
- * a and b: 2^n bytes each; out, written: 2^n bytes.
+ * a and b: 2^n bytes each; out, written: 2^n bytes. The code holds the number of monomials present in the product
+ * (layodegi_code_number).
+ *
+ *     uint8_t u_plus_v[4] = {0, 1, 1, 0}, u[4] = {0, 1, 0, 0}, out[4];
+ *     uint64_t code = layodegi_product(2, 0, u_plus_v, 4, u, 4, out, 4);  // (u + v)*u = u + u*v
+ *     layodegi_code_question(code);                                       // LAYODEGI_YES
+ *     layodegi_code_number(code);                                         // 2 monomials
  */
 uint64_t layodegi_product(size_t u, size_t g, const uint8_t *a, size_t a_length,
                           const uint8_t *b, size_t b_length, uint8_t *out, size_t out_length);
 
 /*
  * A condition with the handed polynomials put for its unknowns, all at once. Questions 1, 4, 8.
- * condition: 2^n bytes; handed: U * 2^n bytes; out, written: 2^n bytes.
+ * condition: 2^n bytes; handed: U * 2^n bytes; out, written: 2^n bytes. The code holds the number of monomials present
+ * in what comes out (layodegi_code_number).
  */
 uint64_t layodegi_substitute(size_t u, size_t g, const uint8_t *condition, size_t condition_length,
                              const uint8_t *handed, size_t handed_length, uint8_t *out, size_t out_length);
@@ -152,16 +160,16 @@ uint64_t layodegi_derivative(size_t u, size_t g, const uint8_t *table, size_t ta
 /*
  * Boole's answers: the general solution in the states where a fact is 0, each unknown itself being the parameter, the
  * unknowns eliminated in an order. Questions 1, 17, 4, 8, 22, 23, 9.
- * order: six bytes; fact and condition: 2^n bytes each; answers, written: U * 2^n bytes. With a no to 9 the code holds
- * the smallest of the states with g = 0 in which every choice gives the condition the value 1 (layodegi_code_number);
- * it is the same in any order.
+ * order: six bytes; fact and condition: 2^n bytes each; answers, written: U * 2^n bytes. The code holds the number of
+ * monomials present in the answers, all unknowns together; with a no to 9 the smallest of the states with g = 0 in
+ * which every choice gives the condition the value 1, the same in any order (layodegi_code_number).
  *
  *     uint8_t order[6], condition[8], fact[8], answers[8];
  *     layodegi_default_order(1, order);
  *     layodegi_read_text(1, 2, (const uint8_t *)"a*u+b*u+b", 9, condition, 8);
  *     layodegi_boole(1, 2, order, LAYODEGI_NO_FACT, 8, condition, 8, answers, 8);  // a no to 9, state 3
  *     layodegi_read_text(1, 2, (const uint8_t *)"a*b", 3, fact, 8);                // a and b exclude each other
- *     layodegi_boole(1, 2, order, fact, 8, condition, 8, answers, 8);              // u = b + u + a*b + a*u + b*u
+ *     layodegi_boole(1, 2, order, fact, 8, condition, 8, answers, 8);              // u = b + u + a*b + a*u + b*u: 5
  */
 uint64_t layodegi_boole(size_t u, size_t g, const uint8_t order[6],
                         const uint8_t *fact, size_t fact_length,
@@ -189,7 +197,8 @@ uint64_t layodegi_lowenheim(size_t u, size_t g, const uint8_t order[6],
 /*
  * Loewenheim's formula on handed polynomials that make the condition zero wherever the fact is 0; it needs no order.
  * Questions 1, 4, 8, 22, 23, 21.
- * fact and condition: 2^n bytes each; handed: U * 2^n bytes; answers, written: U * 2^n bytes.
+ * fact and condition: 2^n bytes each; handed: U * 2^n bytes; answers, written: U * 2^n bytes. The code holds the number
+ * of monomials present in the answers, all unknowns together (layodegi_code_number).
  *
  * Question 21 puts the handed polynomials for the unknowns of f*(1 + g), all at once, as layodegi_substitute does: what
  * comes out must be the empty table. They may mention givens, and unknowns too. Where U is 0 nothing is handed, and
@@ -198,15 +207,42 @@ uint64_t layodegi_lowenheim(size_t u, size_t g, const uint8_t order[6],
  *
  *     uint8_t condition[4] = {0, 1, 1, 0}, answers[4];  // u + a
  *     uint8_t a[4] = {0, 0, 1, 0}, zero[4] = {0};
- *     layodegi_lowenheim_handed(1, 1, zero, 4, condition, 4, a, 4, answers, 4);     // 0: u = a
+ *     layodegi_lowenheim_handed(1, 1, zero, 4, condition, 4, a, 4, answers, 4);     // u = a: 1 monomial
  *     layodegi_lowenheim_handed(1, 1, zero, 4, condition, 4, zero, 4, answers, 4);  // LAYODEGI_HANDED: where a is 1
- *     layodegi_lowenheim_handed(1, 1, a, 4, condition, 4, zero, 4, answers, 4);     // 0: u = u*a, under the fact a
+ *     layodegi_lowenheim_handed(1, 1, a, 4, condition, 4, zero, 4, answers, 4);     // u = u*a, under the fact a: 1
  */
 uint64_t layodegi_lowenheim_handed(size_t u, size_t g,
                                    const uint8_t *fact, size_t fact_length,
                                    const uint8_t *condition, size_t condition_length,
                                    const uint8_t *handed, size_t handed_length,
                                    uint8_t *answers, size_t answers_length);
+
+/*
+ * The shorter of Boole's and Loewenheim's answer tables: the one with fewer monomials present, all unknowns together;
+ * Boole's if the totals tie. Questions 1, 4, 8.
+ * boole and lowenheim: U * 2^n bytes each.
+ *
+ * layodegi_which_shorter says which it is: the code holds 0 for Boole's, 1 for Loewenheim's (layodegi_code_number).
+ * layodegi_shorter, an inline function below, hands back the lent table itself: the pointer that it was passed for it,
+ * and the length U * 2^n. Where a question is answered no the length is 0, and the pointer that of Boole's table.
+ * layodegi_shorter_refusal, on the same buffers, gives the number of the first no, or 0; so it tells a refusal from the
+ * answer tables of U = 0, which have no bytes.
+ *
+ *     uint8_t order[6], condition[4], boole[8], lowenheim[8];
+ *     layodegi_default_order(2, order);
+ *     layodegi_read_text(2, 0, (const uint8_t *)"v*!u", 4, condition, 4);
+ *     layodegi_boole(2, 0, order, LAYODEGI_NO_FACT, 4, condition, 4, boole, 8);          // u = u + v + u*v, v = v: 4
+ *     layodegi_lowenheim(2, 0, order, LAYODEGI_NO_FACT, 4, condition, 4, lowenheim, 8);  // u = u, v = u*v: 2
+ *     size_t length;
+ *     const uint8_t *shorter = layodegi_shorter(2, 0, boole, 8, lowenheim, 8, &length);  // lowenheim, 8 bytes
+ *     shorter = layodegi_shorter(2, 0, boole, 8, lowenheim, 7, &length);                 // no bytes
+ *     layodegi_shorter_refusal(2, 0, boole, 8, lowenheim, 7);                            // LAYODEGI_ROOM
+ */
+uint64_t layodegi_which_shorter(size_t u, size_t g, const uint8_t *boole, size_t boole_length,
+                                const uint8_t *lowenheim, size_t lowenheim_length);
+
+uint64_t layodegi_shorter_refusal(size_t u, size_t g, const uint8_t *boole, size_t boole_length,
+                                  const uint8_t *lowenheim, size_t lowenheim_length);
 
 /*
  * Writes the entry of a condition under a fact, with Boole's answers in an order or 'none'. Questions 1, 2, 17, 4, 8,
@@ -318,10 +354,21 @@ static inline unsigned layodegi_code_question(uint64_t code)
     return (unsigned)(code & 0xff);
 }
 
-/* Of the code of layodegi_value, _boole, _particular, _lowenheim, _write_entry, _walk: what it holds. */
+/* Of the code of layodegi_value, _sum, _product, _substitute, _boole, _particular, _lowenheim, _lowenheim_handed,
+   _which_shorter, _write_entry, _walk: what it holds. */
 static inline uint32_t layodegi_code_number(uint64_t code)
 {
     return (uint32_t)(code >> 8 & 0xffffffff);
+}
+
+/* The shorter of two lent answer tables, as it is lent, and its length: see layodegi_which_shorter. */
+static inline const uint8_t *layodegi_shorter(size_t u, size_t g, const uint8_t *boole, size_t boole_length,
+                                              const uint8_t *lowenheim, size_t lowenheim_length, size_t *length)
+{
+    uint64_t code = layodegi_which_shorter(u, g, boole, boole_length, lowenheim, lowenheim_length);
+    int is_refused = layodegi_code_question(code) != LAYODEGI_YES;
+    *length = is_refused ? 0 : layodegi_answers_length(u, g);
+    return is_refused || layodegi_code_number(code) == 0 ? boole : lowenheim;
 }
 
 /* Of the code of layodegi_read_entry or layodegi_audit, where there is no no: what the entry says. */

@@ -23,6 +23,9 @@ static void check(const char *what, int holds)
 
 #define CHECK(what) check(#what, what)
 
+/* The code of a call that is done and holds a number of monomials. */
+#define MONOMIALS(number) ((uint64_t)(number) << 8)
+
 /* The bytes are those expected, then one byte that was not written. */
 static int holds(const uint8_t *bytes, const void *expected, size_t length)
 {
@@ -50,15 +53,46 @@ static void check_tables(void)
     CHECK(layodegi_code_number(layodegi_value(1, 1, A, 4, 1, 0)) == 1);
     CHECK(layodegi_code_number(layodegi_value(1, 1, A, 4, 0, 1)) == 0);
     CHECK(layodegi_code_question(layodegi_value(1, 1, A, 4, 2, 0)) == LAYODEGI_RANGE);
-    CHECK(layodegi_sum(2, 0, U_PLUS_V, 4, U_TIMES_V, 4, out, 4) == 0);
+    CHECK(layodegi_sum(2, 0, U_PLUS_V, 4, U_TIMES_V, 4, out, 4) == MONOMIALS(3));
     CHECK(holds(out, "\0\1\1\1", 4));
-    CHECK(layodegi_product(2, 0, U_PLUS_V, 4, U_TIMES_V, 4, out, 4) == 0);
+    CHECK(layodegi_product(2, 0, U_PLUS_V, 4, U_TIMES_V, 4, out, 4) == MONOMIALS(0));
     CHECK(holds(out, "\0\0\0\0", 4));
-    CHECK(layodegi_substitute(2, 0, U_TIMES_V, 4, SAME, 8, out, 4) == 0);
+    CHECK(layodegi_substitute(2, 0, U_TIMES_V, 4, SAME, 8, out, 4) == MONOMIALS(1));
     CHECK(holds(out, "\0\0\1\0", 4));
     CHECK(layodegi_sum(6, 5, U_PLUS_V, 4, U_TIMES_V, 4, out, 4) == LAYODEGI_LETTERS);
     CHECK(layodegi_sum(2, 0, U_PLUS_V, 4, U_TIMES_V, 4, out, 3) == LAYODEGI_ROOM);
+    CHECK(layodegi_product(2, 0, U_PLUS_V, 3, U_TIMES_V, 4, out, 4) == LAYODEGI_ROOM);
+    CHECK(layodegi_substitute(2, 0, U_TIMES_V, 4, SAME, 7, out, 4) == LAYODEGI_ROOM);
     CHECK(holds(out, "\0\0\1\0", 4));
+}
+
+/* Numbers of monomials: none, more than a byte holds, and of no byte behind a table. */
+static void check_counts(void)
+{
+    static const uint8_t LONGER[6] = {0, 1, 1, 0, 1, 1}; /* u + v, and two bytes behind it */
+    static const uint8_t U[4] = {0, 1};
+    static uint8_t full[LAYODEGI_LONGEST_TABLE], one[LAYODEGI_LONGEST_TABLE] = {1}, out[LAYODEGI_LONGEST_TABLE];
+    static uint8_t full_each[LAYODEGI_LONGEST_ANSWERS], one_each[LAYODEGI_LONGEST_ANSWERS];
+    static uint8_t answers[LAYODEGI_LONGEST_ANSWERS];
+    memset(full, 1, sizeof full);
+    memset(out, 1, sizeof out);
+    memset(full_each, 1, sizeof full_each);
+    for (size_t unknown = 0; unknown < 6; unknown++)
+        one_each[unknown * 1024] = 1;
+    CHECK(layodegi_sum(2, 0, LONGER, 6, LONGER, 6, out, 6) == MONOMIALS(0));
+    CHECK(layodegi_sum(2, 0, LONGER, 6, EMPTY, 4, out, 6) == MONOMIALS(2));
+    CHECK(layodegi_product(2, 0, LONGER, 6, U, 4, out, 6) == MONOMIALS(2)); /* the header's example */
+    CHECK(layodegi_substitute(2, 0, LONGER, 6, SAME, 8, out, 6) == MONOMIALS(0));
+    CHECK(layodegi_sum(0, 0, one, 1, one + 1, 1, out, 1) == MONOMIALS(1));
+    CHECK(layodegi_sum(6, 4, full, 1024, one, 1024, out, 1024) == MONOMIALS(1023));
+    CHECK(layodegi_product(6, 4, full, 1024, one, 1024, out, 1024) == MONOMIALS(1024));
+    /* 1 where the givens are 0 and the unknowns are not */
+    CHECK(layodegi_substitute(6, 4, full, 1024, full_each, 6144, out, 1024) == MONOMIALS(16 * 63));
+    /* the condition 0: each unknown is itself, whatever is handed */
+    const uint8_t *zero = LAYODEGI_NO_FACT;
+    CHECK(layodegi_lowenheim_handed(6, 4, zero, 1024, zero, 1024, full_each, 6144, answers, 6144) == MONOMIALS(6));
+    /* each unknown is itself but where all letters are 0: every monomial but that of the unknown alone */
+    CHECK(layodegi_lowenheim_handed(6, 4, zero, 1024, full, 1024, one_each, 6144, answers, 6144) == MONOMIALS(6138));
 }
 
 static void check_derivatives(void)
@@ -109,13 +143,13 @@ static void check_solving(void)
 {
     uint8_t answers[9];
     memset(answers, OLD, sizeof answers);
-    CHECK(layodegi_boole(2, 0, V_FIRST, EMPTY, 4, U_PLUS_V, 4, answers, 8) == 0);
+    CHECK(layodegi_boole(2, 0, V_FIRST, EMPTY, 4, U_PLUS_V, 4, answers, 8) == MONOMIALS(2));
     CHECK(holds(answers, "\0\1\0\0\0\1\0\0", 8)); /* u = u, v = u */
-    CHECK(layodegi_boole(2, 0, U_FIRST, EMPTY, 4, U_PLUS_V, 4, answers, 8) == 0);
+    CHECK(layodegi_boole(2, 0, U_FIRST, EMPTY, 4, U_PLUS_V, 4, answers, 8) == MONOMIALS(2));
     CHECK(holds(answers, SAME, 8));
-    CHECK(layodegi_particular(2, 0, U_FIRST, EMPTY, 4, U_PLUS_V, 4, answers, 8) == 0);
+    CHECK(layodegi_particular(2, 0, U_FIRST, EMPTY, 4, U_PLUS_V, 4, answers, 8) == MONOMIALS(0));
     CHECK(holds(answers, "\0\0\0\0\0\0\0\0", 8));
-    CHECK(layodegi_lowenheim(2, 0, V_FIRST, EMPTY, 4, U_PLUS_V, 4, answers, 8) == 0);
+    CHECK(layodegi_lowenheim(2, 0, V_FIRST, EMPTY, 4, U_PLUS_V, 4, answers, 8) == MONOMIALS(2));
     CHECK(holds(answers, "\0\0\0\1\0\0\0\1", 8));
     CHECK(layodegi_boole(2, 0, V_TWICE, EMPTY, 4, U_PLUS_V, 4, answers, 8) == LAYODEGI_ORDER);
     CHECK(layodegi_particular(2, 0, U_ALONE, EMPTY, 4, U_PLUS_V, 3, answers, 8) == LAYODEGI_ORDER);
@@ -136,12 +170,12 @@ static void check_handed(void)
     static const uint8_t NO_BITS[4] = {0, 1, 1, 2};
     uint8_t answers[9];
     memset(answers, OLD, sizeof answers);
-    CHECK(layodegi_lowenheim_handed(1, 1, EMPTY, 4, U_PLUS_A, 5, A, 4, answers, 9) == 0);
+    CHECK(layodegi_lowenheim_handed(1, 1, EMPTY, 4, U_PLUS_A, 5, A, 4, answers, 9) == MONOMIALS(1));
     CHECK(holds(answers, A, 4));
     /* u + (u + v)*(u + v) = v, v + (u + v)*(v + v) = v */
-    CHECK(layodegi_lowenheim_handed(2, 0, EMPTY, 4, U_PLUS_V, 4, SAME, 8, answers, 8) == 0);
+    CHECK(layodegi_lowenheim_handed(2, 0, EMPTY, 4, U_PLUS_V, 4, SAME, 8, answers, 8) == MONOMIALS(2));
     CHECK(holds(answers, SAME, 8));
-    CHECK(layodegi_lowenheim_handed(2, 0, EMPTY, 4, U_PLUS_V, 4, ONES, 8, answers, 8) == 0);
+    CHECK(layodegi_lowenheim_handed(2, 0, EMPTY, 4, U_PLUS_V, 4, ONES, 8, answers, 8) == MONOMIALS(6));
     CHECK(holds(answers, "\0\1\1\1\0\1\1\1", 8)); /* u or v, for both */
 
     /* 1, 4, 8, 21 without a fact */
@@ -162,10 +196,95 @@ static void check_handed(void)
     CHECK(holds(answers, "\0\1\1\1\0\1\1\1", 8));
 
     /* nothing to hand: is the condition itself zero? */
-    CHECK(layodegi_lowenheim_handed(0, 1, EMPTY, 4, A, 2, A, 0, answers, 0) == 0);
+    CHECK(layodegi_lowenheim_handed(0, 1, EMPTY, 4, A, 2, A, 0, answers, 0) == MONOMIALS(0));
     CHECK(layodegi_lowenheim_handed(0, 1, EMPTY, 4, A + 1, 2, A, 0, answers, 0) == LAYODEGI_HANDED);
     CHECK(holds(answers, "\0\1\1\1\0\1\1\1", 8));
     CHECK(strcmp(layodegi_question_words(21), "Does the handed substitution make the condition zero?") == 0);
+}
+
+/* The three calls on answer tables hand back one of them: the very pointer, and U * 2^n bytes. */
+static int hands_back(const uint8_t *expected, size_t u, size_t g, const uint8_t *boole, size_t boole_length,
+                      const uint8_t *lowenheim, size_t lowenheim_length)
+{
+    size_t length = SIZE_MAX;
+    uint64_t which = expected == boole ? 0 : 1;
+    return layodegi_shorter(u, g, boole, boole_length, lowenheim, lowenheim_length, &length) == expected
+           && length == layodegi_answers_length(u, g)
+           && layodegi_which_shorter(u, g, boole, boole_length, lowenheim, lowenheim_length) == which << 8
+           && layodegi_shorter_refusal(u, g, boole, boole_length, lowenheim, lowenheim_length) == LAYODEGI_YES;
+}
+
+/* The three calls refuse: no bytes of Boole's table. */
+static int refuse(unsigned question, size_t u, size_t g, const uint8_t *boole, size_t boole_length,
+                  const uint8_t *lowenheim, size_t lowenheim_length)
+{
+    size_t length = SIZE_MAX;
+    return layodegi_shorter(u, g, boole, boole_length, lowenheim, lowenheim_length, &length) == boole && length == 0
+           && layodegi_which_shorter(u, g, boole, boole_length, lowenheim, lowenheim_length) == question
+           && layodegi_shorter_refusal(u, g, boole, boole_length, lowenheim, lowenheim_length) == question;
+}
+
+static void check_shorter(void)
+{
+    /* over u and v, each with a byte behind it */
+    static const uint8_t FOUR[9] = {0, 1, 1, 1, 0, 0, 1, 0, 9}; /* u = u + v + u*v, v = v */
+    static const uint8_t TWO[9] = {0, 1, 0, 0, 0, 0, 0, 1, 1};  /* u = u, v = u*v */
+    static const uint8_t ALSO_TWO[8] = {1, 0, 0, 1};
+    static const uint8_t LAST[8] = {0, 0, 0, 0, 0, 0, 0, 2}, FIRST[8] = {255};
+    static uint8_t full[LAYODEGI_LONGEST_ANSWERS], nearly[LAYODEGI_LONGEST_ANSWERS];
+    uint8_t order[6], condition[4], boole[9], lowenheim[9];
+    CHECK(hands_back(TWO, 2, 0, FOUR, 8, TWO, 8));
+    CHECK(hands_back(TWO, 2, 0, TWO, 8, FOUR, 8));
+    CHECK(hands_back(EMPTY, 1, 1, TWO, 4, EMPTY, 4));
+    CHECK(hands_back(A, 1, 1, A, 4, TWO, 4)); /* one monomial each */
+    /* Boole's if the totals tie, by its place and not by its bytes */
+    CHECK(hands_back(TWO, 2, 0, TWO, 8, ALSO_TWO, 8));
+    CHECK(hands_back(ALSO_TWO, 2, 0, ALSO_TWO, 8, TWO, 8));
+    CHECK(hands_back(FOUR, 2, 0, FOUR, 8, FOUR, 8));
+    CHECK(hands_back(LAYODEGI_NO_FACT, 2, 0, LAYODEGI_NO_FACT, 8, LAYODEGI_NO_FACT + 8, 8));
+    /* totals that a byte does not hold */
+    memset(full, 1, sizeof full);
+    memset(nearly, 1, sizeof nearly - 1);
+    CHECK(hands_back(nearly, 6, 4, full, 6144, nearly, 6144));
+    CHECK(hands_back(nearly, 6, 4, nearly, 6144, full, 6144));
+    memset(nearly, 0, sizeof nearly - 256);
+    memset(full, 0, sizeof full - 256);
+    CHECK(hands_back(nearly, 6, 4, full, 6144, nearly, 6144)); /* 255 of them, and 256 */
+    /* bytes behind, 1 or no bit, neither count nor are they asked */
+    CHECK(hands_back(TWO, 2, 0, TWO, 9, ALSO_TWO, 8));
+    CHECK(hands_back(TWO, 2, 0, FOUR, 9, TWO, 9));
+    CHECK(hands_back(TWO, 2, 0, TWO, 9, FOUR, 9));
+    CHECK(hands_back(LAST, 1, 0, LAST, 8, FIRST + 1, 7));
+    /* no unknown, no bytes */
+    CHECK(hands_back(LAST, 0, 2, LAST, 0, FIRST, 0));
+    CHECK(hands_back(FIRST, 0, 8, FIRST, 8, LAST, 8));
+
+    /* 1, 4, 8 */
+    CHECK(refuse(LAYODEGI_LETTERS, 7, 0, LAST, 0, FIRST, 0));
+    CHECK(refuse(LAYODEGI_LETTERS, 2, 9, FOUR, 8, TWO, 8));
+    CHECK(refuse(LAYODEGI_LETTERS, 6, 5, FOUR, 8, TWO, 8));
+    CHECK(refuse(LAYODEGI_LETTERS, SIZE_MAX, 2, FOUR, 8, TWO, 8));
+    CHECK(refuse(LAYODEGI_LETTERS, 2, SIZE_MAX, FOUR, 8, TWO, 8));
+    CHECK(refuse(LAYODEGI_ROOM, 2, 0, FOUR, 7, TWO, 8));
+    CHECK(refuse(LAYODEGI_ROOM, 2, 0, FOUR, 8, TWO, 7));
+    CHECK(refuse(LAYODEGI_ROOM, 2, 0, FOUR, 0, TWO, 8));
+    CHECK(refuse(LAYODEGI_ROOM, 2, 0, FIRST, 8, TWO, 0)); /* 4 of both before 8 of either */
+    CHECK(refuse(LAYODEGI_ROOM, 2, 0, FOUR, 7, LAST, 8));
+    CHECK(refuse(LAYODEGI_BITS, 2, 0, LAST, 8, TWO, 8));
+    CHECK(refuse(LAYODEGI_BITS, 2, 0, FOUR, 8, LAST, 8));
+    CHECK(refuse(LAYODEGI_BITS, 2, 0, FIRST, 8, TWO, 8));
+    CHECK(refuse(LAYODEGI_BITS, 2, 0, FOUR, 8, FIRST, 8));
+
+    /* the header's example */
+    memset(boole, OLD, sizeof boole);
+    memset(lowenheim, OLD, sizeof lowenheim);
+    layodegi_default_order(2, order);
+    CHECK(layodegi_read_text(2, 0, (const uint8_t *)"v*!u", 4, condition, 4) == 0);
+    CHECK(layodegi_boole(2, 0, order, LAYODEGI_NO_FACT, 4, condition, 4, boole, 8) == MONOMIALS(4));
+    CHECK(layodegi_lowenheim(2, 0, order, LAYODEGI_NO_FACT, 4, condition, 4, lowenheim, 8) == MONOMIALS(2));
+    CHECK(hands_back(lowenheim, 2, 0, boole, 8, lowenheim, 8));
+    CHECK(refuse(LAYODEGI_ROOM, 2, 0, boole, 8, lowenheim, 7));
+    CHECK(holds(boole, FOUR, 8) && holds(lowenheim, TWO, 8));
 }
 
 static void check_entries(void)
@@ -253,13 +372,13 @@ static void check_facts(void)
     CHECK(layodegi_code_question(none) == LAYODEGI_SOLUTION && layodegi_code_number(none) == 3);
     none = layodegi_boole(1, 2, U_ALONE, B, 8, ONE, 8, answers, 8);
     CHECK(layodegi_code_question(none) == LAYODEGI_SOLUTION && layodegi_code_number(none) == 0);
-    CHECK(layodegi_boole(1, 2, U_ALONE, A_TIMES_B, 9, ROW, 8, answers, 9) == 0);
+    CHECK(layodegi_boole(1, 2, U_ALONE, A_TIMES_B, 9, ROW, 8, answers, 9) == MONOMIALS(5));
     CHECK(holds(answers, ROW_ANSWER, 8));
-    CHECK(layodegi_particular(1, 2, U_ALONE, A_TIMES_B, 8, ROW, 8, answers, 8) == 0);
+    CHECK(layodegi_particular(1, 2, U_ALONE, A_TIMES_B, 8, ROW, 8, answers, 8) == MONOMIALS(2));
     CHECK(holds(answers, "\0\0\0\0\1\0\1\0", 8)); /* b + a*b */
-    CHECK(layodegi_lowenheim(1, 2, U_ALONE, A_TIMES_B, 8, ROW, 8, answers, 8) == 0);
+    CHECK(layodegi_lowenheim(1, 2, U_ALONE, A_TIMES_B, 8, ROW, 8, answers, 8) == MONOMIALS(5));
     CHECK(holds(answers, ROW_ANSWER, 8));
-    CHECK(layodegi_lowenheim_handed(1, 2, A_TIMES_B, 8, ROW, 8, B, 8, answers, 8) == 0);
+    CHECK(layodegi_lowenheim_handed(1, 2, A_TIMES_B, 8, ROW, 8, B, 8, answers, 8) == MONOMIALS(5));
     CHECK(holds(answers, ROW_ANSWER, 8));
 
     /* 1, 17, 4, 8, 22, 23, 9 */
@@ -285,7 +404,7 @@ static void check_facts(void)
     CHECK(holds(answers, ROW_ANSWER, 8));
 
     /* the header's example */
-    CHECK(layodegi_lowenheim_handed(1, 1, A, 4, U_PLUS_V, 4, EMPTY, 4, answers, 4) == 0);
+    CHECK(layodegi_lowenheim_handed(1, 1, A, 4, U_PLUS_V, 4, EMPTY, 4, answers, 4) == MONOMIALS(1));
     CHECK(memcmp(answers, "\0\0\0\1", 4) == 0); /* u*a */
     CHECK(strcmp(layodegi_question_words(22), "Has g no unknown?") == 0);
     CHECK(strcmp(layodegi_question_words(23), "Is g 0 in some state?") == 0);
@@ -369,11 +488,11 @@ static void check_sessions(void)
     CHECK(is_session(session, 2, 0, EITHER, U_TIMES_V));
 
     /* the present table, as it stands in the block, is a condition */
-    CHECK(layodegi_boole(2, 0, U_FIRST, EMPTY, 4, session + LAYODEGI_SESSION_TABLE, 4, answers, 8) == 0);
+    CHECK(layodegi_boole(2, 0, U_FIRST, EMPTY, 4, session + LAYODEGI_SESSION_TABLE, 4, answers, 8) == MONOMIALS(1));
     CHECK(holds(answers, "\1\0\0\0\0\0\0\0", 8)); /* u = 1, v = 0 */
     CHECK(layodegi_session_return(session, 'B') == 0);
     CHECK(is_session(session, 2, 0, U_TIMES_V, U_TIMES_V));
-    CHECK(layodegi_boole(2, 0, U_FIRST, EMPTY, 4, session + LAYODEGI_SESSION_TABLE, 4, answers, 8) == 0);
+    CHECK(layodegi_boole(2, 0, U_FIRST, EMPTY, 4, session + LAYODEGI_SESSION_TABLE, 4, answers, 8) == MONOMIALS(3));
     CHECK(holds(answers, "\0\1\0\1\0\0\1\0", 8)); /* u = u + u*v, v = v */
 }
 
@@ -408,9 +527,11 @@ static void check_sessions_handed(void)
 int main(void)
 {
     check_tables();
+    check_counts();
     check_derivatives();
     check_solving();
     check_handed();
+    check_shorter();
     check_entries();
     check_orders();
     check_facts();

@@ -5,7 +5,37 @@ use crate::question::{Question, Refusal};
 use std::error::Error;
 use std::fmt;
 
-/// Whether a condition, or the condition of an entry, has a solution.
+/// What solving a condition gives.
+///
+/// ```
+/// use layodegi::{Solution, State};
+///
+/// assert_eq!(Solution::Solved { monomials: 5 }.to_string(), "solved, 5 monomials");
+/// assert_eq!(Solution::None(State(3)).to_string(), "none, state 3");
+/// ```
+#[derive(Clone, Copy, Debug, PartialEq, Eq, Hash)]
+pub enum Solution {
+    /// The answers stand in the answer buffer.
+    Solved {
+        /// How many monomials are present in them, all unknowns together.
+        monomials: usize,
+    },
+    /// The no of question 9, with the smallest of the states that count, those where the fact is 0,
+    /// in which every choice gives the condition the value 1. The answer buffer is as it was.
+    None(State),
+}
+
+impl fmt::Display for Solution {
+    fn fmt(&self, f: &mut fmt::Formatter) -> fmt::Result {
+        match self {
+            Solution::Solved { monomials: 1 } => f.write_str("solved, 1 monomial"),
+            Solution::Solved { monomials } => write!(f, "solved, {monomials} monomials"),
+            Solution::None(state) => write!(f, "none, {state}"),
+        }
+    }
+}
+
+/// Whether an entry says that its condition has a solution.
 ///
 /// ```
 /// use layodegi::{Answer, State};
@@ -15,10 +45,9 @@ use std::fmt;
 /// ```
 #[derive(Clone, Copy, Debug, PartialEq, Eq, Hash)]
 pub enum Answer {
-    /// The answers stand in the answer buffer.
+    /// It holds answers: reading puts them into the answer buffer.
     Solved,
-    /// The no of question 9, with the smallest of the states that count, those where the fact is 0,
-    /// in which every choice gives the condition the value 1. The answer buffer is as it was.
+    /// It says 'none', in this state: reading leaves the answer buffer as it was.
     None(State),
 }
 
@@ -126,17 +155,28 @@ impl Code {
         }
     }
 
-    /// A value, a length or a count.
+    /// A value, a length, a number of monomials or a count of entries.
     pub fn number(self) -> Result<usize, Refusal> {
         self.done().map(|()| self.above())
     }
 
-    pub fn answer(self) -> Result<Answer, Refusal> {
-        match self.done() {
-            Ok(()) => Ok(Answer::Solved),
-            Err(Refusal::No(Question::Solution)) => Ok(Answer::None(State(self.above()))),
+    pub fn solution(self) -> Result<Solution, Refusal> {
+        match self.number() {
+            Ok(monomials) => Ok(Solution::Solved { monomials }),
+            Err(Refusal::No(Question::Solution)) => Ok(Solution::None(State(self.above()))),
             Err(refusal) => Err(refusal),
         }
+    }
+
+    /// Of the two answer tables that were lent the one that the code names, as far as it counts.
+    pub fn shorter<'a>(
+        self,
+        letters: Letters,
+        boole: &'a [u8],
+        lowenheim: &'a [u8],
+    ) -> Result<&'a [u8], Refusal> {
+        let table = if self.number()? == 0 { boole } else { lowenheim };
+        Ok(&table[..letters.answers_length().min(table.len())])
     }
 
     pub fn entry(self) -> Result<Entry, Refusal> {
@@ -173,6 +213,10 @@ mod tests {
             for above in [0, 1, 255, u64::MAX >> 8] {
                 let code = Code(above << 8 | u64::from(number));
                 assert_eq!(code.done().unwrap_err().number(), number);
+                assert_eq!(code.number().unwrap_err().number(), number);
+                let letters = Letters { unknowns: 1, givens: 0 };
+                let refusal = code.shorter(letters, &[0; 2], &[0; 2]).unwrap_err();
+                assert_eq!(refusal.number(), number);
                 assert_eq!(code.entry().unwrap_err().number(), number);
                 let stopped = code.count().unwrap_err();
                 assert_eq!(stopped.refusal.number(), number);
@@ -201,9 +245,26 @@ mod tests {
     }
 
     #[test]
-    fn question_9_gives_the_state() {
-        assert_eq!(Code(0).answer(), Ok(Answer::Solved));
-        assert_eq!(Code(9 | 3 << 8).answer(), Ok(Answer::None(State(3))));
-        assert_eq!(Code(8 | 3 << 8).answer(), Err(Question::Bits.into()));
+    fn a_solution_has_its_monomials_and_question_9_the_state() {
+        assert_eq!(Code(0).solution(), Ok(Solution::Solved { monomials: 0 }));
+        assert_eq!(Code(6_144 << 8).solution(), Ok(Solution::Solved { monomials: 6_144 }));
+        assert_eq!(Code(9 | 3 << 8).solution(), Ok(Solution::None(State(3))));
+        assert_eq!(Code(8 | 3 << 8).solution(), Err(Question::Bits.into()));
+        assert_eq!(Solution::Solved { monomials: 1 }.to_string(), "solved, 1 monomial");
+    }
+
+    #[test]
+    fn the_shorter_table_is_a_part_of_the_lent_one() {
+        let letters = Letters { unknowns: 1, givens: 1 };
+        let (boole, lowenheim) = ([0, 1, 1, 0, 7], [0, 1, 0, 0, 7, 7]);
+        for (code, lent) in [(Code(0), &boole[..]), (Code(1 << 8), &lowenheim[..])] {
+            let shorter = code.shorter(letters, &boole, &lowenheim).unwrap();
+            assert_eq!((shorter.as_ptr(), shorter), (lent.as_ptr(), &lent[..4]));
+        }
+        // what no archive answers
+        assert_eq!(Code(0).shorter(letters, &boole[..3], &lowenheim), Ok(&boole[..3]));
+        assert_eq!(Code(u64::MAX << 8).shorter(letters, &boole, &[]), Ok(&[][..]));
+        let letters = Letters { unknowns: usize::MAX, givens: usize::MAX };
+        assert_eq!(Code(0).shorter(letters, &boole, &lowenheim), Ok(&[][..]));
     }
 }

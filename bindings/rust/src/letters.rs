@@ -17,10 +17,10 @@ pub const LAST_ROUTE: usize = 250;
 /// all letters.
 ///
 /// ```
-/// # use layodegi::{boole, Answer, Letters, Order, State, NO_FACT};
+/// # use layodegi::{boole, Letters, Order, Solution, State, NO_FACT};
 /// let letters = Letters { unknowns: 1, givens: 1 };
 /// let (order, a) = (Order::default_for(1), [0, 0, 1, 0]);
-/// assert_eq!(boole(letters, order, NO_FACT, &a, &mut [0; 4]), Ok(Answer::None(State(1))));
+/// assert_eq!(boole(letters, order, NO_FACT, &a, &mut [0; 4]), Ok(Solution::None(State(1))));
 /// ```
 pub const NO_FACT: &[u8; LONGEST_TABLE] = &[0; LONGEST_TABLE];
 
@@ -80,18 +80,19 @@ impl Letters {
 /// Every call asks itself (question 17) whether the order is right, so any bytes may stand here.
 ///
 /// ```
-/// # use layodegi::{boole, Answer, Letters, Order, NO_FACT};
+/// # use layodegi::{boole, Letters, Order, NO_FACT};
 /// let letters = Letters { unknowns: 2, givens: 0 };
 /// let mut answers = [7; 8];
 /// let u_plus_v = [0, 1, 1, 0];
 ///
 /// let u_first = Order::default_for(2);
-/// assert_eq!(boole(letters, u_first, NO_FACT, &u_plus_v, &mut answers), Ok(Answer::Solved));
+/// boole(letters, u_first, NO_FACT, &u_plus_v, &mut answers)?;
 /// assert_eq!(answers, [0, 0, 1, 0, 0, 0, 1, 0]); // u = v, v = v
 ///
 /// let v_first = Order::of(&[1, 0]).unwrap();
-/// assert_eq!(boole(letters, v_first, NO_FACT, &u_plus_v, &mut answers), Ok(Answer::Solved));
+/// boole(letters, v_first, NO_FACT, &u_plus_v, &mut answers)?;
 /// assert_eq!(answers, [0, 1, 0, 0, 0, 1, 0, 0]); // u = u, v = u
+/// # Ok::<(), layodegi::Refusal>(())
 /// ```
 #[derive(Clone, Copy, Debug, PartialEq, Eq, Hash)]
 pub struct Order(pub [u8; 6]);

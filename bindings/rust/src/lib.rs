@@ -18,6 +18,10 @@
 //! 0, 1, 2 and so on. General solutions in any two orders are instances of each other, and of the one
 //! that [`lowenheim_handed`] makes out of a solution that the designer hands over.
 //!
+//! A draughtsman judges a circuit by its monomials: a sum, a product and a substitution come with the
+//! number of monomials present in them, and answers with the total over all unknowns. Of Boole's and
+//! Löwenheim's answers [`shorter`] hands back those that are shorter.
+//!
 //! A [`Session`] keeps the conditions that a designer adds one by one, as one table, and states of it
 //! to return to. The [`derivative`] tells a maintainer whether flipping some contacts together can
 //! change a circuit.
@@ -59,7 +63,7 @@ mod question;
 pub mod raw;
 mod session;
 
-pub use answer::{Answer, Entry, Reading, Stopped};
+pub use answer::{Answer, Entry, Reading, Solution, Stopped};
 pub use letters::{Choice, Letters, Mask, Order, State, NO_FACT};
 pub use letters::{LAST_ROUTE, LONGEST_ANSWERS, LONGEST_ENTRY, LONGEST_TABLE, LONGEST_TEXT};
 pub use question::{Question, Refusal};
@@ -116,16 +120,17 @@ pub fn value(letters: Letters, table: &[u8], state: State, choice: Choice) -> Re
     Code(code).number().map(|value| value as u8)
 }
 
-/// The sum of two tables, put into `out`. Questions 1, 4, 8.
+/// The sum of two tables, put into `out`, and how many monomials are present in it.
+/// Questions 1, 4, 8.
 ///
 /// ```
 /// # use layodegi::{sum, Letters};
+/// let letters = Letters { unknowns: 2, givens: 0 };
 /// let mut out = [7; 4];
-/// sum(Letters { unknowns: 2, givens: 0 }, &[0, 1, 1, 0], &[1, 1, 0, 0], &mut out)?;
+/// assert_eq!(sum(letters, &[0, 1, 1, 0], &[1, 1, 0, 0], &mut out), Ok(2));
 /// assert_eq!(out, [1, 0, 1, 0]); // (u + v) + (1 + u) = 1 + v
-/// # Ok::<(), layodegi::Refusal>(())
 /// ```
-pub fn sum(letters: Letters, a: &[u8], b: &[u8], out: &mut [u8]) -> Result<(), Refusal> {
+pub fn sum(letters: Letters, a: &[u8], b: &[u8], out: &mut [u8]) -> Result<usize, Refusal> {
     let Letters { unknowns, givens } = letters;
     let code = unsafe {
         raw::layodegi_sum(
@@ -139,19 +144,20 @@ pub fn sum(letters: Letters, a: &[u8], b: &[u8], out: &mut [u8]) -> Result<(), R
             out.len(),
         )
     };
-    Code(code).done()
+    Code(code).number()
 }
 
-/// The product of two tables, put into `out`. Questions 1, 4, 8.
+/// The product of two tables, put into `out`, and how many monomials are present in it.
+/// Questions 1, 4, 8.
 ///
 /// ```
 /// # use layodegi::{product, Letters};
+/// let letters = Letters { unknowns: 2, givens: 0 };
 /// let mut out = [7; 4];
-/// product(Letters { unknowns: 2, givens: 0 }, &[0, 1, 1, 0], &[0, 1, 0, 0], &mut out)?;
+/// assert_eq!(product(letters, &[0, 1, 1, 0], &[0, 1, 0, 0], &mut out), Ok(2));
 /// assert_eq!(out, [0, 1, 0, 1]); // (u + v)*u = u + u*v
-/// # Ok::<(), layodegi::Refusal>(())
 /// ```
-pub fn product(letters: Letters, a: &[u8], b: &[u8], out: &mut [u8]) -> Result<(), Refusal> {
+pub fn product(letters: Letters, a: &[u8], b: &[u8], out: &mut [u8]) -> Result<usize, Refusal> {
     let Letters { unknowns, givens } = letters;
     let code = unsafe {
         raw::layodegi_product(
@@ -165,27 +171,28 @@ pub fn product(letters: Letters, a: &[u8], b: &[u8], out: &mut [u8]) -> Result<(
             out.len(),
         )
     };
-    Code(code).done()
+    Code(code).number()
 }
 
-/// The condition with the handed polynomials (an answer table) put for its unknowns, all at once.
-/// Questions 1, 4, 8.
+/// The condition with the handed polynomials (an answer table) put for its unknowns, all at once, and
+/// how many monomials are present in what comes out. Questions 1, 4, 8.
 ///
 /// ```
 /// # use layodegi::{substitute, Letters};
 /// let letters = Letters { unknowns: 2, givens: 0 };
 /// let mut out = [7; 4];
-/// // u = v, v = v makes u + v zero
-/// substitute(letters, &[0, 1, 1, 0], &[0, 0, 1, 0, 0, 0, 1, 0], &mut out)?;
-/// assert_eq!(out, [0; 4]);
-/// # Ok::<(), layodegi::Refusal>(())
+/// let both_v = [0, 0, 1, 0, 0, 0, 1, 0]; // u = v, v = v
+/// assert_eq!(substitute(letters, &[0, 1, 1, 0], &both_v, &mut out), Ok(0));
+/// assert_eq!(out, [0; 4]); // it makes u + v zero
+/// assert_eq!(substitute(letters, &[0, 0, 0, 1], &both_v, &mut out), Ok(1));
+/// assert_eq!(out, [0, 0, 1, 0]); // and u*v to v
 /// ```
 pub fn substitute(
     letters: Letters,
     condition: &[u8],
     handed: &[u8],
     out: &mut [u8],
-) -> Result<(), Refusal> {
+) -> Result<usize, Refusal> {
     let Letters { unknowns, givens } = letters;
     let code = unsafe {
         raw::layodegi_substitute(
@@ -199,7 +206,7 @@ pub fn substitute(
             out.len(),
         )
     };
-    Code(code).done()
+    Code(code).number()
 }
 
 /// The vectorial derivative of a table by a set S of letters, put into `out`: f plus f with every
@@ -241,20 +248,21 @@ pub fn derivative(letters: Letters, table: &[u8], s: Mask, out: &mut [u8]) -> Re
 }
 
 /// Boole's answers: the general solution, each unknown itself being the parameter, in the states where
-/// a fact is 0, the unknowns eliminated in an order. Questions 1, 17, 4, 8, 22, 23, 9.
+/// a fact is 0, the unknowns eliminated in an order. Gives the total of their monomials, or the state
+/// in which there is none. Questions 1, 17, 4, 8, 22, 23, 9.
 ///
 /// ```
-/// # use layodegi::{boole, read_text, Answer, Letters, Order, Question, State, NO_FACT};
+/// # use layodegi::{boole, read_text, Letters, Order, Question, Solution, State, NO_FACT};
 /// let letters = Letters { unknowns: 2, givens: 0 };
 /// let u_times_v = [0, 0, 0, 1];
 /// let mut answers = [7; 8];
 /// let solved = boole(letters, Order::default_for(2), NO_FACT, &u_times_v, &mut answers);
-/// assert_eq!(solved, Ok(Answer::Solved));
+/// assert_eq!(solved, Ok(Solution::Solved { monomials: 3 }));
 /// assert_eq!(answers, [0, 1, 0, 1, 0, 0, 1, 0]); // u = u + u*v, v = v
 ///
 /// let v_first = Order([1, 0, 255, 255, 255, 255]);
 /// let solved = boole(letters, v_first, NO_FACT, &u_times_v, &mut answers);
-/// assert_eq!(solved, Ok(Answer::Solved));
+/// assert_eq!(solved, Ok(Solution::Solved { monomials: 3 }));
 /// assert_eq!(answers, [0, 1, 0, 0, 0, 0, 1, 1]); // u = u, v = v + u*v
 ///
 /// let twice = Order([1, 1, 255, 255, 255, 255]);
@@ -265,11 +273,11 @@ pub fn derivative(letters: Letters, table: &[u8], s: Mask, out: &mut [u8]) -> Re
 /// let mut condition = [0; 8];
 /// read_text(letters, b"a*u+b*u+b", &mut condition)?;
 /// let none = boole(letters, order, NO_FACT, &condition, &mut answers);
-/// assert_eq!(none, Ok(Answer::None(State(3)))); // a and b at once
+/// assert_eq!(none, Ok(Solution::None(State(3)))); // a and b at once
 ///
 /// let a_times_b = [0, 0, 0, 0, 0, 0, 1, 0]; // never at once
 /// let solved = boole(letters, order, &a_times_b, &condition, &mut answers);
-/// assert_eq!(solved, Ok(Answer::Solved));
+/// assert_eq!(solved, Ok(Solution::Solved { monomials: 5 }));
 /// assert_eq!(answers, [0, 1, 0, 1, 1, 1, 1, 0]); // u = b + u + a*b + a*u + b*u
 ///
 /// let one = [1, 0, 0, 0, 0, 0, 0, 0]; // no state is left
@@ -283,7 +291,7 @@ pub fn boole(
     fact: &[u8],
     condition: &[u8],
     answers: &mut [u8],
-) -> Result<Answer, Refusal> {
+) -> Result<Solution, Refusal> {
     let Letters { unknowns, givens } = letters;
     let code = unsafe {
         raw::layodegi_boole(
@@ -298,31 +306,32 @@ pub fn boole(
             answers.len(),
         )
     };
-    Code(code).answer()
+    Code(code).solution()
 }
 
 /// The particular solution: Boole's answers, under a fact and in an order, with 0 put for all
-/// parameters. Questions 1, 17, 4, 8, 22, 23, 9.
+/// parameters. Gives the total of their monomials, or the state in which there is none.
+/// Questions 1, 17, 4, 8, 22, 23, 9.
 ///
 /// ```
-/// # use layodegi::{particular, Answer, Letters, Order, NO_FACT};
+/// # use layodegi::{particular, Letters, Order, Solution, NO_FACT};
 /// let letters = Letters { unknowns: 2, givens: 0 };
 /// let condition = [1, 1, 1, 0]; // u + v + 1
 /// let mut answers = [7; 8];
 /// let solved = particular(letters, Order::default_for(2), NO_FACT, &condition, &mut answers);
-/// assert_eq!(solved, Ok(Answer::Solved));
+/// assert_eq!(solved, Ok(Solution::Solved { monomials: 1 }));
 /// assert_eq!(answers, [1, 0, 0, 0, 0, 0, 0, 0]); // u = 1, v = 0
 ///
 /// let v_first = Order([1, 0, 255, 255, 255, 255]);
 /// let solved = particular(letters, v_first, NO_FACT, &condition, &mut answers);
-/// assert_eq!(solved, Ok(Answer::Solved));
+/// assert_eq!(solved, Ok(Solution::Solved { monomials: 1 }));
 /// assert_eq!(answers, [0, 0, 0, 0, 1, 0, 0, 0]); // u = 0, v = 1
 ///
 /// let letters = Letters { unknowns: 1, givens: 2 };
 /// let (a_times_b, condition) = ([0, 0, 0, 0, 0, 0, 1, 0], [0, 0, 0, 1, 1, 1, 0, 0]); // a*u + b*u + b
 /// let solved =
 ///     particular(letters, Order::default_for(1), &a_times_b, &condition, &mut answers);
-/// assert_eq!(solved, Ok(Answer::Solved));
+/// assert_eq!(solved, Ok(Solution::Solved { monomials: 2 }));
 /// assert_eq!(answers, [0, 0, 0, 0, 1, 0, 1, 0]); // u = b + a*b
 /// ```
 pub fn particular(
@@ -331,7 +340,7 @@ pub fn particular(
     fact: &[u8],
     condition: &[u8],
     answers: &mut [u8],
-) -> Result<Answer, Refusal> {
+) -> Result<Solution, Refusal> {
     let Letters { unknowns, givens } = letters;
     let code = unsafe {
         raw::layodegi_particular(
@@ -346,19 +355,19 @@ pub fn particular(
             answers.len(),
         )
     };
-    Code(code).answer()
+    Code(code).solution()
 }
 
-/// Löwenheim's answers, from the particular solution under a fact and in an order.
-/// Questions 1, 17, 4, 8, 22, 23, 9.
+/// Löwenheim's answers, from the particular solution under a fact and in an order. Gives the total of
+/// their monomials, or the state in which there is none. Questions 1, 17, 4, 8, 22, 23, 9.
 ///
 /// ```
-/// # use layodegi::{lowenheim, Answer, Letters, Order, NO_FACT};
+/// # use layodegi::{lowenheim, Letters, Order, Solution, NO_FACT};
 /// let letters = Letters { unknowns: 2, givens: 0 };
 /// let u_plus_v = [0, 1, 1, 0];
 /// let mut answers = [7; 8];
 /// let solved = lowenheim(letters, Order::default_for(2), NO_FACT, &u_plus_v, &mut answers);
-/// assert_eq!(solved, Ok(Answer::Solved));
+/// assert_eq!(solved, Ok(Solution::Solved { monomials: 2 }));
 /// assert_eq!(answers, [0, 0, 0, 1, 0, 0, 0, 1]); // u = u*v, v = u*v
 /// ```
 pub fn lowenheim(
@@ -367,7 +376,7 @@ pub fn lowenheim(
     fact: &[u8],
     condition: &[u8],
     answers: &mut [u8],
-) -> Result<Answer, Refusal> {
+) -> Result<Solution, Refusal> {
     let Letters { unknowns, givens } = letters;
     let code = unsafe {
         raw::layodegi_lowenheim(
@@ -382,11 +391,11 @@ pub fn lowenheim(
             answers.len(),
         )
     };
-    Code(code).answer()
+    Code(code).solution()
 }
 
 /// Löwenheim's formula on handed polynomials (an answer table) that make the condition zero wherever
-/// the fact is 0. Questions 1, 4, 8, 22, 23, 21.
+/// the fact is 0. Gives the total of the answers' monomials. Questions 1, 4, 8, 22, 23, 21.
 ///
 /// They may mention unknowns, as long as putting them for the unknowns, all at once, makes f*(1 + g)
 /// zero; without unknowns, that itself has to be zero. An accepted one gives a general solution: it
@@ -398,11 +407,11 @@ pub fn lowenheim(
 /// let u_plus_v = [0, 1, 1, 0];
 /// let mut answers = [7; 8];
 /// let ones = [1, 0, 0, 0, 1, 0, 0, 0]; // u = 1, v = 1: a favourite, and one of two solutions
-/// lowenheim_handed(letters, NO_FACT, &u_plus_v, &ones, &mut answers)?;
+/// assert_eq!(lowenheim_handed(letters, NO_FACT, &u_plus_v, &ones, &mut answers), Ok(6));
 /// assert_eq!(answers, [0, 1, 1, 1, 0, 1, 1, 1]); // u | v for both: every solution
 ///
 /// let both_v = [0, 0, 1, 0, 0, 0, 1, 0]; // u = v, v = v mentions an unknown
-/// lowenheim_handed(letters, NO_FACT, &u_plus_v, &both_v, &mut answers)?;
+/// assert_eq!(lowenheim_handed(letters, NO_FACT, &u_plus_v, &both_v, &mut answers), Ok(2));
 /// assert_eq!(answers, both_v);
 ///
 /// let one_and_v = [1, 0, 0, 0, 0, 0, 1, 0]; // u = 1, v = v solves where v is 1 only
@@ -413,11 +422,10 @@ pub fn lowenheim(
 /// let letters = Letters { unknowns: 1, givens: 2 };
 /// let (a_times_b, condition) = ([0, 0, 0, 0, 0, 0, 1, 0], [0, 0, 0, 1, 1, 1, 0, 0]); // a*u + b*u + b
 /// let b = [0, 0, 0, 0, 1, 0, 0, 0]; // u = b solves wherever a*b is 0
-/// lowenheim_handed(letters, &a_times_b, &condition, &b, &mut answers)?;
+/// assert_eq!(lowenheim_handed(letters, &a_times_b, &condition, &b, &mut answers), Ok(5));
 /// assert_eq!(answers, [0, 1, 0, 1, 1, 1, 1, 0]); // u = b + u + a*b + a*u + b*u
 /// let refused = lowenheim_handed(letters, NO_FACT, &condition, &b, &mut answers);
 /// assert_eq!(refused, Err(Question::Handed.into()));
-/// # Ok::<(), layodegi::Refusal>(())
 /// ```
 pub fn lowenheim_handed(
     letters: Letters,
@@ -425,7 +433,7 @@ pub fn lowenheim_handed(
     condition: &[u8],
     handed: &[u8],
     answers: &mut [u8],
-) -> Result<(), Refusal> {
+) -> Result<usize, Refusal> {
     let Letters { unknowns, givens } = letters;
     let code = unsafe {
         raw::layodegi_lowenheim_handed(
@@ -441,7 +449,52 @@ pub fn lowenheim_handed(
             answers.len(),
         )
     };
-    Code(code).done()
+    Code(code).number()
+}
+
+/// The shorter of Boole's and Löwenheim's answer tables: the one with fewer monomials present, all
+/// unknowns together; Boole's if the totals tie. Questions 1, 4, 8.
+///
+/// What is handed back is the lent table itself, cut to U times 2^n bytes, and no copy: that is what
+/// the borrow says. So neither table can change as long as it is in use.
+///
+/// ```
+/// # use layodegi::{boole, lowenheim, read_text, shorter, Letters, Order, Question, Solution, NO_FACT};
+/// let (letters, order) = (Letters { unknowns: 2, givens: 0 }, Order::default_for(2));
+/// let (mut condition, mut by_boole, mut by_lowenheim) = ([7; 4], [7; 8], [7; 9]);
+/// read_text(letters, b"v*!u", &mut condition)?;
+/// // u = u + v + u*v, v = v
+/// let solved = boole(letters, order, NO_FACT, &condition, &mut by_boole);
+/// assert_eq!(solved, Ok(Solution::Solved { monomials: 4 }));
+/// // u = u, v = u*v
+/// let solved = lowenheim(letters, order, NO_FACT, &condition, &mut by_lowenheim);
+/// assert_eq!(solved, Ok(Solution::Solved { monomials: 2 }));
+///
+/// let found = shorter(letters, &by_boole, &by_lowenheim)?;
+/// assert_eq!(found, [0, 1, 0, 0, 0, 0, 0, 1]);
+/// assert_eq!(found.as_ptr(), by_lowenheim.as_ptr()); // no copy
+///
+/// let refused = shorter(letters, &by_boole[1..], &by_lowenheim);
+/// assert_eq!(refused, Err(Question::Room.into()));
+/// # Ok::<(), layodegi::Refusal>(())
+/// ```
+pub fn shorter<'a>(
+    letters: Letters,
+    boole: &'a [u8],
+    lowenheim: &'a [u8],
+) -> Result<&'a [u8], Refusal> {
+    let Letters { unknowns, givens } = letters;
+    let code = unsafe {
+        raw::layodegi_which_shorter(
+            unknowns,
+            givens,
+            boole.as_ptr(),
+            boole.len(),
+            lowenheim.as_ptr(),
+            lowenheim.len(),
+        )
+    };
+    Code(code).shorter(letters, boole, lowenheim)
 }
 
 /// Writes the entry of a condition under a fact, with Boole's answers in an order or 'none', and gives

@@ -117,6 +117,24 @@ extern "C" {
         answers_length: usize,
     ) -> u64;
 
+    pub fn layodegi_which_shorter(
+        u: usize,
+        g: usize,
+        boole: *const u8,
+        boole_length: usize,
+        lowenheim: *const u8,
+        lowenheim_length: usize,
+    ) -> u64;
+
+    pub fn layodegi_shorter_refusal(
+        u: usize,
+        g: usize,
+        boole: *const u8,
+        boole_length: usize,
+        lowenheim: *const u8,
+        lowenheim_length: usize,
+    ) -> u64;
+
     pub fn layodegi_write_entry(
         route: usize,
         u: usize,

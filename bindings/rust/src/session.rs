@@ -67,7 +67,8 @@ impl fmt::Display for Name {
 /// may stand here.
 ///
 /// ```
-/// use layodegi::{boole, read_text, Answer, Letters, Name, Order, Refusal, Session, State, NO_FACT};
+/// use layodegi::{boole, read_text, Letters, Name, Order, Refusal, Session};
+/// use layodegi::{Solution, State, NO_FACT};
 ///
 /// // One circuit, u, and two givens, a and b.
 /// let letters = Letters { unknowns: 1, givens: 2 };
@@ -84,16 +85,16 @@ impl fmt::Display for Name {
 /// let session = Session::start(letters).into_result()?;
 /// let session = session.add(&table("u+a")?).into_result()?;
 /// let session = session.mark(Name::A).into_result()?;
-/// assert_eq!(solve(&session), Ok(Answer::Solved));
+/// assert_eq!(solve(&session), Ok(Solution::Solved { monomials: 1 })); // u = a
 ///
 /// // with u at 0 wherever b is 1 there is no way where a is 1 as well
 /// let session = session.add(&table("u*b")?).into_result()?;
-/// assert_eq!(solve(&session), Ok(Answer::None(State(3))));
+/// assert_eq!(solve(&session), Ok(Solution::None(State(3))));
 ///
 /// // back to u follows a, and another try
 /// let session = session.return_to(Name::A).into_result()?;
 /// let session = session.add(&table("u*b*!a")?).into_result()?;
-/// assert_eq!(solve(&session), Ok(Answer::Solved));
+/// assert_eq!(solve(&session), Ok(Solution::Solved { monomials: 1 })); // u = a
 /// # Ok::<(), Refusal>(())
 /// ```
 #[derive(Clone, PartialEq, Eq, Hash)]

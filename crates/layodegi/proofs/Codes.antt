@@ -1,5 +1,5 @@
 -- No answer is lost in its code: taken apart, the code that an exported function returns gives back the answer that its contract names,
--- whatever the caller lends. For numbers of questions are bytes, a state is below 256, an entry has at most 27,709 bytes, and a volume
+-- whatever the caller lends. For numbers of questions are bytes, monomials at most 6,144, a state is below 256, an entry has at most 27,709 bytes, and a volume
 -- at most 250 entries, since their routes rise.
 -- Assumes nothing.
 use mathlib.Core.Path.{_≡_, refl, sym, ap, _∙_, subst}
@@ -7,6 +7,7 @@ use mathlib.Core.Bool.{Bool, true, false, cond}
 use mathlib.Core.List.{List, [], _∷_, _++_}
 use Prim.Native.Nat.{ℕ, zero, suc, _+_, _*_, _/_, _%_, _^_, _≤_, _<_}
 use native.Mathlib.Decide.{ℕ-discrete}
+use native.Mathlib.Nat.{mul-le-mul}
 use native.Mathlib.Omega.{arith}
 use lib.Dec.{leb}
 use lib.ListN.{length, drop}
@@ -15,9 +16,12 @@ use borrow.Author.Tests.{leb-true, ne-eqb}
 use Rattle.ring.specs.declared.State.{State}
 use Rattle.ring.specs.declared.Choice.{Choice}
 use Rattle.ring.specs.Polynomial.{value}
-use Rattle.ring.specs.Letters.{point}
-use Rattle.ring.specs.Table.{present}
+use Rattle.ring.specs.Letters.{digit, point}
+use Rattle.ring.specs.Table.{present, held}
+use Rattle.ring.specs.Length.{monomialCount, totalCount}
 use Rattle.ring.proofs.Bool.{and-right, digit-lt}
+use Rattle.ring.proofs.Length.{total-most}
+use Rattle.ring.proofs.Parity.{count-most}
 use Rattle.tables.specs.declared.Question.the-variants.{Letters, Solution, Order}
 use Rattle.tables.specs.Questions.{Asked, asks, asksGiving, number, firstNo, lettersFit, roomQuestions, bitQuestions}
 use Rattle.tables.specs.Questions.{bufferQuestions}
@@ -39,10 +43,11 @@ use Rattle.entry.proofs.Passes.{Passes}
 use Rattle.entry.proofs.Verdicts.{VerdictFits}
 use Rattle.entry.proofs.Theorems.{entry-bound}
 use Rattle.calls.specs.Questions.{valueQuestions, pairQuestions, substituteQuestions, derivativeQuestions, textQuestions}
-use Rattle.calls.specs.Questions.{factQuestions, solvingBuffers, solvingQuestions, handedQuestions, writeQuestions, recordQuestions}
+use Rattle.calls.specs.Questions.{shorterQuestions, factQuestions, solvingBuffers, solvingQuestions, handedQuestions, writeQuestions, recordQuestions}
 use Rattle.calls.specs.Questions.{entryQuestions, readQuestions, auditQuestions}
 use Rattle.calls.specs.Questions.{walkQuestions, startQuestions, addQuestions, markQuestions, returnQuestions}
 use Rattle.calls.specs.Operations.{outcome, valueAt}
+use Rattle.calls.specs.Shorter.{lowenheimShorter}
 use Rattle.calls.specs.Entries.{lentEntry, readValues, stateOf}
 use Rattle.calls.specs.Walk.{walkRefusal, walkReply, Ends, at-end, refused-at, Walks}
 use Rattle.calls.proofs.Questions.{written-exactly, writable-archivable, passes-exactly}
@@ -94,12 +99,12 @@ value-back questions v p f = rw (reply-numbered questions (v ∷ []) p) (go (fir
     go (suc n) l small = let e : suc n % 256 ≡ suc n = omega arith in rw e
 
 -- question 9 behind questions with other numbers
-state-back : (front : List Asked) (answer : Bool) (s : ℕ) → givesNothing front ≡ true → (firstNo front ≡ 9 → ⊥)
-    → (firstNo front ≡ 0 → s < 4294967296)
-    → stateReply (code (reply (front ++ (asksGiving Solution answer (s ∷ []) ∷ [])) []))
-    ≡ reply (front ++ (asksGiving Solution answer (s ∷ []) ∷ [])) []
+state-back : (front : List Asked) (answer : Bool) (s v : ℕ) → givesNothing front ≡ true → (firstNo front ≡ 9 → ⊥)
+    → (firstNo front ≡ 0 → (s < 4294967296) × (v < 4294967296))
+    → stateReply (code (reply (front ++ (asksGiving Solution answer (s ∷ []) ∷ [])) (v ∷ [])))
+    ≡ reply (front ++ (asksGiving Solution answer (s ∷ []) ∷ [])) (v ∷ [])
 unfolding numbered reply
-state-back front answer s p o f = go (ℕ-discrete (firstNo front) 0)
+state-back front answer s v p o f = go (ℕ-discrete (firstNo front) 0)
   where
     last : List Asked
     last = asksGiving Solution answer (s ∷ []) ∷ []
@@ -107,19 +112,22 @@ state-back front answer s p o f = go (ℕ-discrete (firstNo front) 0)
     earlier : (q : ℕ) → q < 256 → (q ≡ 9 → ⊥) → (q ≡ 0 → ⊥) → stateReply (code (refused q [])) ≡ refused q []
     earlier q l other n =
         let e : q % 256 ≡ q = omega arith in
-        rw (e, ne-eqb q 9 other) (sym (numbered-some q [] n))
+        rw (e, ne-eqb q 9 other) (sym (numbered-some q (q / 256 ∷ []) n))
 
-    asked-last : (b : Bool) → s < 4294967296
-        → stateReply (code (reply (asksGiving Solution b (s ∷ []) ∷ []) [])) ≡ reply (asksGiving Solution b (s ∷ []) ∷ []) []
-    asked-last true l = refl
-    asked-last false l =
+    asked-last : (b : Bool) → s < 4294967296 → v < 4294967296
+        → stateReply (code (reply (asksGiving Solution b (s ∷ []) ∷ []) (v ∷ []))) ≡ reply (asksGiving Solution b (s ∷ []) ∷ []) (v ∷ [])
+    asked-last true l m =
+        let e : 256 * v % 256 ≡ 0 = omega arith in
+        let d : 256 * v / 256 ≡ v = omega arith in
+        rw (narrow-small v m, e, d)
+    asked-last false l m =
         let n : (9 + 256 * s) % 256 ≡ 9 = omega arith in
-        let v : (9 + 256 * s) / 256 ≡ s = omega arith in
-        rw (narrow-small s l, n, v)
+        let d : (9 + 256 * s) / 256 ≡ s = omega arith in
+        rw (narrow-small s l, n, d)
 
-    go : Dec (firstNo front ≡ 0) → stateReply (code (reply (front ++ last) [])) ≡ reply (front ++ last) []
-    go (yes z) = rw (← reply-behind front last [] z) (asked-last answer (f z))
-    go (no n) = rw (← reply-stops front last [] p n) (earlier (firstNo front) (first-small front) o n)
+    go : Dec (firstNo front ≡ 0) → stateReply (code (reply (front ++ last) (v ∷ []))) ≡ reply (front ++ last) (v ∷ [])
+    go (yes z) = rw (← reply-behind front last (v ∷ []) z) (asked-last answer (f z .0) (f z .1))
+    go (no n) = rw (← reply-stops front last (v ∷ []) p n) (earlier (firstNo front) (first-small front) o n)
 
 count-back : (count : ℕ) → count < 4294967296 → countReply (code (accepted (count ∷ []))) ≡ accepted (count ∷ [])
 count-back count h =
@@ -191,19 +199,50 @@ module _ (route U G used : ℕ) where
       go (suc n) l fit = let e : suc n % 256 ≡ suc n = omega arith in rw e
 
 -- ---- the answers of the calls
--- the sum, the product, handed polynomials put into a condition, reading a text, handed Löwenheim
-pub pair-decoded : (U G : ℕ) (a b : List ℕ) (room : ℕ)
-    → plainReply (code (reply (pairQuestions U G a b room) [])) ≡ reply (pairQuestions U G a b room) []
+-- a number of monomials, in a table or in an answer table over letters that question 1 has passed
+count-fits : (U G : ℕ) (t : List ℕ) → lettersFit U G ≡ true → monomialCount (U + G) (present t) < 4294967296
+unfolding monomialCount
+count-fits U G t e =
+    let most : 2 ^ (U + G) ≤ 2 ^ 10 = pow-mono (letters-small U G e) in
+    omega (arith, most, count-most (2 ^ (U + G)) (present t))
+
+total-fits : (U G : ℕ) (t : List ℕ) → lettersFit U G ≡ true → totalCount U (U + G) (held (U + G) t) < 4294967296
+total-fits U G t e =
+    let most : 2 ^ (U + G) ≤ 2 ^ 10 = pow-mono (letters-small U G e) in
+    let all : U * 2 ^ (U + G) ≤ 6 * 2 ^ 10 = mul-le-mul (unknowns-small U G e) most in
+    omega (arith, all, total-most U (U + G) (held (U + G) t))
+
+-- the sum and the product, handed polynomials put into a condition, handed Löwenheim: the number of monomials in what is made
+pub pair-decoded : (U G : ℕ) (a b : List ℕ) (room : ℕ) (made : List ℕ)
+    → valueReply (code (reply (pairQuestions U G a b room) (monomialCount (U + G) (present made) ∷ [])))
+    ≡ reply (pairQuestions U G a b room) (monomialCount (U + G) (present made) ∷ [])
 unfolding pairQuestions bufferQuestions roomQuestions bitQuestions
-pair-decoded U G a b room = plain-back (pairQuestions U G a b room) refl
+pair-decoded U G a b room made =
+    value-back (pairQuestions U G a b room) _ refl (λ z. count-fits U G made (yes-to Letters (lettersFit U G) [] _ z .0))
 
-pub substitute-decoded : (U G : ℕ) (condition handed : List ℕ) (room : ℕ)
-    → plainReply (code (reply (substituteQuestions U G condition handed room) []))
-    ≡ reply (substituteQuestions U G condition handed room) []
+pub substitute-decoded : (U G : ℕ) (condition handed : List ℕ) (room : ℕ) (made : List ℕ)
+    → valueReply (code (reply (substituteQuestions U G condition handed room) (monomialCount (U + G) (present made) ∷ [])))
+    ≡ reply (substituteQuestions U G condition handed room) (monomialCount (U + G) (present made) ∷ [])
 unfolding substituteQuestions bufferQuestions roomQuestions bitQuestions
-substitute-decoded U G condition handed room =
-    plain-back (substituteQuestions U G condition handed room) refl
+substitute-decoded U G condition handed room made =
+    value-back (substituteQuestions U G condition handed room) _ refl (λ z. count-fits U G made (yes-to Letters (lettersFit U G) [] _ z .0))
 
+pub handed-decoded : (U G : ℕ) (fact condition handed : List ℕ) (room : ℕ) (made : List ℕ)
+    → valueReply (code (reply (handedQuestions U G fact condition handed room) (totalCount U (U + G) (held (U + G) made) ∷ [])))
+    ≡ reply (handedQuestions U G fact condition handed room) (totalCount U (U + G) (held (U + G) made) ∷ [])
+unfolding handedQuestions bufferQuestions roomQuestions bitQuestions factQuestions
+handed-decoded U G fact condition handed room made =
+    value-back (handedQuestions U G fact condition handed room) _ refl (λ z. total-fits U G made (yes-to Letters (lettersFit U G) [] _ z .0))
+
+-- which of two answer tables is the shorter, 0 or 1, and the companion, whose code is its number
+pub shorter-decoded : (U G : ℕ) (boole lowenheim : List ℕ)
+    → valueReply (code (reply (shorterQuestions U G boole lowenheim) (digit (lowenheimShorter U G boole lowenheim) ∷ [])))
+    ≡ reply (shorterQuestions U G boole lowenheim) (digit (lowenheimShorter U G boole lowenheim) ∷ [])
+unfolding shorterQuestions bufferQuestions roomQuestions bitQuestions
+shorter-decoded U G boole lowenheim =
+    value-back (shorterQuestions U G boole lowenheim) _ refl (λ z. omega (arith, digit-lt (lowenheimShorter U G boole lowenheim)))
+
+-- the derivative and reading a text, which give no value
 pub derivative-decoded : (U G : ℕ) (t : List ℕ) (S room : ℕ)
     → plainReply (code (reply (derivativeQuestions U G t S room) [])) ≡ reply (derivativeQuestions U G t S room) []
 unfolding derivativeQuestions bufferQuestions roomQuestions bitQuestions
@@ -214,12 +253,6 @@ pub text-decoded : (U G : ℕ) (text : List ℕ) (room : ℕ)
 unfolding textQuestions bufferQuestions roomQuestions bitQuestions
 text-decoded U G text room =
     plain-back (textQuestions U G text room) refl
-
-pub handed-decoded : (U G : ℕ) (fact condition handed : List ℕ) (room : ℕ)
-    → plainReply (code (reply (handedQuestions U G fact condition handed room) [])) ≡ reply (handedQuestions U G fact condition handed room) []
-unfolding handedQuestions bufferQuestions roomQuestions bitQuestions factQuestions
-handed-decoded U G fact condition handed room =
-    plain-back (handedQuestions U G fact condition handed room) refl
 
 -- the value of a table, 0 or 1
 pub value-decoded : (U G : ℕ) (t : List ℕ) (state : State) (choice : Choice)
@@ -241,7 +274,7 @@ written-decoded route U G order fact condition room =
     let a = writable-archivable route U G order fact condition room (written-exactly route U G order fact condition room .0 z) in
     omega (arith, entry-bound route (lentCondition U G order fact condition) (a .letters) (a .of-fact .givens)))
 
--- Boole, the particular solution, own Löwenheim: the state is one of G givens, at most 8
+-- Boole, the particular solution, own Löwenheim: the total, or the state, which is one of G givens, at most 8
 givens-few : (U G : ℕ) → lettersFit U G ≡ true → 2 ^ G ≤ 256
 givens-few U G e = pow-mono (givens-small U G e)
 
@@ -269,11 +302,13 @@ module _ (U G : ℕ) (order fact condition : List ℕ) (room : ℕ) where
       let most = smallest-most (2 ^ G) (λ s. blocked U G (polynomial (lentCondition U G order fact condition)) (record { 0 = s })) in
       omega (arith, most, givens-few U G letters)
 
-  pub solving-decoded : stateReply (code (reply (solvingQuestions U G order fact condition room) []))
-      ≡ reply (solvingQuestions U G order fact condition room) []
+  pub solving-decoded : (made : List ℕ)
+      → stateReply (code (reply (solvingQuestions U G order fact condition room) (totalCount U (U + G) (held (U + G) made) ∷ [])))
+      ≡ reply (solvingQuestions U G order fact condition room) (totalCount U (U + G) (held (U + G) made) ∷ [])
   unfolding before-solution solvingQuestions bufferQuestions roomQuestions bitQuestions factQuestions
-  solving-decoded =
-      state-back before-solution _ _ refl (λ e. omega (arith, e, first-other 9 before-solution refl e)) state-small
+  solving-decoded made =
+      state-back before-solution _ _ _ refl (λ e. omega (arith, e, first-other 9 before-solution refl e))
+      (λ z. (state-small z, total-fits U G made (yes-to Letters (lettersFit U G) [] _ z .0)))
 
 -- reading and the audit: what passes 10, 11, 1, 2, 12, 17, 22 and 23 is an entry of what it holds
 module _ (bs : List ℕ) (are : AreBytes bs) where

@@ -12,8 +12,8 @@ use Rattle.tables.specs.Answered.{Reply, accepted, refused}
 abbrev pub narrow : ℕ → ℕ
 narrow v = v % 4294967296
 
--- the number of the first no, 0 if there is none, in the low byte; above it the first value that the call gives: a value of a table, the
--- state that question 9 names, the length written, the count of entries
+-- the number of the first no, 0 if there is none, in the low byte; above it the first value that the call gives: a value of a table, a
+-- number of monomials, the state that question 9 names, which of two tables, the length written, the count of entries
 abbrev pub code : Reply → ℕ
 code (accepted []) = 0
 code (accepted (v ∷ vs)) = 256 * narrow v
@@ -53,13 +53,13 @@ numbered (suc number) values = refused (suc number) []
 abbrev pub plainReply : ℕ → Reply
 plainReply c = numbered (numberIn c) []
 
--- of one that gives a value: that of a table, or the length written
+-- of one that gives a value: that of a table, a number of monomials, which of two tables, or the length written
 abbrev pub valueReply : ℕ → Reply
 valueReply c = numbered (numberIn c) (valueIn c ∷ [])
 
--- of a solving call: question 9 'also gives the state'
+-- of a solving call: the total of monomials, and question 9 'also gives the state'
 abbrev pub stateReply : ℕ → Reply
-stateReply c = cond (eqb (numberIn c) 9) (refused 9 (valueIn c ∷ [])) (numbered (numberIn c) [])
+stateReply c = cond (eqb (numberIn c) 9) (refused 9 (valueIn c ∷ [])) (numbered (numberIn c) (valueIn c ∷ []))
 
 -- of a walk: 'the count of entries .., or the refusal with the count passed before it'
 abbrev pub countReply : ℕ → Reply

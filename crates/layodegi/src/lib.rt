@@ -1,9 +1,11 @@
 // The library as C and Rust see it: one exported function for each public call, on numbers and byte slices.
 // A slice passes as a pointer and then a length, an order of six bytes and a session of 5,126 as a pointer alone. Each function has the
 // contract of its call, with the answer as a code (`specs/Codes.antt`).
+use calls::Counted;
 use calls::Heading;
 use calls::Outcome;
 use calls::Read;
+use calls::Shorter;
 use calls::Solving;
 use calls::Valued;
 use calls::Verdict;
@@ -15,9 +17,11 @@ ghost use mathlib.Core.Path.{_≡_};
 ghost use mathlib.Core.List.{[], _∷_};
 ghost use Prim.Native.Nat.{_%_, _<_, _≤_};
 ghost use Rattle.tables.specs.Answered.{answered, coded};
+ghost use Rattle.calls.specs.Counted.{counted};
 ghost use Rattle.calls.specs.Operations.{outcome, valued, valueCall, sumCall, productCall, substituteCall, derivativeCall};
 ghost use Rattle.calls.specs.Text.{textCall};
 ghost use Rattle.calls.specs.Solving.{solving, booleCall, particularCall, lowenheimCall, handedCall};
+ghost use Rattle.calls.specs.Shorter.{shorterSaid, shorterRefusal, whichShorterCall};
 ghost use Rattle.calls.specs.Entries.{written, writeCall, stateSaid, reading, readCall, auditCall};
 ghost use Rattle.calls.specs.Walk.{walked, walkCall};
 ghost use Rattle.session_block.specs.Block.{startBlock, addBlock, markBlock, returnBlock};
@@ -39,6 +43,15 @@ fn outcome_code(r: Outcome) -> u64
     }
 }
 
+fn counted_code(r: Counted) -> u64
+    ensures { λ c. ⌜ c ≡ code (counted r) ⌝ }
+{
+    match r {
+        Counted::Monomials(number) => 256 * narrow(number),
+        Counted::Refused(q) => q as u64,
+    }
+}
+
 fn value_code(r: Valued) -> u64
     ensures { λ c. ⌜ c ≡ code (valued r) ⌝ }
 {
@@ -52,11 +65,19 @@ fn solving_code(r: Solving) -> u64
     ensures { λ c. ⌜ c ≡ code (solving r) ⌝ }
 {
     match r {
-        Solving::Said(verdict) => match verdict {
-            Verdict::Solved => 0,
-            Verdict::None(state) => 9 + 256 * narrow(state.0),
-        },
+        Solving::Solved(total) => 256 * narrow(total),
+        Solving::None(state) => 9 + 256 * narrow(state.0),
         Solving::Refused(q) => q as u64,
+    }
+}
+
+fn shorter_code(r: Shorter) -> u64
+    ensures { λ c. ⌜ c ≡ code (shorterSaid r) ⌝ }
+{
+    match r {
+        Shorter::Boole => 0,
+        Shorter::Lowenheim => 256,
+        Shorter::Refused(q) => q as u64,
     }
 }
 
@@ -133,25 +154,25 @@ pub extern "C" fn layodegi_value(
     value_code(operations::value(u, g, table, State(state), Choice(choice)))
 }
 
-// The sum of two tables.
+// The sum of two tables: the code has the number of its monomials.
 #[no_mangle]
 pub extern "C" fn layodegi_sum(u: usize, g: usize, a: &[u8], b: &[u8], out: &mut [u8]) -> u64
     ensures { λ c. ⌜ answered c (now (out .exit) ∷ [])
         ≡ coded code (sumCall u g (now (a .entry)) (now (b .entry)) (now (out .entry))) ⌝ }
 {
-    outcome_code(operations::sum(u, g, a, b, out))
+    counted_code(operations::sum(u, g, a, b, out))
 }
 
-// The product of two tables.
+// The product of two tables: the code has the number of its monomials.
 #[no_mangle]
 pub extern "C" fn layodegi_product(u: usize, g: usize, a: &[u8], b: &[u8], out: &mut [u8]) -> u64
     ensures { λ c. ⌜ answered c (now (out .exit) ∷ [])
         ≡ coded code (productCall u g (now (a .entry)) (now (b .entry)) (now (out .entry))) ⌝ }
 {
-    outcome_code(operations::product(u, g, a, b, out))
+    counted_code(operations::product(u, g, a, b, out))
 }
 
-// Handed polynomials put for the unknowns of a condition.
+// Handed polynomials put for the unknowns of a condition: the code has the number of monomials of what comes out.
 #[no_mangle]
 pub extern "C" fn layodegi_substitute(
     u: usize,
@@ -163,7 +184,7 @@ pub extern "C" fn layodegi_substitute(
     ensures { λ c. ⌜ answered c (now (out .exit) ∷ [])
         ≡ coded code (substituteCall u g (now (condition .entry)) (now (handed .entry)) (now (out .entry))) ⌝ }
 {
-    outcome_code(operations::substitute(u, g, condition, handed, out))
+    counted_code(operations::substitute(u, g, condition, handed, out))
 }
 
 // The derivative of a table by the letters of the mask s.
@@ -190,7 +211,7 @@ pub extern "C" fn layodegi_read_text(u: usize, g: usize, text: &[u8], condition:
     outcome_code(notation::read_text(u, g, text, condition))
 }
 
-// Boole's answers.
+// Boole's answers: the code has the total of their monomials.
 #[no_mangle]
 pub extern "C" fn layodegi_boole(
     u: usize,
@@ -206,7 +227,7 @@ pub extern "C" fn layodegi_boole(
     solving_code(solver::boole(u, g, *order, fact, condition, answers))
 }
 
-// The particular solution.
+// The particular solution: the code has the total of its monomials.
 #[no_mangle]
 pub extern "C" fn layodegi_particular(
     u: usize,
@@ -222,7 +243,7 @@ pub extern "C" fn layodegi_particular(
     solving_code(solver::particular(u, g, *order, fact, condition, answers))
 }
 
-// Löwenheim's answers from the particular solution.
+// Löwenheim's answers from the particular solution: the code has the total of their monomials.
 #[no_mangle]
 pub extern "C" fn layodegi_lowenheim(
     u: usize,
@@ -238,7 +259,7 @@ pub extern "C" fn layodegi_lowenheim(
     solving_code(solver::lowenheim(u, g, *order, fact, condition, answers))
 }
 
-// Löwenheim's formula on handed polynomials that solve the condition.
+// Löwenheim's formula on handed polynomials that solve the condition: the code has the total of the answers' monomials.
 #[no_mangle]
 pub extern "C" fn layodegi_lowenheim_handed(
     u: usize,
@@ -251,7 +272,28 @@ pub extern "C" fn layodegi_lowenheim_handed(
     ensures { λ c. ⌜ answered c (now (answers .exit) ∷ [])
         ≡ coded code (handedCall u g (now (fact .entry)) (now (condition .entry)) (now (handed .entry)) (now (answers .entry))) ⌝ }
 {
-    outcome_code(solver::lowenheim_handed(u, g, fact, condition, handed, answers))
+    counted_code(solver::lowenheim_handed(u, g, fact, condition, handed, answers))
+}
+
+// The companion of the shorter of two answer tables: the number of the first no, or 0.
+#[no_mangle]
+pub extern "C" fn layodegi_shorter_refusal(
+    u: usize,
+    g: usize,
+    boole: &[u8],
+    lowenheim: &[u8],
+) -> u64
+    ensures { λ c. ⌜ c ≡ shorterRefusal u g (now (boole .entry)) (now (lowenheim .entry)) ⌝ }
+{
+    shorter::shorter_refusal(u, g, boole, lowenheim) as u64
+}
+
+// Which of two answer tables is the shorter: the code has 0 for Boole's, 1 for Löwenheim's. An exported function cannot hand back a part.
+#[no_mangle]
+pub extern "C" fn layodegi_which_shorter(u: usize, g: usize, boole: &[u8], lowenheim: &[u8]) -> u64
+    ensures { λ c. ⌜ answered c [] ≡ coded code (whichShorterCall u g (now (boole .entry)) (now (lowenheim .entry))) ⌝ }
+{
+    shorter_code(shorter::which_shorter(u, g, boole, lowenheim))
 }
 
 // Writes the entry of a condition under a fact: the code has its length.

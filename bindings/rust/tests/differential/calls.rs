@@ -4,9 +4,8 @@
 use crate::lent::{Case, Lent};
 use crate::sessions::take_step;
 use crate::tally::Tally;
-use layodegi::{
-    raw, Answer, Choice, Entry, Letters, Mask, Name, Order, Refusal, Session, State, Step, Stopped,
-};
+use layodegi::{raw, Answer, Choice, Entry, Letters, Mask, Name, Order, Refusal, Session};
+use layodegi::{Solution, State, Step, Stopped};
 use reference::cases::sessions::Event;
 use reference::cases::Random;
 use reference::{Contents, Count, Reading, Solved, Walk};
@@ -21,8 +20,8 @@ pub struct Calls {
 /// A call on letters and some tables, as the archive, the wrapper and the reference have it.
 type RawPair =
     unsafe extern "C" fn(usize, usize, *const u8, usize, *const u8, usize, *mut u8, usize) -> u64;
-type SafePair = fn(Letters, &[u8], &[u8], &mut [u8]) -> Result<(), Refusal>;
-type ReferencePair = fn(u64, u64, &[u8], &[u8], &mut [u8]) -> Result<(), reference::Refusal>;
+type SafePair = fn(Letters, &[u8], &[u8], &mut [u8]) -> Result<usize, Refusal>;
+type ReferencePair = fn(u64, u64, &[u8], &[u8], &mut [u8]) -> Result<usize, reference::Refusal>;
 type RawSolving = unsafe extern "C" fn(
     usize,
     usize,
@@ -34,7 +33,7 @@ type RawSolving = unsafe extern "C" fn(
     *mut u8,
     usize,
 ) -> u64;
-type SafeSolving = fn(Letters, Order, &[u8], &[u8], &mut [u8]) -> Result<Answer, Refusal>;
+type SafeSolving = fn(Letters, Order, &[u8], &[u8], &mut [u8]) -> Result<Solution, Refusal>;
 type ReferenceSolving =
     fn(u64, u64, reference::Order, &[u8], &[u8], &mut [u8]) -> Result<Solved, reference::Refusal>;
 
@@ -158,7 +157,7 @@ impl Calls {
             (call.name, &[u, g]),
             [a, b],
             [out],
-            |[a, b], [out]| done((call.reference)(u, g, a, b, out)),
+            |[a, b], [out]| number((call.reference)(u, g, a, b, out)),
             |[a, b], [out]| unsafe {
                 (call.raw)(
                     u as usize,
@@ -245,7 +244,7 @@ impl Calls {
             [fact, condition, handed],
             [answers],
             |[fact, condition, handed], [answers]| {
-                done(reference::lowenheim_handed(u, g, fact, condition, handed, answers))
+                number(reference::lowenheim_handed(u, g, fact, condition, handed, answers))
             },
             |[fact, condition, handed], [answers]| unsafe {
                 raw::layodegi_lowenheim_handed(
@@ -263,6 +262,40 @@ impl Calls {
             },
             |[fact, condition, handed], [answers]| {
                 layodegi::lowenheim_handed(letters(u, g), fact, condition, handed, answers)
+            },
+        );
+    }
+
+    /// The companion's number is to be the refusal's: it stands above the code, as no code has
+    /// anything there.
+    pub fn shorter(&mut self, u: u64, g: u64, boole: &[u8], lowenheim: &[u8]) {
+        self.case(
+            ("shorter", &[u, g]),
+            [boole, lowenheim],
+            [],
+            |lent, []| part(reference::shorter(u, g, lent[0], lent[1]), lent),
+            |[boole, lowenheim], []| unsafe {
+                let which = raw::layodegi_which_shorter(
+                    u as usize,
+                    g as usize,
+                    boole.as_ptr(),
+                    boole.len(),
+                    lowenheim.as_ptr(),
+                    lowenheim.len(),
+                );
+                let refusal = raw::layodegi_shorter_refusal(
+                    u as usize,
+                    g as usize,
+                    boole.as_ptr(),
+                    boole.len(),
+                    lowenheim.as_ptr(),
+                    lowenheim.len(),
+                );
+                which.wrapping_add(refusal << ABOVE)
+            },
+            |lent, []| {
+                let shorter = layodegi::shorter(letters(u, g), lent[0], lent[1])?;
+                Ok(Part::of(shorter, lent))
             },
         );
     }
@@ -457,18 +490,58 @@ fn done(answer: Result<(), reference::Refusal>) -> (u64, Result<(), Refusal>) {
     answer.map_or_else(refused, |()| (0, Ok(())))
 }
 
-/// A value or a length.
+/// A value, a length or a number of monomials.
 fn number<T: Copy + TryInto<u64, Error: Debug>>(
     answer: Result<T, reference::Refusal>,
 ) -> (u64, Result<T, Refusal>) {
     answer.map_or_else(refused, |number| (256 * number.try_into().unwrap(), Ok(number)))
 }
 
-fn solved(answer: Result<Solved, reference::Refusal>) -> (u64, Result<Answer, Refusal>) {
+fn solved(answer: Result<Solved, reference::Refusal>) -> (u64, Result<Solution, Refusal>) {
     answer.map_or_else(refused, |solved| match solved {
-        Solved::Done => (0, Ok(Answer::Solved)),
-        Solved::None(state) => (9 + 256 * state.0, Ok(Answer::None(State(state.0 as usize)))),
+        Solved::Done { monomials } => (256 * monomials as u64, Ok(Solution::Solved { monomials })),
+        Solved::None(state) => (9 + 256 * state.0, Ok(Solution::None(State(state.0 as usize)))),
     })
+}
+
+/// The bits of a code below those that hold the number of the shorter call's companion.
+const ABOVE: u32 = 40;
+
+/// What is handed back of two lent tables: of which one, from where in it on, and its bytes.
+#[derive(Debug, PartialEq)]
+struct Part {
+    table: usize,
+    from: usize,
+    bytes: Vec<u8>,
+}
+
+impl Part {
+    /// By its address: a copy of a lent table is no part of it.
+    fn of(part: &[u8], lent: [&[u8]; 2]) -> Part {
+        let from = |table: &[u8]| part.as_ptr().addr().checked_sub(table.as_ptr().addr());
+        let inside = |table: &[u8]| from(table).filter(|&from| from + part.len() <= table.len());
+        let mut found = lent.into_iter().map(inside).enumerate();
+        match found.find_map(|(table, from)| Some((table, from?))) {
+            Some((table, from)) => Part { table, from, bytes: part.to_vec() },
+            None => panic!("{part:?} is no part of what was lent"),
+        }
+    }
+}
+
+fn part(
+    answer: Result<&[u8], reference::Refusal>,
+    lent: [&[u8]; 2],
+) -> (u64, Result<Part, Refusal>) {
+    match answer {
+        Ok(shorter) => {
+            let part = Part::of(shorter, lent);
+            (256 * part.table as u64, Ok(part))
+        }
+        Err(refusal) => {
+            let (number, answer) = refused(refusal);
+            (number + (number << ABOVE), answer)
+        }
+    }
 }
 
 fn entry(answer: Result<Reading, reference::Refusal>) -> (u64, Result<Entry, Refusal>) {

@@ -8,7 +8,7 @@ use reference::cases::entries::{
 };
 use reference::cases::facts::{leaving_out, no_fact, wrong_facts};
 use reference::cases::orders::{default_order, every_order, reverse_order, wrong_orders};
-use reference::cases::{bench_tables, pairs, Random};
+use reference::cases::{bench_tables, ones, pairs, Random};
 use reference::plain::{self, transform};
 
 pub fn run_writing() -> Calls {
@@ -170,7 +170,8 @@ fn other_answers(random: &mut Random, u: u64, g: u64, fact: &[u8], table: &[u8])
     let mut answers = vec![0; u as usize * table.len()];
     let mut all = vec![built(order, route, u, g, fact, table, &answers)];
     for method in [reference::lowenheim, reference::particular, reference::boole] {
-        if method(u, g, order, fact, table, &mut answers) == Ok(reference::Solved::Done) {
+        let solved = method(u, g, order, fact, table, &mut answers);
+        if matches!(solved, Ok(reference::Solved::Done { .. })) {
             all.push(built(order, route, u, g, fact, table, &answers));
         }
     }
@@ -280,9 +281,9 @@ fn long_conditions(random: &mut Random) -> Vec<Vec<u8>> {
 fn long_condition(random: &mut Random) -> Vec<u8> {
     let (fact, mut answers) = (every_monomial(6, 4), vec![0; 6 * 1024]);
     let mut length = |table: &[u8]| {
-        let ones = |table: &[u8]| table.iter().filter(|&&byte| byte == 1).count();
-        match plain::boole::<u64>(6, 4, reverse_order(6), &fact, table, &mut answers) {
-            Ok(reference::Solved::Done) => 3 * ones(table) + 4 * ones(&answers),
+        let solved = plain::boole::<u64>(6, 4, reverse_order(6), &fact, table, &mut answers);
+        match solved {
+            Ok(reference::Solved::Done { monomials }) => 3 * ones(table) + 4 * monomials,
             _ => 0,
         }
     };

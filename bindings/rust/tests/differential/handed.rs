@@ -3,7 +3,7 @@
 
 use crate::calls::Calls;
 use crate::making::{damage, garbage, result, under_fact, wrong_letters};
-use reference::cases::facts::{counted, no_fact, wrong_facts};
+use reference::cases::facts::{counted, no_fact, one, wrong_facts};
 use reference::cases::handed::{NEARLY, ROWS, SOLVING};
 use reference::cases::{bench_tables, every_table, pairs, tables_of, Random};
 
@@ -32,6 +32,7 @@ pub fn run() -> Calls {
             any_one(&mut calls, random, (u, g), fact, condition);
         }
         every_kind(&mut calls, random, u, g);
+        longest(&mut calls, random, u, g);
         damaged_before_21(&mut calls, random, u, g);
     }
     calls
@@ -97,6 +98,14 @@ fn every_kind(calls: &mut Calls, random: &mut Random, u: u64, g: u64) {
         random.change_monomial(&mut handed);
         calls.lowenheim_handed(u, g, &fact, &condition, &handed, &result(random, handed.len()));
     }
+}
+
+/// The condition with every monomial, which is 1 where all letters are 0, and 1 handed for each unknown:
+/// the answer to each has every monomial but one.
+fn longest(calls: &mut Calls, random: &mut Random, u: u64, g: u64) {
+    let handed = one(u, g).repeat(u as usize);
+    let answers = garbage(random, handed.len());
+    calls.lowenheim_handed(u, g, &no_fact(u, g), &vec![1; 1 << (u + g)], &handed, &answers);
 }
 
 /// Polynomials that do not solve, as the condition has no solution, beside a fact, a table or a buffer

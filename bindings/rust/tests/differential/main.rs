@@ -8,6 +8,7 @@ mod handed;
 mod lent;
 mod making;
 mod sessions;
+mod shorter;
 mod solving;
 mod tables;
 mod tally;
@@ -30,6 +31,7 @@ fn main() -> ExitCode {
         solving::run_particular,
         solving::run_lowenheim,
         handed::run,
+        shorter::run,
         entries::run_writing,
         entries::run_reading,
         entries::run_audits,

@@ -7,7 +7,7 @@ const LEAST_CASES: usize = 4_000;
 const LEAST_NOES: usize = 50;
 
 /// The calls, with the questions that each asks, in the papers' order.
-pub const QUESTIONS: [(&str, &[u8]); 18] = [
+pub const QUESTIONS: [(&str, &[u8]); 19] = [
     ("read_text", &[1, 3, 4, 5, 6, 7]),
     ("value", &[1, 4, 8, 16]),
     ("sum", &[1, 4, 8]),
@@ -18,6 +18,7 @@ pub const QUESTIONS: [(&str, &[u8]); 18] = [
     ("particular", &[1, 17, 4, 8, 22, 23, 9]),
     ("lowenheim", &[1, 17, 4, 8, 22, 23, 9]),
     ("lowenheim_handed", &[1, 4, 8, 22, 23, 21]),
+    ("shorter", &[1, 4, 8]),
     ("write_entry", &[1, 2, 17, 4, 8, 22, 23, 14]),
     ("read_entry", &[10, 11, 1, 2, 12, 17, 22, 23, 4]),
     ("audit", &[10, 11, 1, 2, 12, 17, 22, 23, 13]),

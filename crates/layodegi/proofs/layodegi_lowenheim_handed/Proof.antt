@@ -7,7 +7,7 @@ use Rattle.layodegi.proofs.layodegi_lowenheim_handed.Statement.{stateme
 use Rattle.layodegi.proofs.layodegi_lowenheim_handed.Tie as tie
 
 returns : tie.Need-returns
-returns c = coded-call code (c .outcome-code .ensures) (c .before .before .before .lowenheim-handed .ensures)
+returns c = coded-call code (c .counted-code .ensures) (c .before .before .before .lowenheim-handed .ensures)
 
 pub layodegi-lowenheim-handed-spec : {M : Type 1} → statement M
 layodegi-lowenheim-handed-spec = tie.close (tie.spec (λ c κs. search needs) (λ c κs. search needs) (λ c. search needs) returns)

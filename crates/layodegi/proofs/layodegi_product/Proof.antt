@@ -7,7 +7,7 @@ use Rattle.layodegi.proofs.layodegi_product.Statement.{statement}
 use Rattle.layodegi.proofs.layodegi_product.Tie as tie
 
 returns : tie.Need-returns
-returns c = coded-call code (c .outcome-code .ensures) (c .before .before .before .product .ensures)
+returns c = coded-call code (c .counted-code .ensures) (c .before .before .before .product .ensures)
 
 pub layodegi-product-spec : {M : Type 1} → statement M
 layodegi-product-spec = tie.close (tie.spec (λ c κs. search needs) (λ c κs. search needs) (λ c. search needs) returns)

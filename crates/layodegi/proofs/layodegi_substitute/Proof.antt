@@ -7,7 +7,7 @@ use Rattle.layodegi.proofs.layodegi_substitute.Statement.{statement}
 use Rattle.layodegi.proofs.layodegi_substitute.Tie as tie
 
 returns : tie.Need-returns
-returns c = coded-call code (c .outcome-code .ensures) (c .before .before .before .substitute .ensures)
+returns c = coded-call code (c .counted-code .ensures) (c .before .before .before .substitute .ensures)
 
 pub layodegi-substitute-spec : {M : Type 1} → statement M
 layodegi-substitute-spec = tie.close (tie.spec (λ c κs. search needs) (λ c κs. search needs) (λ c. search needs) returns)

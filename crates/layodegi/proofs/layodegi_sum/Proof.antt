@@ -7,7 +7,7 @@ use Rattle.layodegi.proofs.layodegi_sum.Statement.{statement}
 use Rattle.layodegi.proofs.layodegi_sum.Tie as tie
 
 returns : tie.Need-returns
-returns c = coded-call code (c .outcome-code .ensures) (c .before .before .before .sum .ensures)
+returns c = coded-call code (c .counted-code .ensures) (c .before .before .before .sum .ensures)
 
 pub layodegi-sum-spec : {M : Type 1} → statement M
 layodegi-sum-spec = tie.close (tie.spec (λ c κs. search needs) (λ c κs. search needs) (λ c. search needs) returns)
