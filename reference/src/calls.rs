@@ -32,28 +32,27 @@ pub fn value(u: u64, g: u64, table: &[u8], state: State, choice: Choice) -> Resu
     Ok(lent(table, letters).value(letters.point(state, choice)))
 }
 
-/// The sum of two tables. Questions 1, 4, 8.
-pub fn sum(u: u64, g: u64, a: &[u8], b: &[u8], result: &mut [u8]) -> Result<(), Refusal> {
+/// The sum of two tables, and the number of monomials present in it. Questions 1, 4, 8.
+pub fn sum(u: u64, g: u64, a: &[u8], b: &[u8], result: &mut [u8]) -> Result<usize, Refusal> {
     let letters = ask_two_tables(u, g, a, b, result)?;
-    fill(result, letters, &[lent(a, letters).sum(&lent(b, letters))]);
-    Ok(())
+    Ok(fill_counted(result, letters, &[lent(a, letters).sum(&lent(b, letters))]))
 }
 
-/// The product of two tables. Questions 1, 4, 8.
-pub fn product(u: u64, g: u64, a: &[u8], b: &[u8], result: &mut [u8]) -> Result<(), Refusal> {
+/// The product of two tables, and the number of monomials present in it. Questions 1, 4, 8.
+pub fn product(u: u64, g: u64, a: &[u8], b: &[u8], result: &mut [u8]) -> Result<usize, Refusal> {
     let letters = ask_two_tables(u, g, a, b, result)?;
-    fill(result, letters, &[lent(a, letters).product(&lent(b, letters))]);
-    Ok(())
+    Ok(fill_counted(result, letters, &[lent(a, letters).product(&lent(b, letters))]))
 }
 
-/// Handed polynomials put into a condition. Questions 1, 4, 8.
+/// Handed polynomials put into a condition, and the number of monomials present in the result.
+/// Questions 1, 4, 8.
 pub fn substitute(
     u: u64,
     g: u64,
     condition: &[u8],
     handed: &[u8],
     result: &mut [u8],
-) -> Result<(), Refusal> {
+) -> Result<usize, Refusal> {
     let letters = ask_letters(u, g)?;
     ask_length(condition, letters.table_length())?;
     ask_length(handed, letters.answer_length())?;
@@ -61,8 +60,7 @@ pub fn substitute(
     ask_bytes(condition, letters.table_length())?;
     ask_bytes(handed, letters.answer_length())?;
     let f = lent(condition, letters);
-    fill(result, letters, &[f.substitute(&lent_answers(handed, letters))]);
-    Ok(())
+    Ok(fill_counted(result, letters, &[f.substitute(&lent_answers(handed, letters))]))
 }
 
 /// The vectorial derivative of a table by a set S of letters: f plus f with every letter of S
@@ -78,7 +76,8 @@ pub fn derivative(u: u64, g: u64, table: &[u8], s: u64, result: &mut [u8]) -> Re
     Ok(())
 }
 
-/// Boole's answer under a fact, the unknowns going in an order. Questions 1, 17, 4, 8, 22, 23, 9.
+/// Boole's answer under a fact, the unknowns going in an order, and the total of its monomials.
+/// Questions 1, 17, 4, 8, 22, 23, 9.
 pub fn boole(
     u: u64,
     g: u64,
@@ -90,7 +89,7 @@ pub fn boole(
     solve(u, g, order, fact, condition, answers, solve_boole)
 }
 
-/// The particular solution. Questions 1, 17, 4, 8, 22, 23, 9.
+/// The particular solution, and the total of its monomials. Questions 1, 17, 4, 8, 22, 23, 9.
 pub fn particular(
     u: u64,
     g: u64,
@@ -102,7 +101,8 @@ pub fn particular(
     solve(u, g, order, fact, condition, answers, solve_particular)
 }
 
-/// The engine's own Löwenheim answer. Questions 1, 17, 4, 8, 22, 23, 9.
+/// The engine's own Löwenheim answer, and the total of its monomials.
+/// Questions 1, 17, 4, 8, 22, 23, 9.
 pub fn lowenheim(
     u: u64,
     g: u64,
@@ -114,8 +114,9 @@ pub fn lowenheim(
     solve(u, g, order, fact, condition, answers, solve_lowenheim)
 }
 
-/// Löwenheim's formula with handed polynomials that make f*(1 + g) zero: a general solution. They may
-/// mention unknowns. Questions 1, 4, 8, 22, 23, 21.
+/// Löwenheim's formula with handed polynomials that make f*(1 + g) zero: a general solution, and the
+/// total of its monomials over the unknowns. What is handed may mention unknowns.
+/// Questions 1, 4, 8, 22, 23, 21.
 pub fn lowenheim_handed(
     u: u64,
     g: u64,
@@ -123,7 +124,7 @@ pub fn lowenheim_handed(
     condition: &[u8],
     handed: &[u8],
     answers: &mut [u8],
-) -> Result<(), Refusal> {
+) -> Result<usize, Refusal> {
     let letters = ask_letters(u, g)?;
     ask_length(fact, letters.table_length())?;
     ask_length(condition, letters.table_length())?;
@@ -133,8 +134,27 @@ pub fn lowenheim_handed(
     let f = ask_under_fact(letters, fact, condition)?.counted();
     let b = lent_answers(handed, letters);
     ask_makes_zero(&f, &b)?;
-    fill(answers, letters, &formula(letters, &f, &b));
-    Ok(())
+    Ok(fill_counted(answers, letters, &formula(letters, &f, &b)))
+}
+
+/// Of Boole's and Löwenheim's answer tables the shorter, the one with fewer monomials over all
+/// unknowns: the lent table itself, cut to U times 2^n bytes. Boole's if the totals tie.
+/// Questions 1, 4, 8.
+pub fn shorter<'a>(
+    u: u64,
+    g: u64,
+    boole: &'a [u8],
+    lowenheim: &'a [u8],
+) -> Result<&'a [u8], Refusal> {
+    let letters = ask_letters(u, g)?;
+    let length = letters.answer_length();
+    ask_length(boole, length)?;
+    ask_length(lowenheim, length)?;
+    ask_bytes(boole, length)?;
+    ask_bytes(lowenheim, length)?;
+    let monomials = |tables: &[u8]| total(&lent_answers(tables, letters));
+    let is_boole = monomials(boole) <= monomials(lowenheim);
+    Ok(&(if is_boole { boole } else { lowenheim })[..length])
 }
 
 fn solve(
@@ -153,8 +173,7 @@ fn solve(
     ask_length(answers, letters.answer_length())?;
     match method(letters, &unknowns, &ask_under_fact(letters, fact, condition)?) {
         Solution::Answers(polynomials) => {
-            fill(answers, letters, &polynomials);
-            Ok(Solved::Done)
+            Ok(Solved::Done { monomials: fill_counted(answers, letters, &polynomials) })
         }
         Solution::None(state) => Ok(Solved::None(state)),
     }
@@ -208,4 +227,15 @@ pub fn fill(buffer: &mut [u8], letters: Letters, polynomials: &[Polynomial]) {
     for (place, polynomial) in buffer.chunks_mut(length).zip(polynomials) {
         place.copy_from_slice(&polynomial.to_table(length));
     }
+}
+
+/// The same, and the total of their monomials.
+fn fill_counted(buffer: &mut [u8], letters: Letters, polynomials: &[Polynomial]) -> usize {
+    fill(buffer, letters, polynomials);
+    total(polynomials)
+}
+
+/// The monomials present in polynomials, counted over all of them.
+fn total(polynomials: &[Polynomial]) -> usize {
+    polynomials.iter().map(Polynomial::count).sum()
 }

@@ -1,6 +1,7 @@
 //! What test cases are made from: random numbers, tables, bounds, orders, facts, handed polynomials,
-//! sessions and bench rows.
+//! answers, sessions and bench rows.
 
+pub mod answers;
 pub mod entries;
 pub mod facts;
 pub mod handed;
@@ -111,6 +112,11 @@ impl Random {
 /// Every table of so many bytes.
 pub fn every_table(length: usize) -> impl Iterator<Item = Vec<u8>> {
     (0..1usize << length).map(move |bits| (0..length).map(|m| (bits >> m & 1) as u8).collect())
+}
+
+/// The bytes that are 1, counted one by one: the monomials present in tables.
+pub fn ones(tables: &[u8]) -> usize {
+    tables.iter().filter(|&&byte| byte == 1).count()
 }
 
 /// The tables of texts one after another.

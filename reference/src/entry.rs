@@ -213,7 +213,7 @@ fn records_to_end(bytes: &[u8]) -> Option<Vec<Record>> {
     }
 }
 
-/// 11. One kind 1; at most one kind 6; kind 7; kind 2; kind 3 or one kind 5; one kind 4; both routes
+/// 11: one kind 1; at most one kind 6; kind 7; kind 2; kind 3 or one kind 5; one kind 4; both routes
 /// equal.
 fn ask_kinds(records: &[Record]) -> Result<(u8, u8, u8), Refusal> {
     let [Record::Start(route, u, g), inner @ .., Record::End(again)] = records else {
@@ -233,7 +233,7 @@ fn ask_kinds(records: &[Record]) -> Result<(u8, u8, u8), Refusal> {
     Ok((*route, *u, *g))
 }
 
-/// 12. Masks below 2^n, unknowns below U, the state below 2^G, all in order, none twice; and no
+/// 12: masks below 2^n, unknowns below U, the state below 2^G, all in order, none twice; and no
 /// kind 6 with the order 0, 1, 2 and so on.
 fn are_numbers_right(letters: Letters, records: &[Record]) -> bool {
     let right = records.iter().all(|record| match *record {

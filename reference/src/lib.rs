@@ -1,7 +1,7 @@
 //! A plain implementation of document 01, the thirty-year route volume, and of
 //! requests C-11, the order of elimination, C-12, named design states, C-13,
-//! contacts flipped together, C-15, handed solutions that do not solve, and C-16,
-//! facts that leave states out, of document 02.
+//! contacts flipped together, C-15, handed solutions that do not solve, C-16,
+//! facts that leave states out, and C-17, counts of monomials, of document 02.
 //!
 //! Written from the papers alone, to test the engine against: polynomials are
 //! sets of monomials and every step is worked out in the papers' own words.
@@ -21,8 +21,8 @@ mod solution;
 mod text;
 
 pub use calls::{
-    boole, derivative, lowenheim, lowenheim_handed, particular, product, read_text, substitute,
-    sum, value,
+    boole, derivative, lowenheim, lowenheim_handed, particular, product, read_text, shorter,
+    substitute, sum, value,
 };
 pub use entry::{audit, read_entry, write_entry, Contents, Count, Reading, Walk};
 pub use polynomial::Polynomial;

@@ -8,6 +8,7 @@
 mod block;
 mod bytes;
 mod calls;
+mod counts;
 mod entry;
 mod fact;
 mod hexadecimal;
@@ -22,8 +23,8 @@ mod written;
 pub use block::Block;
 pub use bytes::{transform, Bytes};
 pub use calls::{
-    boole, derivative, lowenheim, lowenheim_handed, particular, product, read_text, substitute,
-    sum, value,
+    boole, derivative, lowenheim, lowenheim_handed, particular, product, product_uncounted,
+    read_text, shorter, substitute, sum, value,
 };
 pub use entry::{audit, read_entry, walk, write_entry};
 pub use session::{add_condition, mark, return_to};

@@ -36,6 +36,11 @@ impl Polynomial {
         self.0.is_empty()
     }
 
+    /// The number of monomials present.
+    pub fn count(&self) -> usize {
+        self.0.len()
+    }
+
     pub fn masks(&self) -> impl Iterator<Item = u16> + '_ {
         self.0.iter().copied()
     }

@@ -14,7 +14,8 @@ pub enum Solution {
 /// What a solving call gives when it is not refused.
 #[derive(Clone, Copy, Debug, PartialEq, Eq)]
 pub enum Solved {
-    Done,
+    /// The total of monomials in the answers.
+    Done { monomials: usize },
     /// The no of question 9.
     None(State),
 }

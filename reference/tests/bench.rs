@@ -1,6 +1,7 @@
 //! The rows of the bench table, the slips to shut out, and the two programs.
 
 use reference::cases::facts::no_fact;
+use reference::cases::ones;
 use reference::cases::orders::{every_order, wrong_orders};
 use reference::*;
 
@@ -38,11 +39,13 @@ fn assert_answers_in(
     let tables =
         |texts: &[&str]| -> Vec<u8> { texts.iter().flat_map(|t| condition(u, g, t)).collect() };
     let mut answers = vec![7; u as usize * table.len()];
-    assert_eq!(boole(u, g, order, &no_fact(u, g), &table, &mut answers), Ok(Solved::Done));
+    let solved = boole(u, g, order, &no_fact(u, g), &table, &mut answers);
     assert_eq!(answers, tables(boole_texts), "{text}");
+    assert_eq!(solved, Ok(Solved::Done { monomials: ones(&answers) }));
     if !lowenheim_texts.is_empty() {
-        assert_eq!(lowenheim(u, g, order, &no_fact(u, g), &table, &mut answers), Ok(Solved::Done));
+        let solved = lowenheim(u, g, order, &no_fact(u, g), &table, &mut answers);
         assert_eq!(answers, tables(lowenheim_texts), "{text}");
+        assert_eq!(solved, Ok(Solved::Done { monomials: ones(&answers) }));
     }
 }
 

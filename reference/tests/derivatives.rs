@@ -1,7 +1,9 @@
 //! The vectorial derivative against the values before and after the flip, point by point; the laws
 //! of request C-13; rows by hand; and refusals.
 
-use reference::cases::{every_table, pairs, tables_of, values_of, Random, TOO_LARGE, UNDECLARED};
+use reference::cases::{
+    every_table, ones, pairs, tables_of, values_of, Random, TOO_LARGE, UNDECLARED,
+};
 use reference::plain::{self, transform, Block, Bytes};
 use reference::*;
 
@@ -13,7 +15,8 @@ fn derivative_of(u: u64, g: u64, table: &[u8], s: u64) -> Vec<u8> {
 
 fn sum_of(u: u64, g: u64, a: &[u8], b: &[u8]) -> Vec<u8> {
     let mut result = vec![7; 1 << (u + g)];
-    assert_eq!(sum(u, g, a, b, &mut result), Ok(()));
+    let count = sum(u, g, a, b, &mut result);
+    assert_eq!(count, Ok(ones(&result)));
     result
 }
 

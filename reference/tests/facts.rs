@@ -9,7 +9,7 @@ use reference::cases::entries::{entry_in, entry_under, split};
 use reference::cases::facts::{counted, leaving_out, no_fact, one, wrong_facts, ROWS};
 use reference::cases::handed::{NEARLY, SOLVING};
 use reference::cases::orders::default_order;
-use reference::cases::{every_table, pairs, tables_of, values_of, Random};
+use reference::cases::{every_table, ones, pairs, tables_of, values_of, Random};
 use reference::*;
 
 type Method = fn(u64, u64, Order, &[u8], &[u8], &mut [u8]) -> Result<Solved, Refusal>;
@@ -34,8 +34,9 @@ fn rows_by_hand() {
         let (answer, answers) = solved(boole, (u, g, default_order(u)), &fact, &table);
         match expected {
             Ok(texts) => {
-                assert_eq!(answer, Ok(Solved::Done), "{condition}");
                 assert_eq!(answers, tables_of(u, g, texts), "{condition}");
+                let monomials = ones(&answers);
+                assert_eq!(answer, Ok(Solved::Done { monomials }), "{condition}");
             }
             Err(state) => assert_eq!(answer, Ok(Solved::None(State(state))), "{condition}"),
         }
@@ -159,7 +160,7 @@ fn every_fact_with_every_condition() {
                 assert_eq!(answer, Ok(Solved::None(State(state as u64))));
                 continue;
             }
-            assert_eq!(answer, Ok(Solved::Done));
+            assert_eq!(answer, Ok(Solved::Done { monomials: ones(&answers) }));
             for (point, &choice) in values_of(u, g, &answers).iter().enumerate() {
                 let led_to = point & !1 | choice as usize;
                 assert!(left_out[point] == 1 || values[led_to] == 0);
@@ -338,7 +339,8 @@ fn places_of_the_questions() {
 fn bytes_behind_stay() {
     let (fact, condition) = ([0, 0, 1, 0, 9, 1], [0, 1, 1, 0, 7]);
     let mut answers = [7; 6];
-    assert_eq!(boole(1, 1, default_order(1), &fact, &condition, &mut answers), Ok(Solved::Done));
+    let solved = boole(1, 1, default_order(1), &fact, &condition, &mut answers);
+    assert_eq!(solved, Ok(Solved::Done { monomials: 1 }));
     // u*(1 + a) has no part in state 1
     assert_eq!(answers, [0, 0, 0, 1, 7, 7]);
     for place in 0..4 {
@@ -359,8 +361,8 @@ fn facts_of_every_sort() {
         let mut counts = [0; 3];
         for _ in 0..40 {
             let fact = random.fact(u, g);
-            let (answer, _) = solved(boole, (u, g, default_order(u)), &fact, &condition);
-            assert_eq!(answer, Ok(Solved::Done));
+            let (answer, answers) = solved(boole, (u, g, default_order(u)), &fact, &condition);
+            assert_eq!(answer, Ok(Solved::Done { monomials: ones(&answers) }));
             counts[fact.iter().filter(|&&byte| byte == 1).count().min(2)] += 1;
         }
         assert!(counts[0] > 0 && (g == 0 || counts[1] > 0), "{u} {g} {counts:?}");

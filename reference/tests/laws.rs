@@ -8,13 +8,14 @@ use accepted::accepted_under;
 use common::{all_letters, Random};
 use reference::cases::facts::{counted, no_fact};
 use reference::cases::handed::{NEARLY, SOLVING};
+use reference::cases::ones;
 use reference::cases::orders::{every_order, reverse_order};
 use reference::*;
 use std::collections::HashSet;
 
 type Method = fn(u64, u64, Order, &[u8], &[u8], &mut [u8]) -> Result<Solved, Refusal>;
 
-/// The answer tables, or the state.
+/// The answer tables, whose monomials are counted, or the state.
 fn solved(
     letters: Letters,
     order: Order,
@@ -25,7 +26,10 @@ fn solved(
     let mut answers = vec![7; letters.answer_length()];
     let (u, g) = (letters.unknowns as u64, letters.givens as u64);
     match method(u, g, order, fact, condition, &mut answers).expect("no refusal") {
-        Solved::Done => Ok(answers),
+        Solved::Done { monomials } => {
+            assert_eq!(monomials, ones(&answers));
+            Ok(answers)
+        }
         Solved::None(state) => Err(state),
     }
 }
@@ -183,7 +187,8 @@ fn answers_are_reproductive() {
         let counted = counted(&fact, &condition);
         let put_into = |table: &[u8], handed: &[u8]| {
             let mut result = vec![7; length];
-            assert_eq!(substitute(u, g, table, handed, &mut result), Ok(()));
+            let count = substitute(u, g, table, handed, &mut result);
+            assert_eq!(count, Ok(ones(&result)));
             result
         };
         let orders = match letters.unknowns {

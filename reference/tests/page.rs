@@ -2,6 +2,7 @@
 //! with other facts are those that it derives, the orders and facts that it calls damaged are refused
 //! as it says, and those changes of one byte that it names do not show, and no others.
 
+use reference::cases::ones;
 use reference::*;
 
 /// The bytes of each volume on the page: lines of a number and 16 bytes, the last line fewer.
@@ -89,7 +90,8 @@ fn other_orders_of_route_12() {
         ([0, 1, 2, 255, 255, 255], ["u*w*a", "w*a", "w"]),
         ([2, 1, 0, 255, 255, 255], ["u*a", "u*a+v*a+u*v*a", "w+u*a+v*a+w*a+u*v*a"]),
     ] {
-        assert_eq!(boole(3, 1, Order(order), &fact, &condition, &mut answers), Ok(Solved::Done));
+        let solved = boole(3, 1, Order(order), &fact, &condition, &mut answers);
+        assert_eq!(solved, Ok(Solved::Done { monomials: ones(&answers) }));
         assert_eq!(answers[..], table(texts));
     }
     for (order, number) in [
@@ -132,12 +134,15 @@ fn other_facts_of_route_14() {
     ] {
         let solved = boole(1, 2, order, &table(fact), &table(condition), &mut answer);
         match expected {
-            Ok(text) => assert_eq!((solved, answer), (Ok(Solved::Done), table(text))),
+            Ok(text) => {
+                assert_eq!(answer, table(text));
+                assert_eq!(solved, Ok(Solved::Done { monomials: ones(&answer) }));
+            }
             Err(state) => assert_eq!(solved, Ok(Solved::None(State(state)))),
         }
     }
     let handed = lowenheim_handed(1, 2, &fact, &condition, &table("b"), &mut answer);
-    assert_eq!((handed, answer), (Ok(()), table("u+b+a*u+b*u+a*b")));
+    assert_eq!((handed, answer), (Ok(5), table("u+b+a*u+b*u+a*b")));
 }
 
 /// The circuits that the page puts for the parameter of route 14, and what comes back.

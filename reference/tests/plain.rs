@@ -57,6 +57,11 @@ fn assert_operations_agree<E: Block>(letters: Letters, random: &mut Random) {
     );
     assert_agree(
         result,
+        |out| product(u, g, &a, &b, out).map(|_| ()),
+        |out| plain::product_uncounted::<E>(u, g, &a, &b, out),
+    );
+    assert_agree(
+        result,
         |out| substitute(u, g, &a, &handed, out),
         |out| plain::substitute::<E>(u, g, &a, &handed, out),
     );
@@ -296,12 +301,33 @@ fn assert_handed_agrees<E: Block>(
         size,
         |out| {
             let answer = lowenheim_handed(u, g, fact, condition, handed, out);
-            number = answer.map_or_else(|refusal| refusal.0, |()| 0);
+            number = answer.map_or_else(|refusal| refusal.0, |_| 0);
             answer
         },
         |out| plain::lowenheim_handed::<E>(u, g, fact, condition, handed, out),
     );
     number
+}
+
+/// The same part of the same lent table, or the same refusal.
+#[test]
+fn shorter_agree() {
+    let (random, answers) = (&mut Random(17), &mut cases::Random::new('K'));
+    let mut counts = [0; 24];
+    for (u, g) in cases::pairs(0, 10) {
+        for _ in 0..30 {
+            let [boole, lowenheim] =
+                answers.two_answers(u, g).map(|table| perhaps_damaged(table, random));
+            let expected = shorter(u, g, &boole, &lowenheim);
+            let found = plain::shorter(u, g, &boole, &lowenheim);
+            assert_eq!(found, expected);
+            assert_eq!(found.map(<[u8]>::as_ptr), expected.map(<[u8]>::as_ptr));
+            counts[found.map_or_else(|refusal| refusal.0, |_| 0) as usize] += 1;
+        }
+    }
+    for number in [0, 4, 8] {
+        assert!(counts[number] > 100, "{number}: {}", counts[number]);
+    }
 }
 
 #[test]
@@ -316,6 +342,7 @@ fn too_many_letters_agree_as<E: Block>() {
         let table = [0; 2048];
         assert_eq!(plain::read_text::<E>(u, g, b"u", &mut buffer), Err(Refusal(1)));
         assert_eq!(plain::sum::<E>(u, g, &table, &table, &mut buffer), Err(Refusal(1)));
+        assert_eq!(plain::shorter(u, g, &table, &table), Err(Refusal(1)));
         assert_eq!(plain::derivative::<E>(u, g, &table, 4096, &mut buffer), Err(Refusal(1)));
         let handed = plain::lowenheim_handed::<E>(u, g, &table, &table, &table, &mut buffer);
         assert_eq!(handed, Err(Refusal(1)));

@@ -1,7 +1,8 @@
 // Support for the test programs: fields of a line that describes a call, and printing what came back.
 // A line is `CALL U G X Y SIZE SIZE2 A B`, one space between the fields; A and B are bytes, a digit each, or `-` for none.
 // Where a call takes an order, Y is its six bytes, two hexadecimal digits each; of the handed form it is the handed polynomials, a digit
-// each. Where a call takes a fact, A is the fact and B the condition; where it fills one, X is the length of its buffer.
+// each. Where a call takes a fact, A is the fact and B the condition; where it fills one, X is the length of its buffer. Of the shorter of two
+// answer tables A is Boole's and B Löwenheim's.
 // The contracts say what the programs need to index safely. Those that print promise nothing, since the contracts of `io` say nothing of what a
 // descriptor receives: what is printed is compared with stored output.
 use libc::STDOUT_FILENO;
@@ -273,6 +274,16 @@ pub fn show_outcome(r: calls::Outcome, buffer: &[u8]) {
             io::write_all(STDOUT_FILENO, b"done");
         }
         calls::Outcome::Refused(q) => show_refused(q),
+    }
+    show_digits(buffer);
+    show_line_end();
+}
+
+// What a call answers that counts the monomials of its result, and the buffer behind it.
+pub fn show_counted(r: calls::Counted, buffer: &[u8]) {
+    match r {
+        calls::Counted::Monomials(n) => show_number(b"done", n),
+        calls::Counted::Refused(q) => show_refused(q),
     }
     show_digits(buffer);
     show_line_end();

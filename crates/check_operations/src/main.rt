@@ -1,5 +1,7 @@
-// Runs the calls value, sum, product, substitute and derivative on the cases of standard input and prints what comes back.
+// Runs the calls value, sum, product, substitute and derivative, and those for the shorter of two answer tables, on the cases of standard input
+// and prints what comes back.
 // The stored input and output were made by the independent implementation in `reference/`.
+use calls::Shorter;
 use calls::Valued;
 use libc::STDIN_FILENO;
 use libc::STDOUT_FILENO;
@@ -12,8 +14,32 @@ fn show_value(r: Valued) {
     cases::show_line_end();
 }
 
+fn show_which(r: Shorter) {
+    match r {
+        Shorter::Boole => {
+            io::write_all(STDOUT_FILENO, b"boole");
+        }
+        Shorter::Lowenheim => {
+            io::write_all(STDOUT_FILENO, b"lowenheim");
+        }
+        Shorter::Refused(q) => cases::show_refused(q),
+    }
+}
+
+// Which table it is, what the companion call says, and the length and the bytes of the part handed back. The tables have one lifetime, since the
+// part may be of either.
+fn show_shorter<'a>(u: usize, g: usize, boole: &'a [u8], lowenheim: &'a [u8]) {
+    show_which(shorter::which_shorter(u, g, boole, lowenheim));
+    let number = shorter::shorter_refusal(u, g, boole, lowenheim);
+    cases::show_number(b"", number as usize);
+    let part = shorter::shorter(u, g, boole, lowenheim);
+    cases::show_number(b"", part.len());
+    cases::show_digits(part);
+    cases::show_line_end();
+}
+
 // One call on buffers of the stated lengths.
-fn call(f: cases::Fields, a: &[u8], b: &[u8], out: &mut [u8]) {
+fn call<'a>(f: cases::Fields, a: &'a [u8], b: &'a [u8], out: &mut [u8]) {
     let name = f.call;
     if name == b'v' {
         show_value(operations::value(f.unknowns, f.givens, a, ring::State(f.x), ring::Choice(f.y)));
@@ -21,22 +47,26 @@ fn call(f: cases::Fields, a: &[u8], b: &[u8], out: &mut [u8]) {
     }
     if name == b'+' {
         let r = operations::sum(f.unknowns, f.givens, a, b, out);
-        cases::show_outcome(r, out);
+        cases::show_counted(r, out);
         return;
     }
     if name == b'*' {
         let r = operations::product(f.unknowns, f.givens, a, b, out);
-        cases::show_outcome(r, out);
+        cases::show_counted(r, out);
         return;
     }
     if name == b's' {
         let r = operations::substitute(f.unknowns, f.givens, a, b, out);
-        cases::show_outcome(r, out);
+        cases::show_counted(r, out);
         return;
     }
     if name == b'd' {
         let r = operations::derivative(f.unknowns, f.givens, a, f.x, out);
         cases::show_outcome(r, out);
+        return;
+    }
+    if name == b'm' {
+        show_shorter(f.unknowns, f.givens, a, b);
     }
 }
 

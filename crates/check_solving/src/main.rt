@@ -1,22 +1,12 @@
 // Solves the conditions of standard input by every call, and prints what comes back.
 // The stored input and output were made by the independent implementation in `reference/`.
 use calls::Solving;
-use calls::Verdict;
 use libc::STDIN_FILENO;
-use libc::STDOUT_FILENO;
-
-fn show_verdict(verdict: Verdict) {
-    match verdict {
-        Verdict::Solved => {
-            io::write_all(STDOUT_FILENO, b"done");
-        }
-        Verdict::None(state) => cases::show_number(b"none", state.0),
-    }
-}
 
 fn show_solving(r: Solving, answers: &[u8]) {
     match r {
-        Solving::Said(verdict) => show_verdict(verdict),
+        Solving::Solved(monomials) => cases::show_number(b"done", monomials),
+        Solving::None(state) => cases::show_number(b"none", state.0),
         Solving::Refused(q) => cases::show_refused(q),
     }
     cases::show_digits(answers);
@@ -50,7 +40,7 @@ fn call(
     }
     if name == b'h' {
         let r = solver::lowenheim_handed(f.unknowns, f.givens, fact, condition, handed, answers);
-        cases::show_outcome(r, answers);
+        cases::show_counted(r, answers);
     }
 }
 

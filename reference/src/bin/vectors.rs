@@ -14,6 +14,8 @@ mod lines;
 mod operations;
 #[path = "vectors/sessions.rs"]
 mod sessions;
+#[path = "vectors/shorter.rs"]
+mod shorter;
 #[path = "vectors/solving.rs"]
 mod solving;
 #[path = "vectors/text.rs"]
@@ -62,6 +64,7 @@ fn add_cases(call: char, lines: &mut Lines) -> bool {
         '+' | '*' => operations::add_two_tables(lines, call),
         's' => operations::add_substitutions(lines),
         'd' => operations::add_derivatives(lines),
+        'm' => shorter::add_shorter(lines),
         't' => text::add_texts(lines),
         'b' | 'p' | 'l' => solving::add_solutions(lines, call),
         'h' => handed::add_handed(lines),

@@ -1,5 +1,6 @@
 //! The calls on lent tables, with the questions of `crate::calls`.
 
+use super::counts::{ask_bits_counted, put_sum};
 use super::fact;
 use super::solving::{self, ask_order, Answers};
 use super::table::Table;
@@ -67,15 +68,36 @@ pub fn value<B: Block>(
     Ok(blocks.filter(|(_, high)| high & absent == 0).fold(0, |sum, (block, _)| sum ^ odd(block)))
 }
 
-/// The sum of two tables. Questions 1, 4, 8.
-pub fn sum<B: Block>(u: u64, g: u64, a: &[u8], b: &[u8], result: &mut [u8]) -> Result<(), Refusal> {
+/// The sum of two tables, and the number of monomials present in it. Questions 1, 4, 8.
+pub fn sum<B: Block>(
+    u: u64,
+    g: u64,
+    a: &[u8],
+    b: &[u8],
+    result: &mut [u8],
+) -> Result<usize, Refusal> {
     let (_, a, b, result) = ask_two(u, g, a, b, result)?;
-    result.iter_mut().zip(a).zip(b).for_each(|((x, a), b)| *x = a ^ b);
-    Ok(())
+    Ok(put_sum(a, b, result))
 }
 
-/// The product of two tables. Questions 1, 4, 8.
+/// The product of two tables, and the number of monomials present in it. Questions 1, 4, 8.
 pub fn product<B: Block>(
+    u: u64,
+    g: u64,
+    a: &[u8],
+    b: &[u8],
+    result: &mut [u8],
+) -> Result<usize, Refusal> {
+    let (letters, a, b, result) = ask_two(u, g, a, b, result)?;
+    Ok(for_blocks!(B, letters.count(), put_product(a, b, result)))
+}
+
+fn put_product<B: Block, const K: usize>(a: &[u8], b: &[u8], result: &mut [u8]) -> usize {
+    product_of::<B, K>(a, b).put_counted(result)
+}
+
+/// The product alone: beside the other it shows what counting costs.
+pub fn product_uncounted<B: Block>(
     u: u64,
     g: u64,
     a: &[u8],
@@ -83,14 +105,20 @@ pub fn product<B: Block>(
     result: &mut [u8],
 ) -> Result<(), Refusal> {
     let (letters, a, b, result) = ask_two(u, g, a, b, result)?;
-    for_blocks!(B, letters.count(), put_product(a, b, result));
+    for_blocks!(B, letters.count(), put_product_uncounted(a, b, result));
     Ok(())
 }
 
-fn put_product<B: Block, const K: usize>(a: &[u8], b: &[u8], result: &mut [u8]) {
+fn put_product_uncounted<B: Block, const K: usize>(a: &[u8], b: &[u8], result: &mut [u8]) {
+    product_of::<B, K>(a, b).put(result);
+}
+
+/// The coefficients of a product.
+#[inline(always)]
+fn product_of<B: Block, const K: usize>(a: &[u8], b: &[u8]) -> Table<B, K> {
     let mut values = Table::<B, K>::from_bytes(a).transformed();
     values.multiply(&Table::from_bytes(b).transformed());
-    values.transformed().put(result);
+    values.transformed()
 }
 
 type Two<'a> = (Letters, &'a [u8], &'a [u8], &'a mut [u8]);
@@ -114,14 +142,15 @@ fn ask_two<'a>(
     Ok((letters, a, b, &mut result[..length]))
 }
 
-/// Handed polynomials put into a condition. Questions 1, 4, 8.
+/// Handed polynomials put into a condition, and the number of monomials present in the result.
+/// Questions 1, 4, 8.
 pub fn substitute<B: Block>(
     u: u64,
     g: u64,
     condition: &[u8],
     handed: &[u8],
     result: &mut [u8],
-) -> Result<(), Refusal> {
+) -> Result<usize, Refusal> {
     let letters = ask_letters(u, g)?;
     let (length, answer_length) = (letters.table_length(), letters.answer_length());
     ask_length(condition, length)?;
@@ -131,8 +160,7 @@ pub fn substitute<B: Block>(
     ask_bits(condition)?;
     ask_bits(handed)?;
     let result = &mut result[..length];
-    for_blocks!(B, letters.count(), put_substituted(letters, condition, handed, result));
-    Ok(())
+    Ok(for_blocks!(B, letters.count(), put_substituted(letters, condition, handed, result)))
 }
 
 fn put_substituted<B: Block, const K: usize>(
@@ -140,10 +168,10 @@ fn put_substituted<B: Block, const K: usize>(
     condition: &[u8],
     handed: &[u8],
     result: &mut [u8],
-) {
+) -> usize {
     let f = Table::<B, K>::from_bytes(condition).transformed();
     let b = handed_values(letters, handed);
-    f.put_for_lowest(&b[..letters.unknowns]).transformed().put(result);
+    f.put_for_lowest(&b[..letters.unknowns]).transformed().put_counted(result)
 }
 
 /// The values of handed polynomials; zeros behind the last unknown.
@@ -273,24 +301,20 @@ fn put_answers<B: Block, const K: usize>(
     solved: Result<Answers<B, K>, State>,
     answers: &mut [u8],
 ) -> Solved {
-    match solved {
-        Err(state) => Solved::None(state),
-        Ok(values) => {
-            put_tables(letters, &values, answers);
-            Solved::Done
-        }
+    match &solved {
+        Err(state) => Solved::None(*state),
+        Ok(values) => Solved::Done { monomials: put_tables(letters, values, answers) },
     }
 }
 
-/// The tables of the answers, from their values.
+/// The tables of the answers, from their values; gives the total of their monomials.
 fn put_tables<B: Block, const K: usize>(
     letters: Letters,
     values: &Answers<B, K>,
     answers: &mut [u8],
-) {
-    for (answer, bytes) in values.iter().zip(answers.chunks_exact_mut(letters.table_length())) {
-        answer.transformed().put(bytes);
-    }
+) -> usize {
+    let tables = values.iter().zip(answers.chunks_exact_mut(letters.table_length()));
+    tables.map(|(answer, bytes)| answer.transformed().put_counted(bytes)).sum()
 }
 
 /// Löwenheim's formula with handed polynomials that make f*(1 + g) zero.
@@ -302,7 +326,7 @@ pub fn lowenheim_handed<B: Block>(
     condition: &[u8],
     handed: &[u8],
     answers: &mut [u8],
-) -> Result<(), Refusal> {
+) -> Result<usize, Refusal> {
     let letters = ask_letters(u, g)?;
     let (length, answer_length) = (letters.table_length(), letters.answer_length());
     ask_length(fact, length)?;
@@ -322,11 +346,27 @@ fn put_formula<B: Block, const K: usize>(
     lent: fact::Lent,
     handed: &[u8],
     answers: &mut [u8],
-) -> Result<(), Refusal> {
+) -> Result<usize, Refusal> {
     let f = lent.tables::<B, K>(letters)?.values();
     let mut b = handed_values(letters, handed);
     ask(21, f.is_made_zero_by(&b[..letters.unknowns]))?;
     solving::formula(&f, &mut b[..letters.unknowns]);
-    put_tables(letters, &b, answers);
-    Ok(())
+    Ok(put_tables(letters, &b, answers))
+}
+
+/// The shorter of Boole's and Löwenheim's answer tables, Boole's if the totals tie.
+/// Questions 1, 4, 8.
+pub fn shorter<'a>(
+    u: u64,
+    g: u64,
+    boole: &'a [u8],
+    lowenheim: &'a [u8],
+) -> Result<&'a [u8], Refusal> {
+    let letters = ask_letters(u, g)?;
+    let length = letters.answer_length();
+    ask_length(boole, length)?;
+    ask_length(lowenheim, length)?;
+    let (boole, lowenheim) = (&boole[..length], &lowenheim[..length]);
+    let is_boole = ask_bits_counted(boole)? <= ask_bits_counted(lowenheim)?;
+    Ok(if is_boole { boole } else { lowenheim })
 }

@@ -11,16 +11,31 @@ impl<B: Block, const K: usize> Table<B, K> {
     pub const ZERO: Self = Table([B::ZERO; K]);
     pub const ONE: Self = Table([B::ONE; K]);
 
+    /// Whole blocks, so that their length is known, apart from the part of one that fewer than six
+    /// letters fill.
     pub fn from_bytes(bytes: &[u8]) -> Self {
+        let (whole, part) = bytes.as_chunks::<POINTS>();
         let mut table = Table::ZERO;
-        for (block, bytes) in table.0.iter_mut().zip(bytes.chunks(POINTS)) {
-            *block = B::pack(bytes);
+        if let Some(block) = table.0.get_mut(whole.len()) {
+            *block = B::pack(part);
         }
+        table.0.iter_mut().zip(whole).for_each(|(block, bytes)| *block = B::pack(bytes));
         table
     }
 
     pub fn put(&self, bytes: &mut [u8]) {
-        self.0.iter().zip(bytes.chunks_mut(POINTS)).for_each(|(block, bytes)| block.unpack(bytes));
+        let (whole, part) = bytes.as_chunks_mut::<POINTS>();
+        if let Some(block) = self.0.get(whole.len()) {
+            block.unpack(part);
+        }
+        self.0.iter().zip(whole).for_each(|(block, bytes)| block.unpack(bytes));
+    }
+
+    /// Puts coefficients, and gives the number of those that are 1. Counted in the blocks, so that no
+    /// byte is looked at again.
+    pub fn put_counted(&self, bytes: &mut [u8]) -> usize {
+        self.put(bytes);
+        B::count(&self.0)
     }
 
     pub fn set(&mut self, point: usize) {

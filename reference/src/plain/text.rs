@@ -74,7 +74,7 @@ pub fn text_values<B: Block, const K: usize>(
         seen |= sign.seen;
     }
     symbols[count as usize] = Symbol { symbol: END, negations };
-    let declared = (1 << letters.unknowns) - 1 | ((1 << letters.givens) - 1) << GIVENS;
+    let declared = ((1 << letters.unknowns) - 1) | ((1 << letters.givens) - 1) << GIVENS;
     ask(5, seen & FOREIGN == 0)?;
     ask(6, seen & !declared == 0)?;
     let mut reader = Reader { symbols, at: 0 };

@@ -71,6 +71,11 @@ impl Block for u64 {
         self
     }
 
+    #[inline(always)]
+    fn count(blocks: &[u64]) -> usize {
+        blocks.iter().map(|word| word.count_ones() as usize).sum()
+    }
+
     fn pack(bytes: &[u8]) -> u64 {
         cross(gather(bytes))
     }

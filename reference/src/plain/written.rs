@@ -54,8 +54,8 @@ impl<const K: usize> Written<K> {
         for (k, bits) in masks.iter().enumerate() {
             let of = |i: usize| COUNTS[(bits >> (8 * i)) as usize & 255];
             counts[k.count_ones() as usize] += of(0)
-                + (of(1) + of(2) + of(4) << 8)
-                + (of(3) + of(5) + of(6) << 16)
+                + ((of(1) + of(2) + of(4)) << 8)
+                + ((of(3) + of(5) + of(6)) << 16)
                 + (of(7) << 24);
         }
         // at most 252 masks of ten letters have the same number

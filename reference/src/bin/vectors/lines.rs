@@ -5,7 +5,13 @@
 //! A call that solves or writes has the fact in A and the condition in B; Y is
 //! the six bytes of the order in hexadecimal or, for the handed form, the handed
 //! polynomials in digits. For the derivative, X is the set S; for reading, X is
-//! the length of the fact buffer.
+//! the length of the fact buffer. For the shorter of two answer tables, A is
+//! Boole's and B is Löwenheim's.
+//!
+//! Expected of a call that counts monomials is `done`, their number and the bytes
+//! of the result buffer; of the shorter of two, `boole` or `lowenheim`, or the
+//! refusal, then the number that the companion call gives, and the length and the
+//! bytes of the part handed back.
 //!
 //! The lines of a session stop after the last field that they use, and the
 //! session goes on from line to line: a start is `s U G`, adding A is
@@ -25,8 +31,8 @@ use reference::{
 };
 use std::fmt;
 
-/// No line of either file is longer.
-const LONGEST_LINE: usize = 9_000;
+/// No line of either file is longer: two answer tables of 6,144 bytes and the numbers before them.
+const LONGEST_LINE: usize = 12_400;
 /// Every byte of a result buffer before the call.
 const GARBAGE: u8 = 7;
 
@@ -123,7 +129,7 @@ impl Lines {
             's' => reference::substitute(u, g, a, b, &mut buffer),
             _ => unreachable!("no call with two tables"),
         };
-        let expected = format!("{} {}", done(result), digits(&buffer));
+        let expected = format!("{} {}", done_with(result), digits(&buffer));
         let numbers = Numbers { u, g, size, ..Numbers::default() };
         self.add(call, numbers, &digits(a), digits(b).as_bytes(), expected);
     }
@@ -139,7 +145,7 @@ impl Lines {
     ) {
         let mut buffer = vec![GARBAGE; size];
         let result = reference::lowenheim_handed(u, g, fact, condition, handed, &mut buffer);
-        let expected = format!("{} {}", done(result), digits(&buffer));
+        let expected = format!("{} {}", done_with(result), digits(&buffer));
         let numbers = Numbers { u, g, y: Y::Handed(handed), size, ..Numbers::default() };
         self.add('h', numbers, &digits(fact), digits(condition).as_bytes(), expected);
     }
@@ -150,6 +156,19 @@ impl Lines {
         let expected = format!("{} {}", done(result), digits(&buffer));
         let numbers = Numbers { u, g, x: s, size, ..Numbers::default() };
         self.add('d', numbers, &digits(table), b"-", expected);
+    }
+
+    pub fn shorter(&mut self, u: u64, g: u64, boole: &[u8], lowenheim: &[u8]) {
+        let expected = match reference::shorter(u, g, boole, lowenheim) {
+            Ok(part) => {
+                let is_boole = std::ptr::eq(part.as_ptr(), boole.as_ptr());
+                let word = if is_boole { "boole" } else { "lowenheim" };
+                format!("{word} 0 {} {}", part.len(), digits(part))
+            }
+            Err(Refusal(number)) => format!("refused {number} {number} 0 -"),
+        };
+        let numbers = Numbers { u, g, ..Numbers::default() };
+        self.add('m', numbers, &digits(boole), digits(lowenheim).as_bytes(), expected);
     }
 
     pub fn text(&mut self, u: u64, g: u64, text: &[u8], size: usize) {
@@ -187,9 +206,9 @@ impl Lines {
             _ => unreachable!("no call that solves"),
         };
         let word = match result {
-            Ok(Solved::Done) => "done".to_string(),
+            Ok(Solved::Done { monomials }) => done_with(Ok(monomials)),
             Ok(Solved::None(State(state))) => format!("none {state}"),
-            Err(Refusal(number)) => format!("refused {number}"),
+            Err(refusal) => done_with(Err(refusal)),
         };
         let numbers = Numbers { u, g, y: Y::Order(order), size, ..Numbers::default() };
         let expected = format!("{word} {}", digits(&buffer));
@@ -217,12 +236,9 @@ impl Lines {
         size: usize,
     ) {
         let mut buffer = vec![GARBAGE; size];
-        let word = match reference::write_entry(route, u, g, order, fact, condition, &mut buffer) {
-            Ok(length) => format!("done {length}"),
-            Err(Refusal(number)) => format!("refused {number}"),
-        };
+        let length = reference::write_entry(route, u, g, order, fact, condition, &mut buffer);
         let numbers = Numbers { u, g, x: route, y: Y::Order(order), size, ..Numbers::default() };
-        let expected = format!("{word} {}", hexadecimal(&buffer));
+        let expected = format!("{} {}", done_with(length), hexadecimal(&buffer));
         self.add('w', numbers, &digits(fact), digits(condition).as_bytes(), expected);
     }
 
@@ -308,6 +324,14 @@ fn checksum(session: &Session) -> u64 {
 fn done(result: Result<(), Refusal>) -> String {
     match result {
         Ok(()) => "done".to_string(),
+        Err(Refusal(number)) => format!("refused {number}"),
+    }
+}
+
+/// A count of monomials, or a length.
+fn done_with(result: Result<usize, Refusal>) -> String {
+    match result {
+        Ok(number) => format!("done {number}"),
         Err(Refusal(number)) => format!("refused {number}"),
     }
 }

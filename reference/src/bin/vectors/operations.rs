@@ -91,15 +91,16 @@ pub fn add_two_tables(lines: &mut Lines, call: char) {
             add_any_tables(lines, call, random, (u, g), a, b);
         }
     }
-    for (u, g) in pairs(5, 10) {
+    for (u, g) in pairs(5, 9) {
         let length = 1 << (u + g);
         let (a, b) = (random.any_table(length), random.any_table(length));
         lines.tables(call, u, g, &a, &b, length);
     }
-    for (u, g) in [(2, 8), (6, 4)] {
-        let (a, b) = (random.table(1024, 2), random.table(1024, 2));
-        lines.tables(call, u, g, &a, &b, 1024);
-    }
+    lines.tables(call, 6, 4, &random.table(1024, 2), &random.table(1024, 2), 1024);
+    // what changes nothing: the result has every monomial of ten letters
+    let mut neutral = no_fact(2, 8);
+    neutral[0] = (call == '*') as u8;
+    lines.tables(call, 2, 8, &[1; 1024], &neutral, 1024);
 }
 
 /// Every two tables over no letter, over one unknown and over one given.
@@ -186,32 +187,30 @@ pub fn add_substitutions(lines: &mut Lines) {
         let (length, second) = (1 << (u + g), u as usize * (1 << (u + g)));
         let (a, b) = (random.any_table(length), random.any_table(second));
         add_wrong_tables(lines, 's', random, (u, g), &a, &b);
-        add_renamings(lines, random, u, g);
+        lines.tables('s', u, g, &random.any_table(length), &renaming(u, g, 1), length);
         for _ in 0..10 {
             let (a, b) = (random.any_table(length), random.any_table(second));
             add_any_tables(lines, 's', random, (u, g), a, b);
         }
     }
-    for (u, g) in pairs(5, 10) {
+    for (u, g) in pairs(5, 9) {
         let length = 1 << (u + g);
         let (a, b) = (random.any_table(length), random.any_table(u as usize * length));
         lines.tables('s', u, g, &a, &b, length);
     }
-    for (u, g) in [(2, 8), (6, 4)] {
-        let (a, b) = (random.table(1024, 2), random.table(u as usize * 1024, 2));
-        lines.tables('s', u, g, &a, &b, 1024);
-    }
+    lines.tables('s', 6, 4, &random.table(1024, 2), &random.table(6 * 1024, 2), 1024);
+    // what changes nothing: the result has every monomial of ten letters
+    lines.tables('s', 2, 8, &[1; 1024], &renaming(2, 8, 0), 1024);
 }
 
-/// Each unknown replaced by the next one: all at once, or the result is another.
-fn add_renamings(lines: &mut Lines, random: &mut Random, u: u64, g: u64) {
+/// Each unknown replaced by the one so many places on: all at once, or the result is another.
+fn renaming(u: u64, g: u64, places: usize) -> Vec<u8> {
     let length = 1 << (u + g);
     let mut handed = vec![0; u as usize * length];
     for j in 0..u as usize {
-        handed[j * length + (1 << ((j + 1) % u as usize))] = 1;
+        handed[j * length + (1 << ((j + places) % u as usize))] = 1;
     }
-    let table = random.any_table(length);
-    lines.tables('s', u, g, &table, &handed, length);
+    handed
 }
 
 pub fn add_derivatives(lines: &mut Lines) {

@@ -67,7 +67,8 @@ fn add_other_answers(
     let exact = u as usize * table.len();
     let mut answers = vec![0; exact];
     for method in [reference::lowenheim, reference::particular, reference::boole] {
-        if method(u, g, order, fact, table, &mut answers) == Ok(Solved::Done) {
+        let solved = method(u, g, order, fact, table, &mut answers);
+        if matches!(solved, Ok(Solved::Done { .. })) {
             lines.audit(&built(order, 5, u, g, fact, table, &answers));
         }
     }
@@ -93,7 +94,7 @@ fn add_other_orders(lines: &mut Lines, random: &mut Random) {
     for held in every_order(3) {
         let mut answers = vec![0; 24];
         let solved = reference::boole(3, 0, held, &fact, &table, &mut answers);
-        assert_eq!(solved, Ok(Solved::Done));
+        assert!(matches!(solved, Ok(Solved::Done { .. })));
         for named in every_order(3) {
             lines.audit(&built(named, 5, 3, 0, &fact, &table, &answers));
         }
