@@ -5,7 +5,7 @@
 
 use crate::inputs::{counts, default_order, reverse_order, Inputs};
 use crate::timing::{compare, Compared, Effort};
-use layodegi::{Answer, Question, NO_FACT};
+use layodegi::{Answer, Question, Solution, NO_FACT};
 use reference::plain::{self, Block, Bytes};
 use reference::Step;
 use reference::LONGEST_ENTRY;
@@ -26,7 +26,7 @@ pub struct Call {
     pub measure: fn(&Inputs, Effort) -> Compared,
 }
 
-pub const CALLS: [Call; 21] = [
+pub const CALLS: [Call; 22] = [
     Call { name: "read_text", note: "", measure: read_text },
     Call { name: "value", note: "", measure: value },
     Call { name: "sum", note: "", measure: sum },
@@ -40,6 +40,7 @@ pub const CALLS: [Call; 21] = [
     Call { name: "lowenheim", note: "", measure: lowenheim },
     Call { name: "lowenheim_handed", note: ", accepted", measure: lowenheim_handed },
     Call { name: "lowenheim_handed", note: ", refused", measure: lowenheim_handed_refused },
+    Call { name: "shorter", note: "", measure: shorter },
     Call { name: "write_entry", note: "", measure: write_entry },
     Call { name: "write_entry", note: " in reverse order", measure: write_entry_reversed },
     Call { name: "write_entry", note: " under a fact", measure: write_entry_under_fact },
@@ -79,7 +80,7 @@ fn measure<I, E, P: PartialEq>(
     )
 }
 
-fn engine_letters(letters: Letters) -> layodegi::Letters {
+pub fn engine_letters(letters: Letters) -> layodegi::Letters {
     layodegi::Letters { unknowns: letters.unknowns, givens: letters.givens }
 }
 
@@ -91,12 +92,23 @@ fn both_done<E, P>(engine: Result<(), E>, plain: Result<(), P>) -> bool {
     engine.is_ok() && plain.is_ok()
 }
 
+/// Both are done, and give the same: a value, a length, a number of monomials or the place of a part.
+fn same_answer<T: PartialEq, E, P>(engine: Result<T, E>, plain: Result<T, P>) -> bool {
+    matches!((engine, plain), (Ok(engine), Ok(plain)) if engine == plain)
+}
+
 /// What a call that solves answers.
-type Engine = Result<Answer, layodegi::Refusal>;
+type Engine = Result<Solution, layodegi::Refusal>;
 type Plain = Result<Solved, Refusal>;
 
+/// Both have answers, of as many monomials.
 fn both_solved(engine: Engine, plain: Plain) -> bool {
-    matches!((engine, plain), (Ok(Answer::Solved), Ok(Solved::Done)))
+    match (engine, plain) {
+        (Ok(Solution::Solved { monomials: engine }), Ok(Solved::Done { monomials: plain })) => {
+            engine == plain
+        }
+        _ => false,
+    }
 }
 
 fn same_entry(
@@ -138,7 +150,7 @@ fn value(inputs: &Inputs, effort: Effort) -> Compared {
         |table, _| layodegi::value(letters, table, engine_point.0, engine_point.1),
         |table, _| plain::value::<Bytes>(u, g, table, State(state), Choice(choice)),
         |table, _| plain::value::<u64>(u, g, table, State(state), Choice(choice)),
-        |engine, plain| engine.is_ok() && engine.ok() == plain.ok(),
+        same_answer,
     )
 }
 
@@ -151,7 +163,7 @@ fn sum(inputs: &Inputs, effort: Effort) -> Compared {
         |(a, b), out| layodegi::sum(letters, a, b, out),
         |(a, b), out| plain::sum::<Bytes>(u, g, a, b, out),
         |(a, b), out| plain::sum::<u64>(u, g, a, b, out),
-        both_done,
+        same_answer,
     )
 }
 
@@ -164,7 +176,7 @@ fn product(inputs: &Inputs, effort: Effort) -> Compared {
         |(a, b), out| layodegi::product(letters, a, b, out),
         |(a, b), out| plain::product::<Bytes>(u, g, a, b, out),
         |(a, b), out| plain::product::<u64>(u, g, a, b, out),
-        both_done,
+        same_answer,
     )
 }
 
@@ -177,7 +189,7 @@ fn substitute(inputs: &Inputs, effort: Effort) -> Compared {
         |(condition, handed), out| layodegi::substitute(letters, condition, handed, out),
         |(condition, handed), out| plain::substitute::<Bytes>(u, g, condition, handed, out),
         |(condition, handed), out| plain::substitute::<u64>(u, g, condition, handed, out),
-        both_done,
+        same_answer,
     )
 }
 
@@ -265,7 +277,7 @@ fn solve(
 }
 
 fn lowenheim_handed(inputs: &Inputs, effort: Effort) -> Compared {
-    handed(inputs.letters, &inputs.solving(), effort, both_done)
+    handed(inputs.letters, &inputs.solving(), effort, same_answer)
 }
 
 /// By question 21.
@@ -280,7 +292,7 @@ fn handed(
     counted: Letters,
     pairs: &[(Vec<u8>, Vec<u8>)],
     effort: Effort,
-    same: impl Fn(Result<(), layodegi::Refusal>, Result<(), Refusal>) -> bool,
+    same: impl Fn(Result<usize, layodegi::Refusal>, Result<usize, Refusal>) -> bool,
 ) -> Compared {
     let (letters, (u, g)) = (engine_letters(counted), counts(counted));
     measure(
@@ -291,6 +303,24 @@ fn handed(
         |(f, handed), out| plain::lowenheim_handed::<Bytes>(u, g, NO_FACT, f, handed, out),
         |(f, handed), out| plain::lowenheim_handed::<u64>(u, g, NO_FACT, f, handed, out),
         same,
+    )
+}
+
+/// Both plain forms count bytes alike. A part is compared by its place: it is a lent table itself.
+fn shorter(inputs: &Inputs, effort: Effort) -> Compared {
+    let (letters, (u, g)) = (engine_letters(inputs.letters), counts(inputs.letters));
+    let place = |part: &[u8]| (part.as_ptr(), part.len());
+    let plain = |(boole, lowenheim): &(Vec<u8>, Vec<u8>), _: &mut [u8]| {
+        plain::shorter(u, g, boole, lowenheim).map(place)
+    };
+    measure(
+        effort,
+        &inputs.answers(),
+        0,
+        |(boole, lowenheim), _| layodegi::shorter(letters, boole, lowenheim).map(place),
+        plain,
+        plain,
+        same_answer,
     )
 }
 
@@ -316,7 +346,7 @@ fn write_on(counted: Letters, order: Order, asked: &[Asked], effort: Effort) -> 
         |(fact, f), out| layodegi::write_entry(7, letters, for_engine, fact, f, out),
         |(fact, f), out| plain::write_entry::<Bytes>(7, u, g, order, fact, f, out),
         |(fact, f), out| plain::write_entry::<u64>(7, u, g, order, fact, f, out),
-        |engine, plain| engine.is_ok() && engine.ok() == plain.ok(),
+        same_answer,
     )
 }
 

@@ -99,6 +99,19 @@ impl Inputs {
         entries(self.letters, &self.under_facts())
     }
 
+    /// Boole's and Löwenheim's answers to each condition.
+    pub fn answers(&self) -> Vec<(Vec<u8>, Vec<u8>)> {
+        let (u, g) = counts(self.letters);
+        let (order, fact) = (default_order(self.letters), no_fact(u, g));
+        let both = |condition: &Vec<u8>| {
+            let mut lowenheim = vec![0; self.letters.answer_length()];
+            plain::lowenheim::<u64>(u, g, order, &fact, condition, &mut lowenheim)
+                .expect("a condition");
+            (answers(self.letters, condition).expect("a solution"), lowenheim)
+        };
+        self.conditions.iter().map(both).collect()
+    }
+
     /// Each condition and dense polynomials that make it zero: at each state and choice they lead to
     /// any choice that solves.
     pub fn solving(&self) -> Vec<(Vec<u8>, Vec<u8>)> {
@@ -265,7 +278,7 @@ fn answers(letters: Letters, condition: &[u8]) -> Option<Vec<u8>> {
     let (order, fact) = (default_order(letters), no_fact(u, g));
     let mut answers = vec![0; letters.answer_length()];
     let solved = plain::boole::<u64>(u, g, order, &fact, condition, &mut answers);
-    (solved == Ok(Solved::Done)).then_some(answers)
+    matches!(solved, Ok(Solved::Done { .. })).then_some(answers)
 }
 
 /// The entries of conditions under facts, routes rising from 1.

@@ -1,11 +1,14 @@
-//! Measures the engine beside plain Rust in two forms, and the written order by the method that the
-//! engine had and by the one that it has, and prints a report that says what is measured and how.
+//! Measures the engine beside plain Rust in two forms, the written order by the method that the engine
+//! had and by the one that it has, and what counting costs a product, and prints a report that says what
+//! is measured and how.
 //! With `--write` it also writes the report to `RESULTS.md` and the plot to `time-by-letters.svg`;
 //! without it, measuring leaves the folder as it was.
 
 mod calls;
+mod counting;
 mod inputs;
 mod plot;
+mod ported;
 mod processor_time;
 mod report;
 mod sheet;
@@ -56,6 +59,7 @@ fn main() {
         numbers_of_letters: NUMBERS_OF_LETTERS,
         by_letters: PLOTTED.map(|(call, words)| by_letters(call, words)).into(),
         written_order: written_order::compare_methods(FEWER_LETTERS),
+        counting: counting::compare_counting(NUMBERS_OF_LETTERS, TEN_LETTERS),
     };
     let results = report.text();
     print!("{results}");

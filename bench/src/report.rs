@@ -1,5 +1,6 @@
 //! `RESULTS.md`: everything in it that depends on a run is worked out here.
 
+use crate::counting::{Counting, WITH, WITHOUT};
 use crate::plot::Series;
 use crate::sheet::{Sheet, ROUTES};
 use crate::timing::{Compared, Effort, Times, BYTES, ENGINE, WORDS};
@@ -58,6 +59,7 @@ pub struct Report {
     pub by_letters: Vec<Series>,
     /// At each number of letters.
     pub written_order: Vec<(usize, Compared<2>)>,
+    pub counting: Counting,
 }
 
 impl Report {
@@ -74,6 +76,7 @@ impl Report {
             self.whole_sheet(),
             self.letters(),
             self.written_order(),
+            self.counting(),
         ]
         .join("\n")
     }
@@ -97,7 +100,8 @@ At ten letters on typical inputs:
 
 - the whole sheet, net of start-up: {:.2} of plain Rust on bytes, {:.2} of plain Rust on words; start-up and all: {:.2} and {:.2};
 - of plain Rust on bytes: {};
-- of plain Rust on words: {}.
+- of plain Rust on words: {};
+- a product that counts its monomials by one that does not, both by a port of the engine's method: {}.
 {}",
             self.sheet.net.ratios[BYTES],
             self.sheet.net.ratios[WORDS],
@@ -105,6 +109,7 @@ At ten letters on typical inputs:
             self.sheet.whole.ratios[WORDS],
             ratios(BYTES),
             ratios(WORDS),
+            self.counting_cost(),
             self.unrest(),
         )
     }
@@ -124,6 +129,8 @@ At ten letters on typical inputs:
         }
         let restless = self.written_order.iter().filter(|(_, order)| !order.is_quiet());
         names.extend(restless.map(|(count, _)| format!("the written order at {count} letters")));
+        let restless = self.counting.products().into_iter().filter(|(_, with)| !with.is_quiet());
+        names.extend(restless.map(|(name, _)| format!("what counting costs {name}")));
         match names.is_empty() {
             true => String::new(),
             false => format!(
@@ -140,10 +147,10 @@ At ten letters on typical inputs:
 
 - **Engine**: the archive of the proved library, called through the safe wrapper in `bindings/rust`, all its calls, the unknowns going as 0, 1, 2 and so on but where a row says 'in reverse order', the fact being 0 but where a row says 'under a fact'; for the whole sheet the program `target/bin/sheet`.
 - **Plain Rust**: `reference/src/plain`, safe Rust from its standard library alone, which does the same job and asks the same questions, built with link-time optimisation in one unit. Two forms share all methods: on **bytes**, one byte a value, by the usual step per letter; and on **words**, 64 values to a word.
-- **Techniques of all three**: values and back by the usual step per letter, with literal widths; a text decoded once, without unpredictable branches, and worked out at all points at once; question 8 as one union of all bytes, and a fact of 0 seen by such a union, after which it costs nothing more; the value of a table a block of 64 masks at a time, each mask a byte; on words, eight bytes of a table as one shifted load or store, the two halves of a word's letters exchanged meanwhile; on words, polynomials put in by choices, the two lowest letters at once by what stands for each four bits; question 21 on the values that Löwenheim's formula then takes, and not by way of coefficients; elimination that keeps the values before each unknown goes, and puts later answers in one letter at a time from the last on; records looked at in one pass for all questions, the number of letters of a mask from a table, with a loop for each of kinds 2 and 3, of which there may be many, which goes on as long as each passes question 12.
-- **Of plain Rust alone**: tables whose length the compiler knows, so that it holds them in registers, as the engine does only up to six letters when it solves and lists; a letter, negated or not, multiplied in where it stands without a branch, each `!` being counted onto the sign behind it; the masks present counted by their number of letters, eight masks at a time out of a table, so that each record goes straight to its place in the output, which needs no copy, and sparse tables are quick; the digits of a mask from a table; a sheet read line by line and printed in pieces that stay in the cache; on bytes, polynomials put in by looking values up point by point; question 21 no further than the first 64 points that are not all 0; a derivative on coefficients, where inverting a letter adds one half of them to the other, on bytes in the result itself, on words without exchanging the halves of a word's letters; the steps of a session in place. **Of the engine alone**: the masks present are listed without a branch out of the written order, which it takes from a constant table of the masks of ten letters, as the request has it, up to six letters from one of theirs; a derivative goes to values, where inverting letters exchanges points, and back; a session goes by value, out of its block of bytes and back at each step. Tried in plain Rust and slower there: that listing, the masks taken out one number of letters after another, and eight masks at a time listed out of a table.
+- **Techniques of all three**: values and back by the usual step per letter, with literal widths; a text decoded once, without unpredictable branches, and worked out at all points at once; question 8 as one union of all bytes, and a fact of 0 seen by such a union, after which it costs nothing more; the value of a table a block of 64 masks at a time, each mask a byte; a sum made and counted in one pass, by counters that are bytes; the monomials of a product, a substitution or an answer counted where its table is made, so that none of its bytes is looked at again; a table packed and unpacked in blocks of 64 bytes of known length: in plain Rust their type says it, but for a derivative, in the engine places and counts are literals; on words, eight bytes of a table as one shifted load or store, the two halves of a word's letters exchanged meanwhile; on words, polynomials put in by choices, the two lowest letters at once by what stands for each four bits; question 21 on the values that Löwenheim's formula then takes, and not by way of coefficients; elimination that keeps the values before each unknown goes, and puts later answers in one letter at a time from the last on; records looked at in one pass for all questions, the number of letters of a mask from a table, with a loop for each of kinds 2 and 3, of which there may be many, which goes on as long as each passes question 12.
+- **Of plain Rust alone**: tables whose length the compiler knows, so that it holds them in registers, as the engine does only up to six letters when it solves and lists; a letter, negated or not, multiplied in where it stands without a branch, each `!` being counted onto the sign behind it; the masks present counted by their number of letters, eight masks at a time out of a table, so that each record goes straight to its place in the output, which needs no copy, and sparse tables are quick; the digits of a mask from a table; a sheet read line by line and printed in pieces that stay in the cache; on bytes, polynomials put in by looking values up point by point; a counter for each of 32 bytes side by side, where a sum is made and where the shorter is sought, there in one pass with question 8; a table counted behind its unpacking, on bytes by adding up the numbers of eight bytes that it consists of, on words by `count_ones` of each word; question 21 no further than the first 64 points that are not all 0; a derivative on coefficients, where inverting a letter adds one half of them to the other, on bytes in the result itself, on words without exchanging the halves of a word's letters; the steps of a session in place. **Of the engine alone**: the masks present are listed without a branch out of the written order, which it takes from a constant table of the masks of ten letters, as the request has it, up to six letters from one of theirs; a sum made and counted in blocks of 128 bytes with one counter, and the shorter sought by such a count of both tables, a pass of its own after question 8; every table that comes out of words counted as it becomes bytes, also that of a text, a derivative or a session's step, which give no count; a derivative goes to values, where inverting letters exchanges points, and back; a session goes by value, out of its block of bytes and back at each step. Tried in plain Rust and slower there: that listing, the masks taken out one number of letters after another, and eight masks at a time listed out of a table.
 - All are optimised builds for plain x86-64, on one thread. Tests hold plain Rust against the paper's own definitions; here all results and lent bytes are compared on every input before it is timed.
-- **Inputs** come from a fixed seed, eight for each call, over and over, so that the processor learns the way that they take; the sheet's lines come once in a process. Typical: texts of 180 to 200 bytes as a designer writes them, products of a few letters joined by `|` and `+`, and the conditions that such texts are read into. Dense: texts of 199 bytes that are letters and signs in turn, and conditions with every second monomial present. All conditions have a solution, so that solving finds answers; handed over for Löwenheim's formula are polynomials that lead, at each state and choice, to any choice that solves, so that about every second monomial is present, and where a row says 'refused' the same with one monomial changed; a fact says, where inputs are typical, that each two of the givens exclude each other, and where they are dense has about every second monomial without an unknown; a derivative is taken by every second letter; a walk goes over a volume of eight entries.
+- **Inputs** come from a fixed seed, eight for each call, over and over, so that the processor learns the way that they take; the sheet's lines come once in a process. Typical: texts of 180 to 200 bytes as a designer writes them, products of a few letters joined by `|` and `+`, and the conditions that such texts are read into. Dense: texts of 199 bytes that are letters and signs in turn, and conditions with every second monomial present. All conditions have a solution, so that solving finds answers; handed over for Löwenheim's formula are polynomials that lead, at each state and choice, to any choice that solves, so that about every second monomial is present, and where a row says 'refused' the same with one monomial changed; the shorter is sought of Boole's and Löwenheim's answers to a condition; a fact says, where inputs are typical, that each two of the givens exclude each other, and where they are dense has about every second monomial without an unknown; a derivative is taken by every second letter; a walk goes over a volume of eight entries.
 - **Buffers are not cleared first**: no call needs it, and each writes over what the call before it left.
 - {rounds} rounds after a warm-up; in a round each side calls for {} ms, and the side that goes first changes. 'Best' and 'median' are of the rounds, for one call, in processor time of the thread. A ratio is the median of the rounds' ratios: all sides of a round follow one another, so that a change of the processor's speed falls on all. Where best and median differ by more than a fifth the machine was not quiet, and the row is measured again, six times at most.
 ",
@@ -246,6 +253,36 @@ Filling a buffer with the masks for so many letters: before, each mask worked ou
 | letters | from counts, best | from the table, best | ratio |
 |---|---:|---:|---:|
 {table}"
+        )
+    }
+
+    fn counting(&self) -> String {
+        let mut table = String::new();
+        for (name, compared) in self.counting.products() {
+            let [without, with] = [WITHOUT, WITH].map(|side| duration(compared.times[side].best));
+            let ratio = compared.ratios[WITHOUT];
+            table += &format!("| {name} | {without} | {with} | **{ratio:.3}** |\n");
+        }
+        format!(
+            "## What counting costs
+
+The engine's product always counts its monomials. So its method is measured here as a plain Rust port, with the count and without it, side by side in this run: the questions, values of both tables in words, their product, the way back, the words unpacked. The monomials are counted as they become bytes: the eight bytes 0 or 1 that are stored at a time are added up as one number, and at the end its eight bytes are added. Tried before and rejected: the machine's count of ones, `count_ones`, on the words before they are unpacked, one word after another; plain x86-64 has no instruction for it. The same port with that count has a row of its own. Plain Rust is measured both ways too, with its own counts. The ratio is with the count by without it.
+
+| product of two tables | without the count, best | with it, best | ratio |
+|---|---:|---:|---:|
+{table}
+At ten letters the engine's method has the ratio {}.
+",
+            self.counting_cost(),
+        )
+    }
+
+    /// The ratio of the engine's method at the most letters, and the bound.
+    fn counting_cost(&self) -> String {
+        let ratio = self.counting.ratio();
+        let part = 100.0 * (ratio - 1.0);
+        format!(
+            "{ratio:.3}, so that counting is {part:.1} % of a product; the request's bound is 3 %"
         )
     }
 }
