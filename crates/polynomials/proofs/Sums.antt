@@ -1,16 +1,12 @@
 -- A sum that is counted as it is made: byte by byte in a block, and block by block.
 -- Assumes nothing.
 use mathlib.Core.Path.{_≡_, sym, ap, ap₂, _∙_}
-use mathlib.Core.Bool.{Bool}
 use mathlib.Core.List.{List}
 use Prim.Native.Nat.{ℕ, _+_, _-_, _*_, _^_, _≤_, _<_}
-use native.Mathlib.Numerals.{add-one}
 use native.Mathlib.Omega.{arith}
 use lib.Bits.{bitXor}
-use lib.Dec.{eqb}
 use lib.ListN.{getD, take, drop}
 use lib.Pow.{pow-add, pow-mono}
-use lib.Seq.{getD-take, getD-drop}
 use borrow.Rule.Slice.PartMut.{putMid}
 use Rattle.ring.specs.Letters.{digit}
 use Rattle.ring.specs.Polynomial.{_⊕_, count, sum}
@@ -18,6 +14,7 @@ use Rattle.ring.specs.Table.{AreBits, present, tabulate, table}
 use Rattle.ring.specs.Length.{monomialCount}
 use Rattle.ring.proofs.Lists.{listed-cong, tabulate-listed}
 use Rattle.ring.proofs.Length.{monomials-table}
+use Rattle.ring.proofs.Table.{present-part}
 use Rattle.ring.proofs.Parity.{count-cong, count-add}
 use Rattle.tables.proofs.Bits.{xor-bytes}
 use Rattle.tables.proofs.Filled.{filled}
@@ -29,15 +26,7 @@ pub sum-byte : (a b : List ℕ) (m : ℕ) → AreBits a → AreBits b
 unfolding sum present
 sum-byte a b m ha hb = xor-bytes _ _ (ha m) (hb m)
 
-pub ones-more : (test : ℕ → Bool) (i ones byte : ℕ) → ones ≡ count i test → byte ≡ digit (test i) → ones + byte ≡ count (i + 1) test
-unfolding count
-ones-more test i ones byte e eb = rw (e, eb, add-one i)
-
 -- ---- one block more, of k bytes
-part-present : (d s : ℕ) (t : List ℕ) (m : ℕ) → m < d → present (take d (drop s t)) m ≡ present t (s + m)
-unfolding present
-part-present d s t m l = ap (λ (x : ℕ). eqb x 1) (getD-take d (drop s t) m 0 l ∙ getD-drop s t m 0)
-
 module _ (w k : ℕ) (a b : List ℕ) where
   block-sum : (m : ℕ) → m < k
       → sum (present (take (w * k + k - w * k) (drop (w * k) a))) (present (take (w * k + k - w * k) (drop (w * k) b))) m
@@ -45,7 +34,7 @@ module _ (w k : ℕ) (a b : List ℕ) where
   unfolding sum
   block-sum m l =
       let d : w * k + k - w * k ≡ k = omega arith in
-      rw d (ap₂ _⊕_ (part-present k (w * k) a m l) (part-present k (w * k) b m l))
+      rw d (ap₂ _⊕_ (present-part k (w * k) a m l) (present-part k (w * k) b m l))
 
   pub block-added : (size : ℕ) (t₀ t ys : List ℕ) → size ≡ k
       → t ≡ filled (w * k) (λ m. digit (sum (present a) (present b) m)) t₀

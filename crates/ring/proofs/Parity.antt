@@ -20,6 +20,15 @@ unfolding count
 count-cong zero g h e = refl
 count-cong (suc k) g h e = ap₂ _+_ (count-cong k g h (λ i l. e i (omega arith))) (ap digit (e k (omega arith)))
 
+-- counted one by one: at the start, and one number more
+pub count-start : (test : ℕ → Bool) (k : ℕ) → k ≡ 0 → 0 ≡ count k test
+unfolding count
+count-start test k e = rw e
+
+pub count-next : (test : ℕ → Bool) (k s b : ℕ) → s ≡ count k test → b ≡ digit (test k) → s + b ≡ count (k + 1) test
+unfolding count
+count-next test k s b e eb = rw (add-one k) (ap₂ _+_ e eb)
+
 -- the first number apart
 pub count-first : (k : ℕ) (test : ℕ → Bool) → count (suc k) test ≡ digit (test 0) + count k (λ j. test (suc j))
 unfolding count

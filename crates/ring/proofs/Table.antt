@@ -10,8 +10,8 @@ use native.Mathlib.Omega.{arith}
 use lib.Dec.{eqb}
 use lib.Arith.{digits-lt}
 use lib.Pow.{high, low}
-use lib.ListN.{length, getD, take, replicate}
-use lib.Seq.{ext-getD, getD-take, take-at}
+use lib.ListN.{length, getD, take, drop, replicate}
+use lib.Seq.{ext-getD, getD-take, getD-drop, take-at}
 use borrow.Author.Tests.{eqb-true, eqb-false}
 use Rattle.ring.specs.Letters.{digit}
 use Rattle.ring.specs.Polynomial.{Polynomial, value}
@@ -106,6 +106,11 @@ table-cong n f g e = tabulate-cong (2 ^ n) f g e
 pub present-take : (k : ℕ) (t : List ℕ) (m : ℕ) → m < k → present (take k t) m ≡ present t m
 unfolding present
 present-take k t m l = ap (λ (x : ℕ). eqb x 1) (getD-take k t m 0 l)
+
+-- .. and that of a part of it off the part's bytes
+pub present-part : (d start : ℕ) (t : List ℕ) (m : ℕ) → m < d → present (take d (drop start t)) m ≡ present t (start + m)
+unfolding present
+present-part d start t m l = ap (λ (x : ℕ). eqb x 1) (getD-take d (drop start t) m 0 l ∙ getD-drop start t m 0)
 
 pub held-take : (n count : ℕ) (t : List ℕ) (j m : ℕ) → j < count → m < 2 ^ n → held n (take (count * 2 ^ n) t) j m ≡ held n t j m
 unfolding held

@@ -3,28 +3,26 @@
 use mathlib.Core.Path.{_≡_, sym, ap, ap₂, _∙_}
 use mathlib.Core.List.{List}
 use Prim.Native.Nat.{ℕ, _+_, _-_, _*_, _^_, _≤_}
-use native.Mathlib.Numerals.{add-one}
 use native.Mathlib.Omega.{arith}
-use lib.Dec.{eqb}
 use lib.ListN.{length, getD, take, drop, length-drop}
-use lib.Seq.{getD-take, getD-drop, length-take-le}
+use lib.Seq.{length-take-le}
 use Rattle.ring.specs.Polynomial.{count}
 use Rattle.ring.specs.Length.{totalCount}
 use Rattle.ring.specs.Table.{AreBits, held, present}
 use Rattle.ring.proofs.Length.{total-bytes, total-take}
-use Rattle.ring.proofs.Parity.{count-add, count-cong}
+use Rattle.ring.proofs.Table.{present-part}
+use Rattle.ring.proofs.Parity.{count-next, count-add, count-cong}
 use Rattle.tables.proofs.Bits.{byte-digit}
 
 -- a byte that is 0 or 1 adds itself
 pub byte-more : (t : List ℕ) (i found : ℕ) → AreBits t → found ≡ count i (present t) → found + getD t i 0 ≡ count (i + 1) (present t)
-unfolding count present
-byte-more t i found bits e = rw (add-one i) (ap₂ _+_ e (byte-digit (getD t i 0) (bits i)))
+unfolding present
+byte-more t i found bits e = count-next (present t) i found (getD t i 0) e (byte-digit (getD t i 0) (bits i))
 
 -- a block adds the count of its bytes
 pub block-more : (t : List ℕ) (start end found few : ℕ) → start ≤ end → end ≤ length t → found ≡ count start (present t)
     → few ≡ count (length (take (end - start) (drop start t))) (present (take (end - start) (drop start t)))
     → found + few ≡ count end (present t)
-unfolding present
 block-more t start end found few l h e ef =
     let size : ℕ = end - start in
     let block : List ℕ = take size (drop start t) in
@@ -32,7 +30,7 @@ block-more t start end found few l h e ef =
     let last : start + size ≡ end = omega arith in
     ap₂ _+_ e
     (ef ∙ ap (λ (k : ℕ). count k (present block)) whole
-    ∙ count-cong size _ _ (λ i j. ap (λ (x : ℕ). eqb x 1) (getD-take size (drop start t) i 0 j ∙ getD-drop start t i 0)))
+    ∙ count-cong size _ _ (present-part size start t))
     ∙ sym (count-add start size (present t)) ∙ ap (λ (k : ℕ). count k (present t)) last
 
 -- the loop has passed all bytes

@@ -198,15 +198,6 @@ pub sum-most : (s : ℕ)
 sum-most s = last-most _ (fold-most _ (pairs-most s))
 
 -- ---- tables
--- points counted one by one
-pub count-start : (test : ℕ → Bool) (k : ℕ) → k ≡ 0 → 0 ≡ count k test
-unfolding count
-count-start test k e = rw e
-
-pub count-next : (test : ℕ → Bool) (k s b : ℕ) → s ≡ count k test → b ≡ digit (test k) → s + b ≡ count (k + 1) test
-unfolding count
-count-next test k s b e eb = rw (add-one) (ap₂ _+_ e eb)
-
 -- as many as the table has monomials
 pub count-unpacked : (n k r : ℕ) (h : ℕ → Bool) (out out′ : List ℕ) → length out ≡ 2 ^ n → length out ≡ k → out′ ≡ tabulate (length out) h
     → r ≡ count k h

@@ -8,9 +8,9 @@ use Rattle.ring.specs.Letters.{digit}
 use Rattle.ring.specs.Polynomial.{count, sum}
 use Rattle.ring.specs.Table.{present}
 use Rattle.ring.proofs.Bool.{digit-lt}
-use Rattle.ring.proofs.Parity.{count-most}
+use Rattle.ring.proofs.Parity.{count-most, count-next}
 use Rattle.tables.proofs.Filled.{filled, filled-start, filled-more, filled-whole}
-use Rattle.polynomials.proofs.Sums.{sum-byte, ones-more}
+use Rattle.polynomials.proofs.Sums.{sum-byte}
 use Rattle.polynomials.proofs.add_few.Statement.{statement}
 use Rattle.polynomials.proofs.add_few.Tie as tie
 
@@ -50,7 +50,7 @@ loop-again c =
       search needs,
       filled-more _ _ _ _ (turn .loop .inv .1) _ (omega (arith, turn .loop .inv .2, c .before .before .loop-test .taken)) byte,
       search needs,
-      ones-more _ _ _ _ (turn .loop .inv .3) byte,
+      count-next _ _ _ _ (turn .loop .inv .3) byte,
     )
 
 returns : tie.Need-returns Inv-loop μ-loop
