@@ -203,7 +203,10 @@ fn unpack_word<const COUNTS: bool>(word: u64, out: &mut [u8]) -> u64 {
 /// The bytes of a sum of eights, added up.
 #[inline(always)]
 fn sum_lanes(lanes: u64) -> usize {
-    (0..8).map(|i| (lanes >> (8 * i)) % 256).sum::<u64>() as usize
+    const EVERY_SECOND: u64 = 0x00ff_00ff_00ff_00ff;
+    let pairs = (lanes & EVERY_SECOND) + (lanes >> 8 & EVERY_SECOND);
+    let folded = pairs % (1 << 32) + (pairs >> 32);
+    (folded % (1 << 16) + (folded >> 16)) as usize
 }
 
 /// Coefficients to values, or back. Ten letters by themselves, so that their widths are literals.

@@ -102,6 +102,11 @@ walks =
     ∷ record { volume = solvedEntry 8 ++ noneEntry 8 1; place = 0; answer = refused 15 (1 ∷ []) }
     ∷ record { volume = solvedEntry 8 ++ noneEntry 8 0; place = 0; answer = refused 13 (1 ∷ []) }
     ∷ record { volume = solvedEntry 8 ++ noneEntry 7 1; place = 20; answer = accepted (1 ∷ []) }
+    -- a route at the end that is not the start's, 'none' behind an answer, an unknown number that is U, a state that is 2 ^ G
+    ∷ record { volume = body 7 ++ (4 ∷ 8 ∷ []); place = 0; answer = refused 11 (0 ∷ []) }
+    ∷ record { volume = body 7 ++ (5 ∷ 0 ∷ 4 ∷ 7 ∷ []); place = 0; answer = refused 11 (0 ∷ []) }
+    ∷ record { volume = body 7 ++ (3 ∷ 2 ∷ 2 ∷ 0 ∷ 4 ∷ 7 ∷ []); place = 0; answer = refused 12 (0 ∷ []) }
+    ∷ record { volume = noneEntry 7 2; place = 0; answer = refused 12 (0 ∷ []) }
     -- v first; the answers are not those of u first, without a kind 6, and a kind 6 must be left out for u first
     ∷ record { volume = orderedEntry (orderOf 1 0); place = 0; answer = accepted (1 ∷ []) }
     ∷ record { volume = orderedEntry []; place = 0; answer = refused 13 (0 ∷ []) }
@@ -142,7 +147,7 @@ walks =
 
 pub walks-hold : AllHold walks
 unfolding times orderBytes orderFits orderIn isDefault isNeeded walkReply walkBehind walkAtMost walkQuestions routeRises firstNo lettersFit auditQuestions entryQuestions answersHold sameBytes numbersFit allInOrder inOrder standsBefore allInBounds inBounds bodyFits kindsFit kindsFollow mayFollow has hasEnd routeFits records firstRecords untilEnd next kind size fields widths valueOf valueIn fromLowFirst among bytes hasMonomial conditionIn answersIn unlessNone heldCondition heldVerdict letters before table tabulate answerTable present solve booleTable solvable isZero everyBelow remains nextCondition product restrict odd count bit defaultOrder listed booleAnswers answerFrom sum letter constant substitute monomial smallestBlocked smallestBelow blocked point value within factQuestions hasNoUnknown someStateCounts valueInState tableWhereZero whereZero recordQuestions factIn
-walks-hold = refl also refl also refl also refl also refl also refl also refl also refl also refl also refl also refl also refl also refl also refl also refl also refl also refl also refl also refl also refl also refl also refl also refl also refl also refl also refl also refl also refl also refl also refl also refl also refl also refl also refl also refl also refl also refl also refl also refl also refl also refl also refl also end
+walks-hold = refl also refl also refl also refl also refl also refl also refl also refl also refl also refl also refl also refl also refl also refl also refl also refl also refl also refl also refl also refl also refl also refl also refl also refl also refl also refl also refl also refl also refl also refl also refl also refl also refl also refl also refl also refl also refl also refl also refl also refl also refl also refl also refl also refl also refl also refl also end
 
 -- 17 is asked behind 1, behind 2 when writing, and before 4: of an order that has unknown 0 twice, and tables without bytes
 abbrev noOrder : List ℕ
