@@ -1,6 +1,6 @@
 //! What counting costs a product. The engine's product always counts, so that a port of its method is
 //! measured with the count and without it, and both forms of plain Rust as well; and the port with the
-//! count that was rejected.
+//! machine's count of ones in place of the engine's.
 
 use crate::calls::engine_letters;
 use crate::inputs::{counts, letters_of, Inputs, Kind};
@@ -17,8 +17,8 @@ pub const WITHOUT: usize = 1;
 pub struct Counting {
     /// The port, at each number of letters.
     pub port: Vec<(usize, Compared<2>)>,
-    /// The port with the count that was rejected, at the most letters.
-    pub rejected: Compared<2>,
+    /// The port with the machine's count of ones, at the most letters.
+    pub by_count_ones: Compared<2>,
     /// Both forms of plain Rust, at the most letters.
     pub bytes: Compared<2>,
     pub words: Compared<2>,
@@ -31,7 +31,7 @@ impl Counting {
             (format!("the engine's method, {count} letters"), times)
         };
         let others = [
-            ("the engine's method, but `count_ones` before unpacking", self.rejected),
+            ("the engine's method, but `count_ones` before unpacking", self.by_count_ones),
             ("plain Rust on bytes", self.bytes),
             ("plain Rust on words", self.words),
         ]
@@ -54,7 +54,7 @@ pub fn compare_counting(letters: RangeInclusive<usize>, effort: Effort) -> Count
     let (u, g) = counts(most.letters);
     Counting {
         port: letters.map(|count| (count, compare_port(&inputs(count), effort))).collect(),
-        rejected: compare_rejected(&most, effort),
+        by_count_ones: compare_by_count_ones(&most, effort),
         bytes: compare_forms(
             effort,
             &most.pairs,
@@ -81,7 +81,7 @@ fn compare_port(inputs: &Inputs, effort: Effort) -> Compared<2> {
     )
 }
 
-fn compare_rejected(inputs: &Inputs, effort: Effort) -> Compared<2> {
+fn compare_by_count_ones(inputs: &Inputs, effort: Effort) -> Compared<2> {
     let (u, g) = port_counts(inputs);
     compare_forms(
         effort,
@@ -99,17 +99,17 @@ fn port_counts(inputs: &Inputs) -> (usize, usize) {
 /// the same product.
 fn assert_same(inputs: &Inputs) {
     let (letters, (u, g)) = (engine_letters(inputs.letters), port_counts(inputs));
-    let [mut engine, mut with, mut rejected, mut without] =
+    let [mut engine, mut with, mut by_ones, mut without] =
         [(); 4].map(|()| vec![7; letters.table_length()]);
     for (a, b) in &inputs.pairs {
         let count = layodegi::product(letters, a, b, &mut engine).expect("two tables");
         let ones = engine.iter().filter(|&&byte| byte == 1).count();
         assert!(count == ones, "the engine's count");
         assert!(product::<true>(u, g, a, b, &mut with) == Ok(count), "the port's count");
-        let by_count_ones = product_by_count_ones(u, g, a, b, &mut rejected);
-        assert!(by_count_ones == Ok(count), "the count that was rejected");
+        let count_of_ones = product_by_count_ones(u, g, a, b, &mut by_ones);
+        assert!(count_of_ones == Ok(count), "the machine's count of ones");
         assert!(product::<false>(u, g, a, b, &mut without) == Ok(0), "the port without a count");
-        assert!([with.as_slice(), &rejected, &without] == [engine.as_slice(); 3], "the product");
+        assert!([with.as_slice(), &by_ones, &without] == [engine.as_slice(); 3], "the product");
     }
 }
 

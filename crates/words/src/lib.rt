@@ -226,7 +226,7 @@ fn unpack_each(words: &[u64], out: &mut [u8]) -> usize
 }
 
 // The values that words hold, which it uses up, as a table, and how many of them are 1. Counted here, where they become bytes:
-// plain x86-64 has no instruction that counts a word's ones, and a loop of its own costs more.
+// plain x86-64 has no instruction that counts a word's ones.
 fn unpack(n: usize, words: &mut [u64], out: &mut [u8]) -> usize
     requires { ⌜ (n ≤ 10) × (length (now words) ≡ 2 ^ (n - 6)) × (length (now out) ≡ 2 ^ n) ⌝ }
     ensures { λ r. ⌜ (now (out .exit) ≡ table n (bitAt (now (words .entry)))) × (r ≡ monomialCount n (present (now (out .exit)))) ⌝ }
