@@ -77,7 +77,7 @@ fn multiply_with(
     words::take_values(n, a, first);
     words::take_values(n, b, second);
     words::multiply_into(first, second);
-    words::put_table(n, first, out)
+    words::put_counted(n, first, out)
 }
 
 // The product of two tables, into a third, and the number of its monomials. The scratch words live here.
@@ -277,7 +277,7 @@ fn substitute_with(
 {
     words::take_values(u + g, condition, f);
     put_handed(u, u + g, handed, f, parts);
-    words::put_table(u + g, f, out)
+    words::put_counted(u + g, f, out)
 }
 
 // Handed polynomials put for the unknowns of a condition, all at once, and the number of monomials of what comes out; the givens stay. The

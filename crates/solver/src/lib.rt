@@ -327,7 +327,7 @@ fn write_mixed(
         let from = x * size;
         let to = from + size;
         words::mix(values, x, &b[start..end], own);
-        total += words::put_table(n, own, &mut answers[from..to]);
+        total += words::put_counted(n, own, &mut answers[from..to]);
     }
     total
 }

@@ -95,7 +95,7 @@ unfoldable pub rowsFrom : (ℕ → Bool) → ℕ → ℕ → ℕ
 rowsFrom x j zero = 0
 rowsFrom x j (suc k) = rowsFrom x (suc j) k * 2 + eightOf x (j * 8)
 
-pub eight-most : (x : ℕ → Bool) (p : ℕ) → eightOf x p ≤ 0x0101_0101_0101_0101
+eight-most : (x : ℕ → Bool) (p : ℕ) → eightOf x p ≤ 0x0101_0101_0101_0101
 unfolding eightOf
 eight-most x p =
     omega (
@@ -332,7 +332,7 @@ lows : ℕ → ℕ → Bool
 lows i k = Bool·beq (eqb (0x0101_0101_0101_0101 / 2 ^ (8 * i + k) % 2) 1) (lowest k)
 
 -- byte i of the word that the code makes
-pub row-byte : (v j i : ℕ) → j < 8 → i < 8 → bitAnd (v / 2 ^ j) 0x0101_0101_0101_0101 / 2 ^ (8 * i) % 256 ≡ digit (bit v (crossed (j * 8 + i)))
+row-byte : (v j i : ℕ) → j < 8 → i < 8 → bitAnd (v / 2 ^ j) 0x0101_0101_0101_0101 / 2 ^ (8 * i) % 256 ≡ digit (bit v (crossed (j * 8 + i)))
 unfolding lows lowest everyBelow bit
 row-byte v j i lj li =
     rw (crossed-small j i lj li) (same-letters 8 _ _ (mod-lt (x / 2 ^ (8 * i)) (pow-pos 8)) (small (bit v (j + 8 * i))) bits)
@@ -372,7 +372,7 @@ pub row-listed : (v j : ℕ) (ys : List ℕ) → j < 8 → ys ≡ listed 8 (λ i
 row-listed v j ys l e = e ∙ listed-cong 8 _ _ (λ i k. row-byte v j i l k)
 
 -- the points of one word among those of all, and their bytes
-pub word-point : (words : List ℕ) (w v i : ℕ) → v ≡ getD words w 0 → i < 64 → bit v (crossed i) ≡ bitAt words (crossed (w * 64 + i))
+word-point : (words : List ℕ) (w v i : ℕ) → v ≡ getD words w 0 → i < 64 → bit v (crossed i) ≡ bitAt words (crossed (w * 64 + i))
 word-point words w v i ev l =
     ap (λ (x : ℕ). bit x (crossed i)) ev ∙ sym (bit-at words w (crossed i) (crossed-lt 1 i l))
     ∙ ap (bitAt words) (sym (crossed-in w i l) ∙ ap (λ (x : ℕ). crossed (x + i)) (mul-comm 64 w))

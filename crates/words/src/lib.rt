@@ -5,7 +5,7 @@
 ghost use mathlib.Core.Path.{_≡_};
 ghost use mathlib.Core.Bool.{Bool, true, false, _&&_, cond};
 ghost use Prim.Native.Nat.{ℕ, _+_, _-_, _*_, _/_, _%_, _^_, _≤_, _<_};
-ghost use lib.Bits.{bitAnd, bitOr};
+ghost use lib.Bits.{bitAnd, bitOr, bitXor};
 ghost use lib.ListN.{length, getD};
 ghost use Rattle.ring.specs.Lists.{listed};
 ghost use Rattle.ring.specs.Letters.{digit, bit, assign};
@@ -14,7 +14,7 @@ ghost use Rattle.ring.specs.Derivative.{flipped};
 ghost use Rattle.ring.specs.Table.{AreBits, IsTable, present, tabulate, table};
 ghost use Rattle.ring.specs.Length.{monomialCount};
 ghost use Rattle.words.specs.Inner.Words.{wordOf, wordsOf, bitAt, First, lowLetters, stepped, steppedBelow, xorRun, turned, crossed};
-ghost use Rattle.words.specs.Inner.Words.{eightOf, lanesOf};
+ghost use Rattle.words.specs.Inner.Words.{eightOf};
 
 // The number of words of n letters.
 pub fn word_count(n: usize) -> usize
@@ -169,76 +169,55 @@ fn put_eight(word: u64, out: &mut [u8])
     out[7] = low_byte(word >> 56);
 }
 
-// The bits of a crossed word, a byte each, eight at a time, and the sum of these eights.
-fn unpack_word(word: u64, out: &mut [u8], eights: usize) -> u64
+// The bits of a crossed word, a byte each, eight at a time.
+fn unpack_word(word: u64, out: &mut [u8], eights: usize)
     requires { ⌜ (eights ≤ 8) × (length (now out) ≡ eights * 8) ⌝ }
-    ensures { λ r. ⌜ (now (out .exit) ≡ tabulate (length (now (out .entry))) (λ p. bit word (crossed p)))
-        × (r ≡ lanesOf eights (λ p. bit word (crossed p))) ⌝ }
+    ensures { λ _. ⌜ now (out .exit) ≡ tabulate (length (now (out .entry))) (λ p. bit word (crossed p)) ⌝ }
 {
-    let mut lanes = 0u64;
     for j in 0..eights {
         let start = j * 8;
         let end = start + 8;
-        let eight = (word >> j) & 0x0101_0101_0101_0101;
-        put_eight(eight, &mut out[start..end]);
-        lanes += eight;
+        put_eight((word >> j) & 0x0101_0101_0101_0101, &mut out[start..end]);
     }
-    lanes
 }
 
-// The values that crossed words hold, a byte each, and the sum of their eights. They are 128 at most, so no byte of the sum runs over.
-fn unpack_all(words: &[u64], out: &mut [u8]) -> u64
-    requires { ⌜ (length (now out) ≡ 64 * length (now words)) × (length (now words) ≤ 16) ⌝ }
-    ensures { λ r. ⌜ (now (out .exit) ≡ tabulate (length (now (out .entry))) (λ p. bitAt (now (words .entry)) (crossed p)))
-        × (r ≡ lanesOf (length (now (words .entry)) * 8) (λ p. bitAt (now (words .entry)) (crossed p))) ⌝ }
+// The values that crossed words hold, a byte each.
+fn unpack_all(words: &[u64], out: &mut [u8])
+    requires { ⌜ length (now out) ≡ 64 * length (now words) ⌝ }
+    ensures { λ _. ⌜ now (out .exit) ≡ tabulate (length (now (out .entry))) (λ p. bitAt (now (words .entry)) (crossed p)) ⌝ }
 {
-    let mut lanes = 0u64;
     for w in 0..words.len() {
         let start = w * 64;
         let end = start + 64;
-        lanes += unpack_word(words[w], &mut out[start..end], 8);
+        unpack_word(words[w], &mut out[start..end], 8);
     }
-    lanes
 }
 
-// The number of points with the value 1, from the sum of their eights: its bytes added up, two, then four and then eight.
-fn sum_lanes(lanes: u64) -> usize
-    ensures { λ r. ⌜ ((k : ℕ) (h : ℕ → Bool) → k ≤ 128 → lanes ≡ lanesOf k h → r ≡ count (k * 8) h) ⌝ }
-{
-    let pairs = (lanes & 0x00ff_00ff_00ff_00ff) + ((lanes >> 8) & 0x00ff_00ff_00ff_00ff);
-    let folded = pairs % 4294967296 + (pairs >> 32);
-    (folded % 65536 + (folded >> 16)) as usize
-}
-
-// The values that words hold, a byte each, and how many of them are 1.
-fn unpack_each(words: &[u64], out: &mut [u8]) -> usize
+// The values that words hold, a byte each.
+fn unpack_each(words: &[u64], out: &mut [u8])
     requires { ⌜ length (now out) ≤ 64 * length (now words) ⌝ }
-    ensures { λ r. ⌜ (now (out .exit) ≡ tabulate (length (now (out .entry))) (bitAt (now (words .entry))))
-        × (r ≡ count (length (now (out .entry))) (bitAt (now (words .entry)))) ⌝ }
+    ensures { λ _. ⌜ now (out .exit) ≡ tabulate (length (now (out .entry))) (bitAt (now (words .entry))) ⌝ }
 {
-    let mut found = 0;
     for p in 0..out.len() {
-        let byte = bit_of(words[p >> 6], p & 63);
-        out[p] = byte;
-        found += byte as usize;
+        out[p] = bit_of(words[p >> 6], p & 63);
     }
-    found
 }
 
-// The values that words hold, which it uses up, as a table, and how many of them are 1. Counted here, where they become bytes:
-// plain x86-64 has no instruction that counts a word's ones.
-fn unpack(n: usize, words: &mut [u64], out: &mut [u8]) -> usize
+// The values that words hold, which it uses up, as a table.
+fn unpack(n: usize, words: &mut [u64], out: &mut [u8])
     requires { ⌜ (n ≤ 10) × (length (now words) ≡ 2 ^ (n - 6)) × (length (now out) ≡ 2 ^ n) ⌝ }
-    ensures { λ r. ⌜ (now (out .exit) ≡ table n (bitAt (now (words .entry)))) × (r ≡ monomialCount n (present (now (out .exit)))) ⌝ }
+    ensures { λ _. ⌜ now (out .exit) ≡ table n (bitAt (now (words .entry))) ⌝ }
 {
     if n < 3 {
-        return unpack_each(words, out);
+        unpack_each(words, out);
+        return;
     }
     cross_all(words);
     if n < 6 {
-        return sum_lanes(unpack_word(words[0], out, tables::pow2(n - 3)));
+        unpack_word(words[0], out, tables::pow2(n - 3));
+        return;
     }
-    sum_lanes(unpack_all(words, out))
+    unpack_all(words, out);
 }
 
 // The value that words hold at a point.
@@ -373,14 +352,122 @@ pub fn take_values(n: usize, t: &[u8], words: &mut [u64])
     to_values(words, further(n));
 }
 
-// The table of coefficients whose values stand in words, which it uses up, and the number of its monomials.
-pub fn put_table(n: usize, words: &mut [u64], out: &mut [u8]) -> usize
+// The table of coefficients whose values stand in words, which it uses up.
+pub fn put_table(n: usize, words: &mut [u64], out: &mut [u8])
+    requires { ⌜ (n ≤ 10) × (length (now words) ≡ 2 ^ (n - 6)) × (length (now out) ≡ 2 ^ n) ⌝ }
+    ensures { λ _. ⌜ now (out .exit) ≡ table n (value n (bitAt (now (words .entry)))) ⌝ }
+{
+    to_values(words, further(n));
+    unpack(n, words, out);
+}
+
+// The ones of a word.
+fn ones(word: u64) -> u64
+    ensures { λ r. ⌜ (r ≡ count 64 (bit word)) × (r ≤ 64) ⌝ }
+{
+    u64::count_ones(word) as u64
+}
+
+// The ones among the first points of a word, as many as n letters have.
+fn count_few(n: usize, word: u64) -> usize
+    requires { ⌜ n < 6 ⌝ }
+    ensures { λ r. ⌜ r ≡ count (2 ^ n) (bit word) ⌝ }
+{
+    let end = 1u64 << tables::pow2(n);
+    ones(word & (end - 1)) as usize
+}
+
+// The ones of each word.
+fn count_each(words: &[u64]) -> usize
+    requires { ⌜ length (now words) ≤ 16 ⌝ }
+    ensures { λ r. ⌜ r ≡ count (64 * length (now (words .entry))) (bitAt (now (words .entry))) ⌝ }
+{
+    let mut sum = 0;
+    for i in 0..words.len() {
+        sum += ones(words[i]) as usize;
+    }
+    sum
+}
+
+// What three words carry when their points are added up: 1 where at least two of them are 1.
+fn carry(a: u64, b: u64, c: u64) -> u64
+    ensures { λ r. ⌜ count 64 (bit a) + count 64 (bit b) + count 64 (bit c) ≡ count 64 (bit (bitXor (bitXor a b) c)) + 2 * count 64 (bit r) ⌝ }
+{
+    (a & b) | ((a ^ b) & c)
+}
+
+// The ones of eight words. Seven are added up point by point first, so that four words are counted in place of eight.
+fn count_eight(a: u64, b: u64, c: u64, d: u64, e: u64, f: u64, g: u64, h: u64) -> u64
+    ensures { λ r. ⌜ (r ≡ count 64 (bit a) + count 64 (bit b) + count 64 (bit c) + count 64 (bit d)
+        + count 64 (bit e) + count 64 (bit f) + count 64 (bit g) + count 64 (bit h)) × (r ≤ 512) ⌝ }
+{
+    let abc = a ^ b ^ c;
+    let def = d ^ e ^ f;
+    let first = carry(a, b, c);
+    let second = carry(d, e, f);
+    let third = carry(abc, def, g);
+    let twos = first ^ second ^ third;
+    let fours = carry(first, second, third);
+    ones(abc ^ def ^ g) + ones(h) + 2 * (ones(twos) + 2 * ones(fours))
+}
+
+// The ones of sixteen words, which it uses up: what every second word has is stored where two of them stand side by side,
+// so that both are worked out at once, in vectors.
+fn count_sixteen(words: &mut [u64]) -> usize
+    requires { ⌜ length (now words) ≡ 16 ⌝ }
+    ensures { λ r. ⌜ r ≡ count (64 * 16) (bitAt (now (words .entry))) ⌝ }
+{
+    let even = count_eight(
+        words[0],
+        words[2],
+        words[4],
+        words[6],
+        words[8],
+        words[10],
+        words[12],
+        words[14],
+    );
+    let odd = count_eight(
+        words[1],
+        words[3],
+        words[5],
+        words[7],
+        words[9],
+        words[11],
+        words[13],
+        words[15],
+    );
+    words[0] = even;
+    words[1] = odd;
+    (even + odd) as usize
+}
+
+// The ones of words, which it uses up. Ten letters have a way of their own.
+fn count_all(words: &mut [u64]) -> usize
+    requires { ⌜ length (now words) ≤ 16 ⌝ }
+    ensures { λ r. ⌜ r ≡ count (64 * length (now (words .entry))) (bitAt (now (words .entry))) ⌝ }
+{
+    if words.len() == 16 {
+        return count_sixteen(words);
+    }
+    count_each(words)
+}
+
+// The same, and the number of its monomials: the ones of the words, crossed, from which its bytes are stored.
+pub fn put_counted(n: usize, words: &mut [u64], out: &mut [u8]) -> usize
     requires { ⌜ (n ≤ 10) × (length (now words) ≡ 2 ^ (n - 6)) × (length (now out) ≡ 2 ^ n) ⌝ }
     ensures { λ r. ⌜ (now (out .exit) ≡ table n (value n (bitAt (now (words .entry)))))
         × (r ≡ monomialCount n (present (now (out .exit)))) ⌝ }
 {
     to_values(words, further(n));
-    unpack(n, words, out)
+    if n < 6 {
+        let found = count_few(n, words[0]);
+        unpack(n, words, out);
+        return found;
+    }
+    cross_all(words);
+    unpack_all(words, out);
+    count_all(words)
 }
 
 fn put_copy_with(n: usize, slot: &[u64], out: &mut [u8], own: &mut [u64]) -> usize
@@ -389,10 +476,10 @@ fn put_copy_with(n: usize, slot: &[u64], out: &mut [u8], own: &mut [u64]) -> usi
         × (r ≡ monomialCount n (present (now (out .exit)))) ⌝ }
 {
     copy(own, slot);
-    put_table(n, own, out)
+    put_counted(n, own, out)
 }
 
-// The table of coefficients whose values stand in words, which stay, and the number of its monomials. The scratch words live here.
+// The same of words that stay. The scratch words live here.
 pub fn put_copy(n: usize, slot: &[u64], out: &mut [u8]) -> usize
     requires { ⌜ (n ≤ 10) × (length (now slot) ≡ 2 ^ (n - 6)) × (length (now out) ≡ 2 ^ n) ⌝ }
     ensures { λ r. ⌜ (now (out .exit) ≡ table n (value n (bitAt (now (slot .entry)))))

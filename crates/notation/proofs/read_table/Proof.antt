@@ -26,7 +26,7 @@ returns-2 c =
     let valued = tested .before .before .before in
     let read = valued .symbol-values in
     let pre = valued .before .before .before .before .before .pre in
-    let table = table-text _ _ _ _ _ (words-ready _ _ _ _ _ _ z (pre .0 .size) (read .ensures .1)) (put .put-table .ensures .0) in
+    let table = table-text _ _ _ _ _ (words-ready _ _ _ _ _ _ z (pre .0 .size) (read .ensures .1)) (put .put-table .ensures) in
     (read .ensures .0, table ∙ sym (after-all _ _ _ z (pre .1 ∙ sym (text-is-table _ _ _ .size))))
 
 pub read-table-spec : {M : Type 1} → statement M

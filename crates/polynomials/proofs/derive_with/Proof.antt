@@ -27,7 +27,7 @@ returns c =
     let entry = after-take-values .before .before .before .before .before .before in
     derivative-done _ _ _ _ (entry .args .t .now) _ _ _ _ (after-further .further .ensures) (size-words _ _ _ (after-take-values .take-values .ensures))
     (entry .pre .2) (after-take-values .take-values .ensures) (after-flip .flip .ensures) (after-add-into .add-into .ensures)
-    (after-put-table .put-table .ensures .0)
+    (after-put-table .put-table .ensures)
 
 pub derive-with-spec : {M : Type 1} → statement M
 derive-with-spec =

@@ -11,8 +11,8 @@ multiply-into-requires c κs =
     size-words _ _ _ (c .before .before .before .before .before .before .before .before .take-values .ensures)
     ∙ sym (size-words _ _ _ (c .before .before .before .before .take-values2 .ensures))
 
-put-table-requires : tie.Need-put-table-requires
-put-table-requires c κs =
+put-counted-requires : tie.Need-put-counted-requires
+put-counted-requires c κs =
     (c .before .before .before .before .before .before .before .before .before .before .before .before .before .before .before .before .before .before .before .before .pre .0, size-words _ _ _ (c .before .before .before .before .multiply-into .ensures) ∙ size-words _ _ _ (c .before .before .before .before .before .before .before .before .before .before .before .before .before .take-values .ensures), c .before .before .before .before .before .before .before .before .before .before .before .before .before .before .before .before .before .before .before .before .pre .3)
 
 returns : tie.Need-returns
@@ -23,8 +23,8 @@ returns c =
     let first = second .before .before .before .before in
     let start = first .before .before .before .before .before .before .before in (
       product-done _ _ (start .args .a .now) (start .args .b .now) _ _ _ _ (size-words _ _ _ (first .take-values .ensures))
-          (first .take-values .ensures) (second .take-values2 .ensures) (multiplied .multiply-into .ensures) (made .put-table .ensures .0),
-      made .put-table .ensures .1,
+          (first .take-values .ensures) (second .take-values2 .ensures) (multiplied .multiply-into .ensures) (made .put-counted .ensures .0),
+      made .put-counted .ensures .1,
     )
 
 pub multiply-with-spec : {M : Type 1} → statement M
@@ -34,7 +34,7 @@ multiply-with-spec =
     (λ c κs. search needs)
     (λ c κs. search needs)
     multiply-into-requires
-    put-table-requires
+    put-counted-requires
     (λ c. search needs)
     (λ c. search needs)
     (λ c. search needs)

@@ -11,8 +11,8 @@ returns c =
     let taken = put .before .before .before .before .before in
     let start = taken .before .before .before .before .before .before .before in (
       substitute-done _ _ (start .args .condition .now) (start .args .handed .now) _ _ _ (put .put-handed .ensures .0)
-          (taken .take-values .ensures) (made .put-table .ensures .0),
-      made .put-table .ensures .1,
+          (taken .take-values .ensures) (made .put-counted .ensures .0),
+      made .put-counted .ensures .1,
     )
 
 pub substitute-with-spec : {M : Type 1} → statement M

@@ -76,16 +76,16 @@ mix-requires c κs =
           ∙ after-word-count .word-count .ensures ∙ sym (turn .loop .inv .3 ∙ start .pre .4),
     )
 
-part-put-table-end : tie.Need-part-put-table-end Inv-loop μ-loop
-part-put-table-end c =
+part-put-counted-end : tie.Need-part-put-counted-end Inv-loop μ-loop
+part-put-counted-end c =
     let start = c .before .before .before .before .before .before .before .before .before .before .before .before .before .before in
     let after-pow2 = c .before .before .before .before .before .before .before .before in
     let turn = c .before .before .before .before .before .before .before in
     let tested = c .before .before .before .before .before .before in
     omega (arith, part-fits _ _ _ _ _ (after-pow2 .pow2 .ensures) (tested .loop-test .taken) (start .pre .5), turn .loop .inv .2)
 
-put-table-requires : tie.Need-put-table-requires Inv-loop μ-loop
-put-table-requires c κs =
+put-counted-requires : tie.Need-put-counted-requires Inv-loop μ-loop
+put-counted-requires c κs =
     let start = c .before .before .before .before .before .before .before .before .before .before .before .before .before .before .before in
     let after-pow2 = c .before .before .before .before .before .before .before .before .before in
     let turn = c .before .before .before .before .before .before .before .before in
@@ -111,10 +111,10 @@ add-total : tie.Need-add-total Inv-loop μ-loop
 add-total c =
     let start = begun c in
     let turn = c .before .before .before .before .before .before .before .before .before .before .before .before .before in
-    let after-put-table = c .before .before .before .before in
+    let after-put-counted = c .before .before .before .before in
     omega (
       arith,
-      total-small (start .args .n) _ _ _ _ _ (turn .loop .inv .4) (after-put-table .put-table .ensures .1)
+      total-small (start .args .n) _ _ _ _ _ (turn .loop .inv .4) (after-put-counted .put-counted .ensures .1)
           (omega (arith, turn .loop .inv .0, start .pre .0)) (start .pre .1),
     )
 
@@ -126,17 +126,17 @@ loop-again c =
     let after-pow2 = c .before .before .before .before .before .before .before .before .before .before .before .before .before .before in
     let turn = c .before .before .before .before .before .before .before .before .before .before .before .before .before in
     let after-mix = c .before .before .before .before .before .before .before .before .before in
-    let after-put-table = c .before .before .before .before in
+    let after-put-counted = c .before .before .before .before in
     let same =
     mixed-table (start .args .n) _ _ _ (start .args .values .now) (start .args .b .now) _ (after-word-count .word-count .ensures)
     (turn .loop .inv .3 ∙ start .pre .4) (after-mix .mix .ensures) in (
       search needs,
-      tables-more (start .args .n) _ _ _ _ _ _ _ (after-pow2 .pow2 .ensures) (turn .loop .inv .1) (after-put-table .put-table .ensures .0)
+      tables-more (start .args .n) _ _ _ _ _ _ _ (after-pow2 .pow2 .ensures) (turn .loop .inv .1) (after-put-counted .put-counted .ensures .0)
           same,
       search needs,
       search needs,
-      total-more (start .args .n) _ _ _ _ _ _ (turn .loop .inv .4) (after-put-table .put-table .ensures .0) same
-          (after-put-table .put-table .ensures .1),
+      total-more (start .args .n) _ _ _ _ _ _ (turn .loop .inv .4) (after-put-counted .put-counted .ensures .0) same
+          (after-put-counted .put-counted .ensures .1),
     )
 
 returns : tie.Need-returns Inv-loop μ-loop
@@ -168,8 +168,8 @@ write-mixed-spec =
     mix-requires
     (λ c. search needs)
     (λ c. search needs)
-    part-put-table-end
-    put-table-requires
+    part-put-counted-end
+    put-counted-requires
     add-total
     (λ c. search needs)
     (λ c. search needs)
