@@ -83,6 +83,18 @@ carried a b c =
     or-bit (bitAnd a b) (bitAnd (bitXor a b) c) i
     ∙ ap₂ inclusive (and-bit a b i) (and-bit (bitXor a b) c i ∙ ap (λ (x : Bool). x && bit c i) (xor-bit a b i)))))
 
+-- .. so that the ones of eight words are those of four: of seven their sum, what is carried, and what that carries, and of the eighth
+pub eight-words : (a b c d e f g h first second third fours p q r s : ℕ)
+    → (let o : ℕ → ℕ = λ w. count 64 (bit w) in
+    let abc : ℕ = bitXor (bitXor a b) c in
+    let def : ℕ = bitXor (bitXor d e) f in
+    let all : ℕ = bitXor (bitXor abc def) g in
+    let twos : ℕ = bitXor (bitXor first second) third in
+    o a + o b + o c ≡ o abc + 2 * o first → o d + o e + o f ≡ o def + 2 * o second → o abc + o def + o g ≡ o all + 2 * o third
+    → o first + o second + o third ≡ o twos + 2 * o fours → p ≡ o all → q ≡ o h → r ≡ o twos → s ≡ o fours
+    → p + q + 2 * (r + 2 * s) ≡ o a + o b + o c + o d + o e + o f + o g + o h)
+eight-words a b c d e f g h first second third fours p q r s e1 e2 e3 e4 ep eq er es = omega arith
+
 -- ---- several words
 pub count-start : (test : ℕ → Bool) (k : ℕ) → k ≡ 0 → 0 ≡ count (64 * k) test
 unfolding count
