@@ -1,10 +1,9 @@
-//! What counting costs a product. The engine's product always counts, so that a port of its method is
-//! measured with the count and without it, and both forms of plain Rust as well; and the port with the
-//! machine's count of ones in place of the engine's.
+//! What counting costs a product. The product call always counts, so that its work behind the questions
+//! is measured with the count and without it, and both forms of plain Rust as well.
 
 use crate::calls::engine_letters;
 use crate::inputs::{counts, letters_of, Inputs, Kind};
-use crate::ported::{product, product_by_count_ones};
+use crate::measured::{product, Asked};
 use crate::timing::{compare, Compared, Effort};
 use reference::plain::{self, Bytes};
 use std::hint::black_box;
@@ -15,10 +14,8 @@ pub const WITH: usize = 0;
 pub const WITHOUT: usize = 1;
 
 pub struct Counting {
-    /// The port, at each number of letters.
-    pub port: Vec<(usize, Compared<2>)>,
-    /// The port with the machine's count of ones, at the most letters.
-    pub by_count_ones: Compared<2>,
+    /// The engine, behind its questions, at each number of letters.
+    pub engine: Vec<(usize, Compared<2>)>,
     /// Both forms of plain Rust, at the most letters.
     pub bytes: Compared<2>,
     pub words: Compared<2>,
@@ -27,21 +24,17 @@ pub struct Counting {
 impl Counting {
     /// What was measured with the count and without it.
     pub fn products(&self) -> Vec<(String, Compared<2>)> {
-        let port = |&(count, times): &(usize, Compared<2>)| {
-            (format!("the engine's method, {count} letters"), times)
+        let engine = |&(count, times): &(usize, Compared<2>)| {
+            (format!("the engine, behind its questions, {count} letters"), times)
         };
-        let others = [
-            ("the engine's method, but `count_ones` before unpacking", self.by_count_ones),
-            ("plain Rust on bytes", self.bytes),
-            ("plain Rust on words", self.words),
-        ]
-        .map(|(name, times)| (format!("{name}, 10 letters"), times));
-        self.port.iter().map(port).chain(others).collect()
+        let plain = [("plain Rust on bytes", self.bytes), ("plain Rust on words", self.words)]
+            .map(|(name, times)| (format!("{name}, 10 letters"), times));
+        self.engine.iter().map(engine).chain(plain).collect()
     }
 
-    /// What the port takes at the most letters with the count, by what it takes without it.
+    /// What the engine takes at the most letters with the count, by what it takes without it.
     pub fn ratio(&self) -> f64 {
-        self.port.last().map_or(1.0, |(_, times)| times.ratios[WITHOUT])
+        self.engine.last().map_or(1.0, |(_, times)| times.ratios[WITHOUT])
     }
 }
 
@@ -53,8 +46,7 @@ pub fn compare_counting(letters: RangeInclusive<usize>, effort: Effort) -> Count
     let most = inputs(*letters.end());
     let (u, g) = counts(most.letters);
     Counting {
-        port: letters.map(|count| (count, compare_port(&inputs(count), effort))).collect(),
-        by_count_ones: compare_by_count_ones(&most, effort),
+        engine: letters.map(|count| (count, compare_engine(&inputs(count), effort))).collect(),
         bytes: compare_forms(
             effort,
             &most.pairs,
@@ -70,46 +62,37 @@ pub fn compare_counting(letters: RangeInclusive<usize>, effort: Effort) -> Count
     }
 }
 
-fn compare_port(inputs: &Inputs, effort: Effort) -> Compared<2> {
-    let (u, g) = port_counts(inputs);
-    assert_same(inputs);
-    compare_forms(
+fn compare_engine(inputs: &Inputs, effort: Effort) -> Compared<2> {
+    let n = inputs.letters.unknowns + inputs.letters.givens;
+    let pairs: Vec<(Asked, Asked)> =
+        inputs.pairs.iter().map(|(a, b)| (Asked::new(n, a), Asked::new(n, b))).collect();
+    assert_same(inputs, &pairs);
+    let [mut with_out, mut without_out] = [(); 2].map(|()| vec![7; 1 << n]);
+    compare(
         effort,
-        &inputs.pairs,
-        |(a, b), out| product::<true>(u, g, a, b, out),
-        |(a, b), out| product::<false>(u, g, a, b, out),
+        &pairs,
+        [
+            &mut |(a, b): &(Asked, Asked)| {
+                black_box(product::<true>(black_box(a), b, black_box(&mut with_out)));
+            },
+            &mut |(a, b): &(Asked, Asked)| {
+                black_box(product::<false>(black_box(a), b, black_box(&mut without_out)));
+            },
+        ],
     )
 }
 
-fn compare_by_count_ones(inputs: &Inputs, effort: Effort) -> Compared<2> {
-    let (u, g) = port_counts(inputs);
-    compare_forms(
-        effort,
-        &inputs.pairs,
-        |(a, b), out| product_by_count_ones(u, g, a, b, out),
-        |(a, b), out| product::<false>(u, g, a, b, out),
-    )
-}
-
-fn port_counts(inputs: &Inputs) -> (usize, usize) {
-    (inputs.letters.unknowns, inputs.letters.givens)
-}
-
-/// The port gives the engine's product and its count, by either way of counting, and without the count
-/// the same product.
-fn assert_same(inputs: &Inputs) {
-    let (letters, (u, g)) = (engine_letters(inputs.letters), port_counts(inputs));
-    let [mut engine, mut with, mut by_ones, mut without] =
-        [(); 4].map(|()| vec![7; letters.table_length()]);
-    for (a, b) in &inputs.pairs {
-        let count = layodegi::product(letters, a, b, &mut engine).expect("two tables");
-        let ones = engine.iter().filter(|&&byte| byte == 1).count();
-        assert!(count == ones, "the engine's count");
-        assert!(product::<true>(u, g, a, b, &mut with) == Ok(count), "the port's count");
-        let count_of_ones = product_by_count_ones(u, g, a, b, &mut by_ones);
-        assert!(count_of_ones == Ok(count), "the machine's count of ones");
-        assert!(product::<false>(u, g, a, b, &mut without) == Ok(0), "the port without a count");
-        assert!([with.as_slice(), &by_ones, &without] == [engine.as_slice(); 3], "the product");
+/// Both sides make the product that the library makes, and the one that counts gives its count.
+fn assert_same(inputs: &Inputs, pairs: &[(Asked, Asked)]) {
+    let letters = engine_letters(inputs.letters);
+    let [mut library, mut with, mut without] = [(); 3].map(|()| vec![7; letters.table_length()]);
+    for ((a, b), (asked_a, asked_b)) in inputs.pairs.iter().zip(pairs) {
+        let count = layodegi::product(letters, a, b, &mut library).expect("two tables");
+        let ones = library.iter().filter(|&&byte| byte == 1).count();
+        assert!(count == ones, "the library's count");
+        assert!(product::<true>(asked_a, asked_b, &mut with) == count, "the count");
+        assert!(product::<false>(asked_a, asked_b, &mut without) == 0, "no count");
+        assert!([&with, &without] == [&library; 2], "the product");
     }
 }
 

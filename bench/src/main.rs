@@ -7,8 +7,8 @@
 mod calls;
 mod counting;
 mod inputs;
+mod measured;
 mod plot;
-mod ported;
 mod processor_time;
 mod report;
 mod sheet;

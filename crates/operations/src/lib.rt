@@ -179,7 +179,7 @@ pub fn product(u: usize, g: usize, a: &[u8], b: &[u8], out: &mut [u8]) -> Counte
         return Counted::Refused(q);
     }
     let k = tables::pow2(u + g);
-    Counted::Monomials(polynomials::multiply(u + g, &a[..k], &b[..k], &mut out[..k]))
+    Counted::Monomials(polynomials::multiply(u + g, &a[..k], &b[..k], &mut out[..k], true))
 }
 
 // Handed polynomials put for the unknowns of a condition, all at once, and the number of monomials of what comes out; the givens stay.

@@ -4,6 +4,7 @@
 // and then lend slices of exactly the length that is needed. All but the sum go to values in words, and come back; `put_handed` stays there.
 // What a product, a sum or a substitution comes to is counted where its table is made: the number of monomials present.
 ghost use mathlib.Core.Path.{_≡_};
+ghost use mathlib.Core.Bool.{cond};
 ghost use mathlib.Core.List.{_++_};
 ghost use Prim.Native.Nat.{ℕ, _+_, _-_, _*_, _/_, _%_, _^_, _≤_, _<_};
 ghost use lib.ListN.{length, getD, drop};
@@ -66,30 +67,35 @@ fn multiply_with(
     a: &[u8],
     b: &[u8],
     out: &mut [u8],
+    counts: bool,
     first: &mut [u64],
     second: &mut [u64],
 ) -> usize
     requires { ⌜ (n ≤ 10) × IsTable n (now a) × IsTable n (now b) × (length (now out) ≡ 2 ^ n) × (length (now first) ≡ 2 ^ (n - 6))
         × (length (now second) ≡ 2 ^ (n - 6)) ⌝ }
     ensures { λ r. ⌜ (now (out .exit) ≡ table n (product n (present (now (a .entry))) (present (now (b .entry)))))
-        × (r ≡ monomialCount n (present (now (out .exit)))) ⌝ }
+        × (r ≡ cond counts (monomialCount n (present (now (out .exit)))) 0) ⌝ }
 {
     words::take_values(n, a, first);
     words::take_values(n, b, second);
     words::multiply_into(first, second);
-    words::put_counted(n, first, out)
+    if counts {
+        return words::put_counted(n, first, out);
+    }
+    words::put_table(n, first, out);
+    0
 }
 
-// The product of two tables, into a third, and the number of its monomials. The scratch words live here.
-pub fn multiply(n: usize, a: &[u8], b: &[u8], out: &mut [u8]) -> usize
+// The product of two tables, into a third, and the number of its monomials, 0 unless it counts them. The scratch words live here.
+pub fn multiply(n: usize, a: &[u8], b: &[u8], out: &mut [u8], counts: bool) -> usize
     requires { ⌜ (n ≤ 10) × IsTable n (now a) × IsTable n (now b) × (length (now out) ≡ 2 ^ n) ⌝ }
     ensures { λ r. ⌜ (now (out .exit) ≡ table n (product n (present (now (a .entry))) (present (now (b .entry)))))
-        × (r ≡ monomialCount n (present (now (out .exit)))) ⌝ }
+        × (r ≡ cond counts (monomialCount n (present (now (out .exit)))) 0) ⌝ }
 {
     let k = words::word_count(n);
     let mut first = [0u64; 16];
     let mut second = [0u64; 16];
-    multiply_with(n, a, b, out, &mut first[..k], &mut second[..k])
+    multiply_with(n, a, b, out, counts, &mut first[..k], &mut second[..k])
 }
 
 // Two tables joined, into a third: f + h + f*h.
@@ -97,7 +103,7 @@ pub fn join(n: usize, a: &[u8], b: &[u8], out: &mut [u8])
     requires { ⌜ (n ≤ 10) × IsTable n (now a) × IsTable n (now b) × (length (now out) ≡ 2 ^ n) ⌝ }
     ensures { λ _. ⌜ now (out .exit) ≡ table n (join n (present (now (a .entry))) (present (now (b .entry)))) ⌝ }
 {
-    multiply(n, a, b, out);
+    multiply(n, a, b, out, false);
     tables::add_into(out, a);
     tables::add_into(out, b);
 }

@@ -23,7 +23,7 @@ use Rattle.ring.proofs.Length.{monomials-table}
 use Rattle.ring.proofs.Mask.{low}
 use Rattle.ring.proofs.Parity.{count-cong, count-first, count-add, count-more}
 use Rattle.ring.proofs.Points.{bit-zero, bit-suc, bit-none, digit-low}
-use Rattle.words.specs.Inner.Words.{wordsOf, bitAt, First, crossed}
+use Rattle.words.specs.Inner.Words.{wordsOf, bitAt, First, crossed, onesOf}
 use Rattle.words.proofs.Bits.{low-bit}
 use Rattle.words.proofs.Crossing.{crossed-in}
 use Rattle.words.proofs.Words.{bit-at, at-known}
@@ -38,14 +38,14 @@ ones-below (suc k) n h =
     (ones-below k (n / 2) (omega (arith, pow-suc 2 k)) ∙ count-cong k _ _ (λ i l. sym (bit-suc n i)))
     ∙ sym (count-first k (bit n))
 
-pub ones-count : (n : ℕ) → n < 2 ^ 64 → ones n ≡ count 64 (bit n)
+pub ones-count : (n : ℕ) → n < 2 ^ 64 → ones n ≡ onesOf n
 ones-count n l = ones-below 64 n l
 
 -- of the first k points
-pub ones-front : (v s k m r : ℕ) → s ≡ 2 ^ k → k < 64 → m ≡ s - 1 → r ≡ count 64 (bit (bitAnd v m)) → r ≡ count k (bit v)
+pub ones-front : (v s k m r : ℕ) → s ≡ 2 ^ k → k < 64 → m ≡ s - 1 → r ≡ onesOf (bitAnd v m) → r ≡ count k (bit v)
 ones-front v s k m r es l em er =
     let e : k + (64 - k) ≡ 64 = omega arith in
-    er ∙ ap (λ (x : ℕ). count 64 (bit x)) (ap (bitAnd v) (em ∙ ap (λ (x : ℕ). x - 1) es) ∙ and-mask v k)
+    er ∙ ap onesOf (ap (bitAnd v) (em ∙ ap (λ (x : ℕ). x - 1) es) ∙ and-mask v k)
     ∙ ap (λ (x : ℕ). count x (bit (v % 2 ^ k))) (sym e)
     ∙ count-more k (64 - k) (bit (v % 2 ^ k)) (λ j h. bit-none (v % 2 ^ k) j (behind j h))
     ∙ count-cong k _ _ (λ i h. low-bit v i k h)
@@ -73,8 +73,8 @@ adders (suc k) a b c = omega (arith, adders k a b c, adder (a k) (b k) (c k))
 
 -- what three words carry counts twice
 pub carried : (a b c : ℕ)
-    → count 64 (bit a) + count 64 (bit b) + count 64 (bit c)
-    ≡ count 64 (bit (bitXor (bitXor a b) c)) + 2 * count 64 (bit (bitOr (bitAnd a b) (bitAnd (bitXor a b) c)))
+    → onesOf a + onesOf b + onesOf c
+    ≡ onesOf (bitXor (bitXor a b) c) + 2 * onesOf (bitOr (bitAnd a b) (bitAnd (bitXor a b) c))
 carried a b c =
     adders 64 (bit a) (bit b) (bit c)
     ∙ sym (ap₂ (λ (x y : ℕ). x + 2 * y)
@@ -85,7 +85,7 @@ carried a b c =
 
 -- .. so that the ones of eight words are those of four: of seven their sum, what is carried, and what that carries, and of the eighth
 pub eight-words : (a b c d e f g h first second third fours p q r s : ℕ)
-    → (let o : ℕ → ℕ = λ w. count 64 (bit w) in
+    → (let o : ℕ → ℕ = onesOf in
     let abc : ℕ = bitXor (bitXor a b) c in
     let def : ℕ = bitXor (bitXor d e) f in
     let all : ℕ = bitXor (bitXor abc def) g in
@@ -100,7 +100,7 @@ pub count-start : (test : ℕ → Bool) (k : ℕ) → k ≡ 0 → 0 ≡ count (6
 unfolding count
 count-start test k e = rw e
 
-pub count-word : (ws : List ℕ) (i : ℕ) → count (64 * (i + 1)) (bitAt ws) ≡ count (64 * i) (bitAt ws) + count 64 (bit (getD ws i 0))
+pub count-word : (ws : List ℕ) (i : ℕ) → count (64 * (i + 1)) (bitAt ws) ≡ count (64 * i) (bitAt ws) + onesOf (getD ws i 0)
 count-word ws i =
     let n : 64 * (i + 1) ≡ 64 * i + 64 = omega arith in
     ap (λ (x : ℕ). count x (bitAt ws)) n ∙ count-add (64 * i) 64 (bitAt ws)
@@ -108,7 +108,7 @@ count-word ws i =
 
 -- every second of sixteen, and the others
 pub sixteen-words : (ws : List ℕ) (r s : ℕ)
-    → (let at : ℕ → ℕ = λ i. count 64 (bit (getD ws i 0)) in
+    → (let at : ℕ → ℕ = λ i. onesOf (getD ws i 0) in
     r ≡ at 0 + at 2 + at 4 + at 6 + at 8 + at 10 + at 12 + at 14 → s ≡ at 1 + at 3 + at 5 + at 7 + at 9 + at 11 + at 13 + at 15
     → r + s ≡ count (64 * 16) (bitAt ws))
 sixteen-words ws r s er es =

@@ -14,7 +14,7 @@ ghost use Rattle.ring.specs.Derivative.{flipped};
 ghost use Rattle.ring.specs.Table.{AreBits, IsTable, present, tabulate, table};
 ghost use Rattle.ring.specs.Length.{monomialCount};
 ghost use Rattle.words.specs.Inner.Words.{wordOf, wordsOf, bitAt, First, lowLetters, stepped, steppedBelow, xorRun, turned, crossed};
-ghost use Rattle.words.specs.Inner.Words.{eightOf};
+ghost use Rattle.words.specs.Inner.Words.{eightOf, onesOf};
 
 // The number of words of n letters.
 pub fn word_count(n: usize) -> usize
@@ -363,7 +363,7 @@ pub fn put_table(n: usize, words: &mut [u64], out: &mut [u8])
 
 // The ones of a word.
 fn ones(word: u64) -> u64
-    ensures { λ r. ⌜ (r ≡ count 64 (bit word)) × (r ≤ 64) ⌝ }
+    ensures { λ r. ⌜ (r ≡ onesOf word) × (r ≤ 64) ⌝ }
 {
     u64::count_ones(word) as u64
 }
@@ -389,17 +389,17 @@ fn count_each(words: &[u64]) -> usize
     sum
 }
 
-// What three words carry when their points are added up: 1 where at least two of them are 1.
+// What three words carry when their points are added up: 1 where two of them are 1, or all.
 fn carry(a: u64, b: u64, c: u64) -> u64
-    ensures { λ r. ⌜ count 64 (bit a) + count 64 (bit b) + count 64 (bit c) ≡ count 64 (bit (bitXor (bitXor a b) c)) + 2 * count 64 (bit r) ⌝ }
+    ensures { λ r. ⌜ onesOf a + onesOf b + onesOf c ≡ onesOf (bitXor (bitXor a b) c) + 2 * onesOf r ⌝ }
 {
     (a & b) | ((a ^ b) & c)
 }
 
-// The ones of eight words. Seven are added up point by point first, so that four words are counted in place of eight.
+// The ones of eight words. Seven are added up point by point first, so that four words are counted in place of eight:
+// plain x86-64 has no instruction that counts a word's ones.
 fn count_eight(a: u64, b: u64, c: u64, d: u64, e: u64, f: u64, g: u64, h: u64) -> u64
-    ensures { λ r. ⌜ (r ≡ count 64 (bit a) + count 64 (bit b) + count 64 (bit c) + count 64 (bit d)
-        + count 64 (bit e) + count 64 (bit f) + count 64 (bit g) + count 64 (bit h)) × (r ≤ 512) ⌝ }
+    ensures { λ r. ⌜ (r ≡ onesOf a + onesOf b + onesOf c + onesOf d + onesOf e + onesOf f + onesOf g + onesOf h) × (r ≤ 512) ⌝ }
 {
     let abc = a ^ b ^ c;
     let def = d ^ e ^ f;
@@ -411,22 +411,12 @@ fn count_eight(a: u64, b: u64, c: u64, d: u64, e: u64, f: u64, g: u64, h: u64) -
     ones(abc ^ def ^ g) + ones(h) + 2 * (ones(twos) + 2 * ones(fours))
 }
 
-// The ones of sixteen words, which it uses up: what every second word has is stored where two of them stand side by side,
-// so that both are worked out at once, in vectors.
+// The ones of sixteen words, which it uses up: those of every second word and of the others are stored side by side, so that both are
+// worked out at once, in vectors. The compiler finds these with the odd words first.
 fn count_sixteen(words: &mut [u64]) -> usize
     requires { ⌜ length (now words) ≡ 16 ⌝ }
     ensures { λ r. ⌜ r ≡ count (64 * 16) (bitAt (now (words .entry))) ⌝ }
 {
-    let even = count_eight(
-        words[0],
-        words[2],
-        words[4],
-        words[6],
-        words[8],
-        words[10],
-        words[12],
-        words[14],
-    );
     let odd = count_eight(
         words[1],
         words[3],
@@ -436,6 +426,16 @@ fn count_sixteen(words: &mut [u64]) -> usize
         words[11],
         words[13],
         words[15],
+    );
+    let even = count_eight(
+        words[0],
+        words[2],
+        words[4],
+        words[6],
+        words[8],
+        words[10],
+        words[12],
+        words[14],
     );
     words[0] = even;
     words[1] = odd;
@@ -453,7 +453,8 @@ fn count_all(words: &mut [u64]) -> usize
     count_each(words)
 }
 
-// The same, and the number of its monomials: the ones of the words, crossed, from which its bytes are stored.
+// The table of coefficients whose values stand in words, which it uses up, and the number of its monomials: the ones of the words that its
+// bytes come from, counted behind the unpacking, where that costs least.
 pub fn put_counted(n: usize, words: &mut [u64], out: &mut [u8]) -> usize
     requires { ⌜ (n ≤ 10) × (length (now words) ≡ 2 ^ (n - 6)) × (length (now out) ≡ 2 ^ n) ⌝ }
     ensures { λ r. ⌜ (now (out .exit) ≡ table n (value n (bitAt (now (words .entry)))))

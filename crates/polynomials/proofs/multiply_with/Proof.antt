@@ -1,31 +1,53 @@
 -- `polynomials::multiply_with` meets its contract. Assumes nothing.
-use mathlib.Core.Path.{sym, _∙_}
+use mathlib.Core.Path.{_≡_, sym, ap, _∙_}
+use mathlib.Core.Bool.{Bool, true, false, cond}
+use mathlib.Core.List.{List}
+use Prim.Native.Nat.{ℕ}
 use borrow.Author.Needs.{needs}
+use Rattle.ring.specs.Polynomial.{value, product}
+use Rattle.ring.specs.Table.{present, table}
+use Rattle.words.specs.Inner.Words.{bitAt}
 use Rattle.words.proofs.Words.{size-words}
 use Rattle.polynomials.proofs.Work.{product-done}
 use Rattle.polynomials.proofs.multiply_with.Statement.{statement}
 use Rattle.polynomials.proofs.multiply_with.Tie as tie
 
-multiply-into-requires : tie.Need-multiply-into-requires
-multiply-into-requires c κs =
-    size-words _ _ _ (c .before .before .before .before .before .before .before .before .take-values .ensures)
-    ∙ sym (size-words _ _ _ (c .before .before .before .before .take-values2 .ensures))
+-- the values multiplied, and what is made of them
+made : (c : tie.After-multiply-into) (out : List ℕ)
+    → (let second = c .before .before .before .before .before in
+    let first = second .before .before .before .before in
+    let start = first .before .before .before .before .before .before .before in
+    out ≡ table (start .args .n) (value (start .args .n) (bitAt (c .multiply-into .last .0)))
+    → out ≡ table (start .args .n) (product (start .args .n) (present (start .args .a .now)) (present (start .args .b .now))))
+made c out e =
+    let second = c .before .before .before .before .before in
+    let first = second .before .before .before .before in
+    let start = first .before .before .before .before .before .before .before in
+    product-done _ _ (start .args .a .now) (start .args .b .now) _ _ _ _ (size-words _ _ _ (first .take-values .ensures))
+    (first .take-values .ensures) (second .take-values2 .ensures) (c .multiply-into .ensures) e
 
-put-counted-requires : tie.Need-put-counted-requires
-put-counted-requires c κs =
-    (c .before .before .before .before .before .before .before .before .before .before .before .before .before .before .before .before .before .before .before .before .pre .0, size-words _ _ _ (c .before .before .before .before .multiply-into .ensures) ∙ size-words _ _ _ (c .before .before .before .before .before .before .before .before .before .before .before .before .before .take-values .ensures), c .before .before .before .before .before .before .before .before .before .before .before .before .before .before .before .before .before .before .before .before .pre .3)
+-- what it counts, or not
+counting : (b : Bool) (x r : ℕ) → b ≡ true → r ≡ x → r ≡ cond b x 0
+counting b x r e er = er ∙ ap (λ (a : Bool). cond a x 0) (sym e)
+
+not-counting : (b : Bool) (x : ℕ) → b ≡ false → 0 ≡ cond b x 0
+not-counting b x e = ap (λ (a : Bool). cond a x 0) (sym e)
 
 returns : tie.Need-returns
 returns c =
-    let made = c .before .before .before .before in
-    let multiplied = made .before .before .before .before .before in
-    let second = multiplied .before .before .before .before .before in
-    let first = second .before .before .before .before in
-    let start = first .before .before .before .before .before .before .before in (
-      product-done _ _ (start .args .a .now) (start .args .b .now) _ _ _ _ (size-words _ _ _ (first .take-values .ensures))
-          (first .take-values .ensures) (second .take-values2 .ensures) (multiplied .multiply-into .ensures) (made .put-counted .ensures .0),
-      made .put-counted .ensures .1,
+    let put = c .before .before .before .before in
+    let multiplied = put .before .before .before .before .before .before in
+    let taken = put .before .before .before .if1 .taken in (
+      made multiplied _ (put .put-counted .ensures .0),
+      counting _ _ _ taken (put .put-counted .ensures .1),
     )
+
+returns-2 : tie.Need-returns-2
+returns-2 c =
+    let put = c .before .before .before .before in
+    let multiplied = put .before .before .before .before .before .before in
+    let left = put .before .before .before .if1 .left in
+    (made multiplied _ (put .put-table .ensures), not-counting _ _ left)
 
 pub multiply-with-spec : {M : Type 1} → statement M
 multiply-with-spec =
@@ -33,9 +55,14 @@ multiply-with-spec =
     (tie.spec
     (λ c κs. search needs)
     (λ c κs. search needs)
-    multiply-into-requires
-    put-counted-requires
+    (λ c κs. search needs)
+    (λ c κs. search needs)
     (λ c. search needs)
     (λ c. search needs)
     (λ c. search needs)
-    returns)
+    returns
+    (λ c κs. search needs)
+    (λ c. search needs)
+    (λ c. search needs)
+    (λ c. search needs)
+    returns-2)

@@ -6,9 +6,9 @@ use Rattle.words.proofs.count_sixteen.Tie as tie
 
 returns : tie.Need-returns
 returns c =
-    let even = c .before .before .before .before .before .before .before .before .before in
-    let start = even .before .before .before .before .before .before .before .before .before .before in
-    sixteen-words (start .args .words .now) _ _ (even .count-eight .ensures .0) (c .count-eight2 .ensures .0)
+    let odd = c .before .before .before .before .before .before .before .before .before in
+    let start = odd .before .before .before .before .before .before .before .before .before .before in
+    sixteen-words (start .args .words .now) _ _ (c .count-eight2 .ensures .0) (odd .count-eight .ensures .0)
 
 pub count-sixteen-spec : {M : Type 1} → statement M
 count-sixteen-spec =
