@@ -1,9 +1,9 @@
-//! What counting costs a product. The product call always counts, so that its work behind the questions
-//! is measured with the count and without it, and both forms of plain Rust as well.
+//! What counting costs a product. The product call always counts, so that a product of the engine's own
+//! code is measured with the count and without it, and both forms of plain Rust as well.
 
 use crate::calls::engine_letters;
 use crate::inputs::{counts, letters_of, Inputs, Kind};
-use crate::measured::{product, Asked};
+use crate::measured::product;
 use crate::timing::{compare, Compared, Effort};
 use reference::plain::{self, Bytes};
 use std::hint::black_box;
@@ -14,7 +14,7 @@ pub const WITH: usize = 0;
 pub const WITHOUT: usize = 1;
 
 pub struct Counting {
-    /// The engine, behind its questions, at each number of letters.
+    /// The engine, at each number of letters.
     pub engine: Vec<(usize, Compared<2>)>,
     /// Both forms of plain Rust, at the most letters.
     pub bytes: Compared<2>,
@@ -25,7 +25,7 @@ impl Counting {
     /// What was measured with the count and without it.
     pub fn products(&self) -> Vec<(String, Compared<2>)> {
         let engine = |&(count, times): &(usize, Compared<2>)| {
-            (format!("the engine, behind its questions, {count} letters"), times)
+            (format!("the engine, {count} letters"), times)
         };
         let plain = [("plain Rust on bytes", self.bytes), ("plain Rust on words", self.words)]
             .map(|(name, times)| (format!("{name}, 10 letters"), times));
@@ -63,35 +63,30 @@ pub fn compare_counting(letters: RangeInclusive<usize>, effort: Effort) -> Count
 }
 
 fn compare_engine(inputs: &Inputs, effort: Effort) -> Compared<2> {
-    let n = inputs.letters.unknowns + inputs.letters.givens;
-    let pairs: Vec<(Asked, Asked)> =
-        inputs.pairs.iter().map(|(a, b)| (Asked::new(n, a), Asked::new(n, b))).collect();
-    assert_same(inputs, &pairs);
-    let [mut with_out, mut without_out] = [(); 2].map(|()| vec![7; 1 << n]);
-    compare(
+    let (u, g) = engine_counts(inputs);
+    assert_same(inputs);
+    compare_forms(
         effort,
-        &pairs,
-        [
-            &mut |(a, b): &(Asked, Asked)| {
-                black_box(product::<true>(black_box(a), b, black_box(&mut with_out)));
-            },
-            &mut |(a, b): &(Asked, Asked)| {
-                black_box(product::<false>(black_box(a), b, black_box(&mut without_out)));
-            },
-        ],
+        &inputs.pairs,
+        |(a, b), out| product(u, g, a, b, out, true),
+        |(a, b), out| product(u, g, a, b, out, false),
     )
 }
 
+fn engine_counts(inputs: &Inputs) -> (usize, usize) {
+    (inputs.letters.unknowns, inputs.letters.givens)
+}
+
 /// Both sides make the product that the library makes, and the one that counts gives its count.
-fn assert_same(inputs: &Inputs, pairs: &[(Asked, Asked)]) {
-    let letters = engine_letters(inputs.letters);
+fn assert_same(inputs: &Inputs) {
+    let (letters, (u, g)) = (engine_letters(inputs.letters), engine_counts(inputs));
     let [mut library, mut with, mut without] = [(); 3].map(|()| vec![7; letters.table_length()]);
-    for ((a, b), (asked_a, asked_b)) in inputs.pairs.iter().zip(pairs) {
+    for (a, b) in &inputs.pairs {
         let count = layodegi::product(letters, a, b, &mut library).expect("two tables");
         let ones = library.iter().filter(|&&byte| byte == 1).count();
         assert!(count == ones, "the library's count");
-        assert!(product::<true>(asked_a, asked_b, &mut with) == count, "the count");
-        assert!(product::<false>(asked_a, asked_b, &mut without) == 0, "no count");
+        assert!(product(u, g, a, b, &mut with, true) == Ok(count), "the count");
+        assert!(product(u, g, a, b, &mut without, false) == Ok(0), "no count");
         assert!([&with, &without] == [&library; 2], "the product");
     }
 }

@@ -1,5 +1,9 @@
-//! The engine's product behind its questions, with the count of its monomials or without it, out of the
-//! archive of `crates/measured`: the code of the library, all but one branch the same for both.
+//! A product whose monomials are counted or not: its questions, and the work behind them out of the
+//! archive of `crates/measured`, which is the code of the library. Both sides are one function, but for a
+//! branch at the end of the work, since where its loops fall in a line of the cache moves the time of a
+//! product by more than its count does.
+
+use reference::Refusal;
 
 extern "C" {
     fn measured_product(
@@ -14,35 +18,44 @@ extern "C" {
     ) -> usize;
 }
 
-/// A table of n letters: bytes 0 or 1, as the engine wants them without asking.
-#[derive(Clone)]
-pub struct Asked<'a> {
-    n: usize,
-    bytes: &'a [u8],
-}
-
-impl<'a> Asked<'a> {
-    pub fn new(n: usize, bytes: &'a [u8]) -> Self {
-        assert!(n <= 10 && bytes.len() == 1 << n && bytes.iter().all(|byte| *byte <= 1));
-        Asked { n, bytes }
+/// The product of two tables, under questions 1, 4 and 8. The number is that of its monomials, 0 unless
+/// it counts them.
+#[inline(never)]
+pub fn product(
+    u: usize,
+    g: usize,
+    a: &[u8],
+    b: &[u8],
+    out: &mut [u8],
+    counts: bool,
+) -> Result<usize, Refusal> {
+    if u > 6 || g > 8 || u + g > 10 {
+        return Err(Refusal(1));
     }
-}
-
-/// The product of two tables. The number is that of its monomials, 0 unless it counts them.
-#[inline(always)]
-pub fn product<const COUNTS: bool>(a: &Asked, b: &Asked, out: &mut [u8]) -> usize {
-    assert!(a.n == b.n && out.len() == a.bytes.len());
+    let length = 1 << (u + g);
+    if a.len() < length || b.len() < length || out.len() < length {
+        return Err(Refusal(4));
+    }
+    let (a, b, out) = (&a[..length], &b[..length], &mut out[..length]);
+    if !are_bits(a) || !are_bits(b) {
+        return Err(Refusal(8));
+    }
     // SAFETY: all three are lent for the call, with their lengths, and are as the contract requires.
-    unsafe {
+    let count = unsafe {
         measured_product(
-            a.n,
-            a.bytes.as_ptr(),
-            a.bytes.len(),
-            b.bytes.as_ptr(),
-            b.bytes.len(),
+            u + g,
+            a.as_ptr(),
+            length,
+            b.as_ptr(),
+            length,
             out.as_mut_ptr(),
-            out.len(),
-            COUNTS,
+            length,
+            counts,
         )
-    }
+    };
+    Ok(count)
+}
+
+fn are_bits(table: &[u8]) -> bool {
+    table.iter().fold(0, |union, byte| union | byte) <= 1
 }

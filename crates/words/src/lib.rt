@@ -3,10 +3,11 @@
 // Nothing here is a public call of the library: the functions are for the crates above, which ask the questions first
 // and then lend slices of exactly the length that is needed.
 ghost use mathlib.Core.Path.{_≡_};
+ghost use mathlib.Core.List.{List, _++_};
 ghost use mathlib.Core.Bool.{Bool, true, false, _&&_, cond};
 ghost use Prim.Native.Nat.{ℕ, _+_, _-_, _*_, _/_, _%_, _^_, _≤_, _<_};
 ghost use lib.Bits.{bitAnd, bitOr, bitXor};
-ghost use lib.ListN.{length, getD};
+ghost use lib.ListN.{length, getD, drop};
 ghost use Rattle.ring.specs.Lists.{listed};
 ghost use Rattle.ring.specs.Letters.{digit, bit, assign};
 ghost use Rattle.ring.specs.Polynomial.{_⊕_, count, value};
@@ -181,16 +182,27 @@ fn unpack_word(word: u64, out: &mut [u8], eights: usize)
     }
 }
 
+// The values that some of the crossed words hold, a byte each, at their place among those of all. By what all of them are to hold, W, since
+// the others may be gone.
+fn unpack_some(words: &[u64], out: &mut [u8], from: usize, to: usize)
+    requires { ⌜ (from ≤ to) × (to ≤ length (now words)) × (length (now out) ≡ 64 * length (now words)) ⌝ }
+    ensures { λ _. ⌜ ((W bytes : List ℕ) → ((w : ℕ) → from ≤ w → w < to → getD (now (words .entry)) w 0 ≡ getD W w 0)
+        → now (out .entry) ≡ listed (from * 64) (λ p. digit (bitAt W (crossed p))) ++ drop (from * 64) bytes
+        → now (out .exit) ≡ listed (to * 64) (λ p. digit (bitAt W (crossed p))) ++ drop (to * 64) bytes) ⌝ }
+{
+    for w in from..to {
+        let start = w * 64;
+        let end = start + 64;
+        unpack_word(words[w], &mut out[start..end], 8);
+    }
+}
+
 // The values that crossed words hold, a byte each.
 fn unpack_all(words: &[u64], out: &mut [u8])
     requires { ⌜ length (now out) ≡ 64 * length (now words) ⌝ }
     ensures { λ _. ⌜ now (out .exit) ≡ tabulate (length (now (out .entry))) (λ p. bitAt (now (words .entry)) (crossed p)) ⌝ }
 {
-    for w in 0..words.len() {
-        let start = w * 64;
-        let end = start + 64;
-        unpack_word(words[w], &mut out[start..end], 8);
-    }
+    unpack_some(words, out, 0, words.len());
 }
 
 // The values that words hold, a byte each.
@@ -411,11 +423,12 @@ fn count_eight(a: u64, b: u64, c: u64, d: u64, e: u64, f: u64, g: u64, h: u64) -
     ones(abc ^ def ^ g) + ones(h) + 2 * (ones(twos) + 2 * ones(fours))
 }
 
-// The ones of sixteen words, which it uses up: those of every second word and of the others are stored side by side, so that both are
-// worked out at once, in vectors. The compiler finds these with the odd words first.
+// The ones of sixteen words. It uses up the first two: the ones of every second word and of the others are stored there, side by side, so that
+// both are worked out at once, in vectors. The compiler finds these with the odd words first.
 fn count_sixteen(words: &mut [u64]) -> usize
     requires { ⌜ length (now words) ≡ 16 ⌝ }
-    ensures { λ r. ⌜ r ≡ count (64 * 16) (bitAt (now (words .entry))) ⌝ }
+    ensures { λ r. ⌜ (r ≡ count (64 * 16) (bitAt (now (words .entry))))
+        × ((w : ℕ) → 2 ≤ w → getD (now (words .exit)) w 0 ≡ getD (now (words .entry)) w 0) ⌝ }
 {
     let odd = count_eight(
         words[1],
@@ -442,19 +455,21 @@ fn count_sixteen(words: &mut [u64]) -> usize
     (even + odd) as usize
 }
 
-// The ones of words, which it uses up. Ten letters have a way of their own.
-fn count_all(words: &mut [u64]) -> usize
-    requires { ⌜ length (now words) ≤ 16 ⌝ }
-    ensures { λ r. ⌜ r ≡ count (64 * length (now (words .entry))) (bitAt (now (words .entry))) ⌝ }
+// The values that sixteen crossed words hold, which it uses up, a byte each, and how many of them are 1. Counted between the first four words and
+// the others, so that the processor counts while it stores.
+fn unpack_sixteen(words: &mut [u64], out: &mut [u8]) -> usize
+    requires { ⌜ (length (now words) ≡ 16) × (length (now out) ≡ 64 * length (now words)) ⌝ }
+    ensures { λ r. ⌜ (now (out .exit) ≡ tabulate (length (now (out .entry))) (λ p. bitAt (now (words .entry)) (crossed p)))
+        × (r ≡ count (64 * length (now (words .entry))) (bitAt (now (words .entry)))) ⌝ }
 {
-    if words.len() == 16 {
-        return count_sixteen(words);
-    }
-    count_each(words)
+    unpack_some(words, out, 0, 4);
+    let found = count_sixteen(words);
+    unpack_some(words, out, 4, words.len());
+    found
 }
 
 // The table of coefficients whose values stand in words, which it uses up, and the number of its monomials: the ones of the words that its
-// bytes come from, counted behind the unpacking, where that costs least.
+// bytes come from.
 pub fn put_counted(n: usize, words: &mut [u64], out: &mut [u8]) -> usize
     requires { ⌜ (n ≤ 10) × (length (now words) ≡ 2 ^ (n - 6)) × (length (now out) ≡ 2 ^ n) ⌝ }
     ensures { λ r. ⌜ (now (out .exit) ≡ table n (value n (bitAt (now (words .entry)))))
@@ -467,8 +482,11 @@ pub fn put_counted(n: usize, words: &mut [u64], out: &mut [u8]) -> usize
         return found;
     }
     cross_all(words);
+    if n == 10 {
+        return unpack_sixteen(words, out);
+    }
     unpack_all(words, out);
-    count_all(words)
+    count_each(words)
 }
 
 fn put_copy_with(n: usize, slot: &[u64], out: &mut [u8], own: &mut [u64]) -> usize
