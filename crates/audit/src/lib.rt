@@ -1,5 +1,8 @@
 // The audit of an archive entry: it is read, its condition is solved afresh by its own order and under its own fact, and the two are
 // compared, by values that stand 64 to a word. `audit` is the public call of the library; the other functions are its own, and what these require it meets.
+
+#![tactic(auto)]
+
 ghost use Rattle.std.specs.Prelude.{◌≡◌, List, [], ℕ, ◌+◌, ◌-◌, ◌*◌, ◌^◌, ◌≤◌, length};
 ghost use Rattle.ring.specs.Polynomial.{Polynomial, value};
 ghost use Rattle.ring.specs.Table.{answer_table};

@@ -5,6 +5,9 @@
 // answer tables A is Boole's and B Löwenheim's.
 // The contracts say what the programs need to index safely. Those that print promise nothing, since the contracts of `io` say nothing of what a
 // descriptor receives: what is printed is compared with stored output.
+
+#![tactic(auto)]
+
 ghost use Rattle.std.specs.Prelude.{◌≡◌, ◌<◌, ◌≤◌, length};
 ghost use Rattle.ring.specs.Lists.{listed};
 
@@ -79,7 +82,7 @@ fn number(line: &[u8], at: usize) -> usize
 }
 
 // The numbers of a line, and the places where its order and its last two fields start.
-#[derive(Drop)]
+#[derive(Clone, Copy)]
 pub struct Fields {
     pub call: u8,
     pub unknowns: usize,

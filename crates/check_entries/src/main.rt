@@ -1,5 +1,8 @@
 // Writes and reads the entries of standard input, and prints what comes back.
 // The stored input and output were made by the independent implementation in `reference/`.
+
+#![tactic(auto)]
+
 use calls::{Heading, Read, Verdict, Written};
 use libc::{STDIN_FILENO, STDOUT_FILENO};
 

@@ -1,6 +1,9 @@
 // Runs the calls value, sum, product, substitute and derivative, and those for the shorter of two answer tables, on the cases of standard input
 // and prints what comes back.
 // The stored input and output were made by the independent implementation in `reference/`.
+
+#![tactic(auto)]
+
 use calls::{Shorter, Valued};
 use libc::{STDIN_FILENO, STDOUT_FILENO};
 

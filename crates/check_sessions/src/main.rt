@@ -2,6 +2,9 @@
 // A line is `s U G`, `a 0 0 0 0 0 0 TABLE`, `m 0 0 NAME` or `r 0 0 NAME`, for starting, adding, marking and returning, or
 // `d WHICH PLACE BYTE`, which prints nothing: the caller changes the session, so that the next step may be handed one that no step makes.
 // The stored input and output were made by the independent implementation in `reference/`.
+
+#![tactic(auto)]
+
 ghost use Rattle.std.specs.Prelude.{◌≤◌, length};
 
 use calls::Outcome;

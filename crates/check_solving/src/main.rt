@@ -1,5 +1,8 @@
 // Solves the conditions of standard input by every call, and prints what comes back.
 // The stored input and output were made by the independent implementation in `reference/`.
+
+#![tactic(auto)]
+
 use calls::Solving;
 use libc::STDIN_FILENO;
 

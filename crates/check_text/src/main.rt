@@ -1,5 +1,8 @@
 // Reads the texts of standard input, one a line, and prints what comes back.
 // The stored input and output were made by the independent implementation in `reference/`.
+
+#![tactic(auto)]
+
 use libc::STDIN_FILENO;
 
 // One call on a buffer of the stated length.

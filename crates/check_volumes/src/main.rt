@@ -1,5 +1,8 @@
 // Audits the entries and walks the volumes of standard input, and prints what comes back.
 // The stored input and output were made by the independent implementation in `reference/`.
+
+#![tactic(auto)]
+
 use calls::{Heading, Read, Verdict, Walked};
 use libc::{STDIN_FILENO, STDOUT_FILENO};
 

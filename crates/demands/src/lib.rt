@@ -3,3 +3,5 @@
 // every condition, in any order of its unknowns, and so for every accepted text; `TwoOrders.antt` compares the entries of two orders.
 // `specs/OverTheCalls.antt` says that the calls hand these bytes over and read them back; `proofs/Refuted.antt` shows wrong archives that contradict the promise.
 // The rows of the bench table and of the signs, and document 01's sample, hold of literal texts and bytes: `StarredRows.antt`, `SignRows.antt`, `Sample.antt`.
+
+#![tactic(auto)]

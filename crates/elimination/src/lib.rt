@@ -2,6 +2,9 @@
 // goes from the last, the later answers put in one letter at a time. Up to six letters are one word, and have functions of their own.
 // `solver` asks the questions first; nothing here is a public call of the library.
 // The contracts cite the method at points (`solution/specs/Inner/ByPoints.antt`), which the laws of `solution` tie to the polynomials.
+
+#![tactic(auto)]
+
 ghost use Rattle.std.specs.Prelude.{◌≡◌, true, ◌+◌, ◌-◌, ◌*◌, ◌^◌, ◌≤◌, ◌<◌, length};
 ghost use Rattle.ring.specs.Letters.{bit};
 ghost use Rattle.ring.specs.Lists.{listed, has};

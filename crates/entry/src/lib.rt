@@ -2,6 +2,9 @@
 // bytes, the entry of a condition, what some bytes hold, and the questions that are put to them; `proofs/Theorems.antt` has the
 // headlines. The code stands in `records`, `reader` and `writer`; here is what reading and writing both ask: question 2, and whether an
 // order is 0, 1, 2, .., which has no record.
+
+#![tactic(auto)]
+
 ghost use Rattle.std.specs.Prelude.{◌≡◌, length};
 ghost use Rattle.entry.specs.Record.{same_bytes, is_default};
 ghost use Rattle.entry.specs.Questions.{route_fits};

@@ -1,6 +1,9 @@
 // Facts: questions 22 and 23 of the table g of a fact, the values of 1 + g, and those of a condition f*(1 + g).
 // Nothing here is a public call of the library: `keep` and `take_where_zero` are for the crates above, which ask questions 1, 4 and 8 first
 // and then lend slices of exactly the length that is needed.
+
+#![tactic(auto)]
+
 ghost use Rattle.std.specs.Prelude.{◌≡◌, true, ℕ, ◌+◌, ◌-◌, ◌^◌, ◌≤◌, length};
 ghost use Rattle.ring.specs.Table.{AreBits, IsTable, present};
 ghost use Rattle.tables.specs.Questions.{first_no};

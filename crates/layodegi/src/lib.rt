@@ -1,6 +1,9 @@
 // The library as C and Rust see it: one exported function for each public call, on numbers and byte slices.
 // A slice passes as a pointer and then a length, an order of six bytes and a session of 5,126 as a pointer alone. Each function has the
 // contract of its call, with the answer as a code (`specs/Codes.antt`).
+
+#![tactic(auto)]
+
 ghost use Rattle.std.specs.Prelude.{◌≡◌, [], ◌∷◌, ◌%◌, ◌<◌, ◌≤◌};
 ghost use Rattle.tables.specs.Answered.{answered, coded};
 ghost use Rattle.calls.specs.Counted.{counted};

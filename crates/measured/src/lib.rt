@@ -1,5 +1,8 @@
 // What the benchmark measures beside the library, and no caller is meant to call: the engine's product behind its questions, with the count
 // of its monomials and without it. It is the code of the library, and asks nothing: the benchmark hands it tables.
+
+#![tactic(auto)]
+
 ghost use Rattle.std.specs.Prelude.{◌≡◌, cond, ◌^◌, ◌≤◌, length};
 ghost use Rattle.ring.specs.Polynomial.{product};
 ghost use Rattle.ring.specs.Length.{monomial_count};

@@ -1,6 +1,9 @@
 // Reading a text: from its bytes to the table of its polynomial (document 01, 'The notation').
 // The public call is `read_text`. `text_values` is for the crates above that work on a condition's values, once question 1 has been asked;
 // the other functions are their own. The values come from the readers, 64 points to a word, and one transform takes them to the table.
+
+#![tactic(auto)]
+
 ghost use Rattle.std.specs.Prelude.{◌≡◌, true, [], ◌∷◌, ◌+◌, ◌-◌, ◌^◌, length};
 ghost use Rattle.tables.specs.Questions.{letters_fit, first_no};
 ghost use Rattle.tables.specs.Answered.{answered, after};

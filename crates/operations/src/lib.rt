@@ -2,6 +2,9 @@
 // Public calls, none with a `requires`: `value`, `sum`, `product`, `substitute`, `derivative`. The other functions are theirs alone.
 // They ask the questions and lend the tables that have passed them; the work is `polynomials`'. Their contracts cite the polynomials' own
 // definitions.
+
+#![tactic(auto)]
+
 ghost use Rattle.std.specs.Prelude.{◌≡◌, ◌&&◌, [], ◌∷◌, ◌+◌, ◌*◌, ◌^◌, ◌≤◌, eqb, length};
 ghost use Rattle.ring.specs.Letters.{digit};
 ghost use Rattle.ring.specs.Polynomial.{odd, value, within};

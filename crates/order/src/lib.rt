@@ -3,6 +3,9 @@
 // table of their own, `masks_six::ORDER_SIX`, which is a sixteenth as long. Callers take the order from there by `fill_order`
 // and list a table's monomials by `list_monomials`; `rank_of` puts two masks in order, by the table that `letter_counts` gives.
 // Nothing here is a public call of the library: what these functions require, callers within it meet.
+
+#![tactic(auto)]
+
 mod masks;
 mod masks_six;
 

@@ -2,6 +2,9 @@
 // They go through a text once for all points: each writes its truth values, 64 points to a word, to the front of a lent stack of words, a
 // block of k words to a tree, and uses what lies behind it for the trees inside. Each is held to the grammar's executable form
 // (`grammar/specs/Reader.antt`). Nothing here is a public call of the library: `notation` has it.
+
+#![tactic(auto)]
+
 ghost use Rattle.std.specs.Prelude.{◌≡◌, not, ◌+◌, ◌-◌, ◌*◌, ◌≤◌, ◌<◌, length, take, get_or};
 ghost use Rattle.ring.specs.Letters.{digit, bit};
 ghost use Rattle.ring.specs.Lists.{listed};
@@ -24,7 +27,7 @@ const PUT: u8 = 0;
 const ONES: u64 = 0xffff_ffff_ffff_ffff;
 
 // What a reader finds: nothing, or the place behind what it has read.
-#[derive(Drop)]
+#[derive(Clone, Copy)]
 pub enum Place {
     Missing,
     UpTo(usize),

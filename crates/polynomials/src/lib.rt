@@ -3,6 +3,9 @@
 // Nothing here is a public call of the library: the functions are for the crates above, which ask the questions first
 // and then lend slices of exactly the length that is needed. All but the sum go to values in words, and come back; `put_handed` stays there.
 // What a product, a sum or a substitution comes to is counted where its table is made: the number of monomials present.
+
+#![tactic(auto)]
+
 ghost use Rattle.std.specs.Prelude.{◌≡◌, cond, ◌++◌, ℕ, ◌+◌, ◌-◌, ◌*◌, ◌/◌, ◌%◌, ◌^◌, ◌≤◌, ◌<◌, length, get_or, drop};
 ghost use Rattle.ring.specs.Letters.{bit, point_where};
 ghost use Rattle.ring.specs.Lists.{listed};

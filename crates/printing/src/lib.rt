@@ -1,5 +1,8 @@
 // What is printed, put into an output part by part: words, decimal numbers, and records in hexadecimal, each line with its line feed.
 // Nothing here is a public call of the library: the functions are for the crates that print, which meet what they require.
+
+#![tactic(auto)]
+
 ghost use Rattle.std.specs.Prelude.{◌≡◌, [], ◌∷◌, ◌++◌, map, ◌+◌, ◌*◌, ◌≤◌, ◌<◌, length};
 ghost use Rattle.tables.specs.Inner.Put.{Put};
 ghost use Rattle.tables.specs.Answered.{accepted};

@@ -1,5 +1,8 @@
 // Reading an archive entry into tables. `read_entry` is the public call of the library.
 // `fill_tables` is for the audit: what it requires, such callers meet.
+
+#![tactic(auto)]
+
 ghost use Rattle.std.specs.Prelude.{◌≡◌, List, [], ◌∷◌, ◌++◌, ℕ, ◌+◌, ◌*◌, ◌^◌, ◌≤◌, length, drop};
 ghost use Rattle.ring.specs.Table.{table, answer_table};
 ghost use Rattle.tables.specs.Questions.{first_no, writes, buffer_questions};

@@ -1,6 +1,9 @@
 // The records that stand in bytes, one by one, and going over an entry once for what reading and audit ask of it and for what it says.
 // A record is its slice of the bytes. Nothing here is a public call of the library: the functions are for the crates above, which meet
 // what they require.
+
+#![tactic(auto)]
+
 ghost use Rattle.std.specs.Prelude.{◌≡◌, true, false, ◌&&◌, ◌||◌, cond, List, ℕ, ◌+◌, ◌-◌, ◌*◌, ◌^◌, ◌≤◌, ◌<◌, eqb, length, drop, set};
 ghost use Rattle.tables.specs.Questions.{first_no};
 ghost use Rattle.order.specs.Inner.Place.{AreLetters};
@@ -21,7 +24,7 @@ use ring::State;
 use tables::Question;
 
 // What going over an entry gives: the first no of 10, 11, 1, 2, 12, 17, 22 and 23, or 0, and what the entry says.
-#[derive(Drop)]
+#[derive(Clone, Copy)]
 pub struct Survey {
     pub refusal: u8,
     pub heading: Heading,
@@ -30,7 +33,7 @@ pub struct Survey {
 }
 
 // What has been seen of the records up to a place.
-#[derive(Drop)]
+#[derive(Clone, Copy)]
 pub struct Seen {
     pub kind: u8, // of the last record, 0 at the start
     pub place: usize, // of the last record's monomial, 0 if it has none
@@ -40,14 +43,14 @@ pub struct Seen {
 }
 
 // A place in the bytes, and what has been seen of the records before it.
-#[derive(Drop)]
+#[derive(Clone, Copy)]
 pub struct Position {
     pub at: usize,
     pub seen: Seen,
 }
 
 // What has been seen when the records end, and the length used, 0 if there is no kind 4.
-#[derive(Drop)]
+#[derive(Clone, Copy)]
 pub struct Gathered {
     pub used: usize,
     pub kinds: bool,

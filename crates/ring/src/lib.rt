@@ -2,10 +2,12 @@
 // `specs/` has the definitions that everything else cites, `proofs/` their laws, over every n.
 // The code of the calls stands in `tables` and above; only the two types of a point's parts are declared here.
 
+#![tactic(auto)]
+
 // A state: bit i is the value of given i. It says nothing about unknowns.
-#[derive(Drop)]
+#[derive(Clone, Copy)]
 pub struct State(pub usize);
 
 // A choice: bit j is the value of unknown j. It says nothing about givens.
-#[derive(Drop)]
+#[derive(Clone, Copy)]
 pub struct Choice(pub usize);

@@ -1,5 +1,8 @@
 // Named design states: a session that a designer's steps go through. Public calls, none with a `requires`: `Session::start`, and by value
 // on the session `add`, `mark` and `return_to`. A caller may hand in any session, so that each step asks it first.
+
+#![tactic(auto)]
+
 ghost use Rattle.std.specs.Prelude.{◌≡◌, [], ◌∷◌, ◌++◌, ◌+◌, ◌^◌, ◌≤◌, length, drop, take};
 ghost use Rattle.ring.specs.Join.{join};
 ghost use Rattle.ring.specs.Table.{AreBits, present, table};
@@ -18,14 +21,14 @@ const FIRST_NAME: usize = 65; // `A`
 const LAST_NAME: usize = 68; // `D`
 
 // What stands under a name: whether it is marked, and the table that was present then.
-#[derive(Drop)]
+#[derive(Clone, Copy)]
 pub struct Mark {
     pub set: bool,
     pub table: [u8; 1024],
 }
 
 // The letters, the present table and the names `A` to `D`.
-#[derive(Drop)]
+#[derive(Clone, Copy)]
 pub struct Session {
     pub unknowns: usize,
     pub givens: usize,
@@ -34,7 +37,7 @@ pub struct Session {
 }
 
 // The session after a step, and what the step answers.
-#[derive(Drop)]
+#[derive(Clone, Copy)]
 pub struct Step {
     pub session: Session,
     pub outcome: Outcome,

@@ -1,6 +1,9 @@
 // Sessions in blocks of 5,126 bytes, for callers outside the language, who keep them. Public calls, none with a `requires`: `start`, `add`,
 // `mark`, `return_to`. Each takes the session out of the block, makes the step by value and puts the session after it back; a refused step
 // leaves the block alone. Where each part stands is said in `specs/Block.antt`.
+
+#![tactic(auto)]
+
 ghost use Rattle.std.specs.Prelude.{◌≡◌, [], ◌∷◌, ◌+◌, ◌<◌, length};
 ghost use Rattle.ring.specs.Letters.{digit};
 ghost use Rattle.tables.specs.Answered.{answered};

@@ -9,6 +9,9 @@
 // after a failure nothing more is; and of a run that ends, that it has written as many bytes as `sheet` prints for some input of as many
 // bytes as were read. Left to a reader, since no contract speaks of what the C library reads or writes: that the bytes in the room are
 // those of the input (`streams::read_some`), and that the bytes handed over reach the output, once (`streams::write_whole`).
+
+#![tactic(auto)]
+
 ghost use Rattle.std.specs.Prelude.{true, false, ◌≡◌, ◌+◌, ◌-◌, ◌≤◌, ◌<◌, length, take};
 ghost use Rattle.sheet_lines.specs.Pieces.{kept_length};
 ghost use Rattle.sheet_lines.specs.Inner.Feeding.{line_room, carried};
@@ -20,7 +23,7 @@ use streams::Got;
 
 // How far a run has come: whether the input goes on, whether a read or a write has failed, how many bytes were read and written, how
 // many bytes are kept of the line that has begun, and the last route printed.
-#[derive(Drop)]
+#[derive(Clone, Copy)]
 struct Progress {
     going: bool,
     failed: bool,
@@ -31,7 +34,7 @@ struct Progress {
 }
 
 // What became of a write, and how many bytes are written with it.
-#[derive(Drop)]
+#[derive(Clone, Copy)]
 struct Written {
     failed: bool,
     total: usize,

@@ -1,6 +1,9 @@
 // What the program `sheet` prints, as functions on slices; the program only reads and writes.
 // Nothing here is a public call of the library: the functions are for that program, which meets what they require. The inner
 // ones are lent the written order for ten letters, `masks`, made once for many lines, and room for the monomials of an entry, `codes`.
+
+#![tactic(auto)]
+
 ghost use Rattle.std.specs.Prelude.{◌≡◌, true, [], ◌∷◌, map, ◌+◌, ◌-◌, ◌^◌, ◌≤◌, ◌<◌, length};
 ghost use Rattle.tables.specs.Inner.Put.{Put};
 ghost use Rattle.tables.specs.Questions.{letters_fit};
@@ -28,7 +31,7 @@ const KEPT_LENGTH: usize = 301; // as many bytes of a line are kept, enough to s
 const LINE_ROOM: usize = 82962; // no line prints more: three bytes for each of an entry's 27,654
 
 // A line of a sheet, taken apart: the route, U, G and the place where the text begins.
-#[derive(Drop)]
+#[derive(Clone, Copy)]
 pub enum Line {
     Readable(usize, usize, usize, usize),
     Unreadable,
@@ -36,7 +39,7 @@ pub enum Line {
 
 // What became of a piece of the input: how many of its bytes were used, how many bytes of the line that has begun are kept, the last
 // route printed, and the place behind what was printed.
-#[derive(Drop)]
+#[derive(Clone, Copy)]
 pub struct Fed {
     pub used: usize,
     pub count: usize,
@@ -45,7 +48,7 @@ pub struct Fed {
 }
 
 // The same of a single byte, or of a line, behind which no byte is kept.
-#[derive(Drop)]
+#[derive(Clone, Copy)]
 pub struct Printed {
     pub count: usize,
     pub last: usize,

@@ -1,6 +1,9 @@
 // The shorter of two answer tables, Boole's and Löwenheim's, by the monomials in them, and as the lent table itself.
 // Public calls, none with a `requires`: `shorter_refusal`, `which_shorter`, `shorter`. The other functions are theirs alone.
 // They ask the questions first; only bytes that have passed question 8 are counted, so that a sum of bytes is a count.
+
+#![tactic(auto)]
+
 ghost use Rattle.std.specs.Prelude.{◌≡◌, cond, [], ◌+◌, ◌*◌, ◌^◌, ◌≤◌, ◌<◌, length, take};
 ghost use Rattle.ring.specs.Length.{total_count};
 ghost use Rattle.ring.specs.Polynomial.{count};

@@ -2,6 +2,9 @@
 // `specs/` follows documents 01 and 02: letters and lists of letters, substitutions and instances, conditions and orders, elimination and
 // answers, general solutions. `proofs/Theorems.antt` has the laws that the volume stands on; the solving calls, in `solver`, cite these
 // definitions. The code here is that of orders in six bytes: question 17, which solving, writing and reading put, and the order 0, 1, 2, ..
+
+#![tactic(auto)]
+
 ghost use Rattle.std.specs.Prelude.{◌≡◌, eqb, length, get_or};
 ghost use Rattle.ring.specs.Polynomial.{every_below};
 ghost use Rattle.ring.specs.Lists.{times};

@@ -5,6 +5,9 @@
 // g: what is solved is f*(1 + g).
 // The work is done on truth values, 64 points to a word (`elimination`). It comes back to polynomials, and the contracts cite the
 // polynomials' own definitions.
+
+#![tactic(auto)]
+
 ghost use Rattle.std.specs.Prelude.{◌≡◌, true, List, [], ◌∷◌, ℕ, ◌+◌, ◌-◌, ◌*◌, ◌^◌, ◌≤◌, ◌<◌, length, take};
 ghost use Rattle.ring.specs.Polynomial.{value};
 ghost use Rattle.ring.specs.Table.{IsTable, AreBits, held, answer_table};
@@ -26,7 +29,7 @@ use ring::State;
 use tables::Question;
 
 // Which answers are asked for.
-#[derive(Drop)]
+#[derive(Clone, Copy)]
 pub enum Method {
     Boole,
     Particular,

@@ -1,6 +1,9 @@
 // Reading and writing for the programs: a call that a signal interrupted is made again, one for which nothing is ready yet is made again
 // after a pause, and a write that took only a part goes on. A read that fails otherwise is told apart from the end of the input.
 // No contract can say which bytes the C library reads or writes.
+
+#![tactic(auto)]
+
 ghost use Rattle.std.specs.Prelude.{◌≡◌, ◌≤◌, length};
 ghost use Rattle.streams.specs.Inner.Got.{got_of, got_within};
 
@@ -8,7 +11,7 @@ use libc::types::timespec;
 use libc::{EAGAIN, EINTR};
 
 // What a read gave: so many bytes at the front of the room, the end of the input, or a failure.
-#[derive(Drop)]
+#[derive(Clone, Copy)]
 pub enum Got {
     Bytes(usize),
     End,

@@ -1,6 +1,9 @@
 // The shared bottom of the calls: the questions and how they are asked, and the copy and the sum of lent tables of bytes.
 // Nothing here is a public call of the library. The functions with a `requires` are for the crates above, which ask the questions first
 // and then lend slices of exactly the length that is needed.
+
+#![tactic(auto)]
+
 ghost use Rattle.std.specs.Prelude.{◌≡◌, [], ◌∷◌, ◌+◌, ◌^◌, ◌≤◌, length};
 ghost use Rattle.ring.specs.Polynomial.{sum};
 ghost use Rattle.ring.specs.Table.{AreBits, present, tabulate};
@@ -8,7 +11,7 @@ ghost use Rattle.tables.specs.Questions.{number, asks, letters_fit, has_room, ar
 ghost use Rattle.tables.specs.Inner.Asking.{also};
 
 // The questions of documents 01 and 02, in the order of their numbers.
-#[derive(Drop)]
+#[derive(Clone, Copy)]
 pub enum Question {
     Letters, // Are U at most 6, G at most 8, n at most 10?
     Route, // Is the route 1 to 250?

@@ -1,5 +1,8 @@
 // The walk over a volume. Public calls: `walk_volume`, and over the struct `Walk` the two functions `walk_from`, which makes one, and `answer`.
 // `walk_at` does the work on the slice and the number; the functions over the struct only take it apart.
+
+#![tactic(auto)]
+
 ghost use Rattle.std.specs.Prelude.{◌≡◌, [], ◌≤◌, length, drop};
 ghost use Rattle.tables.specs.Answered.{answered, call};
 ghost use Rattle.entry.specs.Held.{records};
@@ -11,7 +14,7 @@ use calls::{Read, Walked};
 use tables::Question;
 
 // 'A walk is made from a lent volume and a place in it'
-#[derive(Drop)]
+#[derive(Clone, Copy)]
 pub struct Walk<'a> {
     pub volume: &'a [u8],
     pub place: usize,

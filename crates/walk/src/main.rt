@@ -1,6 +1,9 @@
 // Prints the walk over the file `volume` of the working folder, from place 0.
 // The stored volume has twelve entries, one with a monomial too many in an answer, and more behind it; it and the stored output were made by
 // the independent implementation in `reference/`. `check_files` has other files.
+
+#![tactic(auto)]
+
 fn main() {
     walk_file::print_walk(b"volume");
 }

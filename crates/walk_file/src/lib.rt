@@ -1,6 +1,9 @@
 // What `walk` prints for a file. What is printed is worked out by `loaded_line`, on slices; the rest only reads and writes.
 // A file that cannot be opened or read is `unreadable`, and standard error says why. Left to a reader, since no contract speaks of what the
 // C library reads or writes: that the bytes in the room are those of the file (`streams::read_some`), and that the line reaches the output.
+
+#![tactic(auto)]
+
 ghost use Rattle.std.specs.Prelude.{◌≡◌, ◌-◌, ◌≤◌, length, take};
 ghost use Rattle.tables.specs.Inner.Put.{Put};
 ghost use Rattle.streams.specs.Inner.Got.{got_within};
@@ -14,7 +17,7 @@ use streams::Got;
 const LONGEST_VOLUME: usize = 65536; // 'the volume .. of at most 65,536 bytes'
 
 // A file is loaded: it ended behind so many bytes, or it filled the room, so that it is too long; or it cannot be read.
-#[derive(Drop)]
+#[derive(Clone, Copy)]
 pub enum Loaded {
     Ended(usize),
     Longer(usize),

@@ -2,6 +2,9 @@
 // Words have six letters or more: a polynomial in fewer is taken as one in six. `c` is the number of letters beyond six.
 // Nothing here is a public call of the library: the functions are for the crates above, which ask the questions first
 // and then lend slices of exactly the length that is needed.
+
+#![tactic(auto)]
+
 ghost use Rattle.std.specs.Prelude.{◌≡◌, List, ◌++◌, Bool, true, false, ◌&&◌, cond, ℕ, ◌+◌, ◌-◌, ◌*◌, ◌/◌, ◌%◌, ◌^◌, ◌≤◌, ◌<◌, length, get_or, drop};
 ghost use Rattle.std.specs.Int.Bits.{bit_and, bit_or, bit_xor};
 ghost use Rattle.ring.specs.Lists.{listed};

@@ -2,6 +2,9 @@
 // `list_entry` is for the program that prints entries too: all monomials of a condition and its answers, as numbers, from the condition's
 // coefficients and the values of what is solved, in words. The other functions are inner work. An order comes as six bytes, first
 // eliminated first, 255 behind its unknowns; a fact as a table.
+
+#![tactic(auto)]
+
 ghost use Rattle.std.specs.Prelude.{◌≡◌, true, List, [], ◌∷◌, ◌++◌, map, ℕ, ◌+◌, ◌-◌, ◌*◌, ◌/◌, ◌%◌, ◌^◌, ◌≤◌, ◌<◌, length, take};
 ghost use Rattle.ring.specs.Polynomial.{value};
 ghost use Rattle.ring.specs.Table.{IsTable, AreBits};
@@ -28,7 +31,7 @@ use tables::Question;
 
 // What listing an entry finds: how many monomials the condition has, and how many it has with its answers; or, where there is no solution,
 // how many the condition has, and the state.
-#[derive(Drop)]
+#[derive(Clone, Copy)]
 pub enum Listing {
     Solved(usize, usize),
     None(usize, u8),

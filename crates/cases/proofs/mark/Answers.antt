@@ -1,0 +1,14 @@
+-- `cases::mark` meets its contract: the loop fills the bytes from the front.
+-- Assumes nothing.
+use Rattle.std.proofs.Common.{◌≡◌, ◌-◌, ◌≤◌, length, refl, rules}
+use Rattle.tables.proofs.Filled.{filled, filled-start, filled_more, filled_end}
+use Rattle.cases.proofs.mark.Goals as goal
+
+pub loop-i-init : goal.loop-i-init
+loop-i-init c = (search rules, filled-start _ _ _ refl, refl)
+
+pub loop-i-preserved : goal.loop-i-preserved
+loop-i-preserved c = (search rules, filled_more _ _ _ _ c.loop-i.invariant.1 _ c.loop-i-test.true refl, search rules)
+
+pub returns : goal.returns
+returns c = filled_end _ _ _ _ c.loop-i.invariant.1 c.loop-i.invariant.0 c.loop-i-test.false

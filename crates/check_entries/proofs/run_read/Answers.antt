@@ -1,0 +1,19 @@
+-- `check_entries::run_read` meets its contract: each buffer that it lends lies within its array.
+-- Assumes nothing.
+use mathlib.Core.Path.{sym}
+use native.Mathlib.Omega.{arith}
+use borrow.Author.Rules.{rules}
+use lib.Seq.{length-take-le}
+use Rattle.check_entries.proofs.run_read.Goals as goal
+
+pub slice_bounds-read-end : goal.slice_bounds-read-end
+slice_bounds-read-end c = sym (length-take-le _ _ (omega arith))
+
+pub slice_bounds-read-end-then-size2-le65536 : goal.slice_bounds-read-end-then-size2-le65536
+slice_bounds-read-end-then-size2-le65536 c = sym (length-take-le _ _ (omega arith))
+
+pub slice_bounds-read-end-then-size2-le65536-2 : goal.slice_bounds-read-end-then-size2-le65536-2
+slice_bounds-read-end-then-size2-le65536-2 c = sym (length-take-le _ _ (omega arith))
+
+pub slice_bounds-read-end-then-size2-le65536-3 : goal.slice_bounds-read-end-then-size2-le65536-3
+slice_bounds-read-end-then-size2-le65536-3 c = sym (length-take-le _ _ (omega arith))

@@ -1,0 +1,10 @@
+-- `check_volumes::run` meets its contract: each buffer that it lends lies within its array.
+-- Assumes nothing.
+use mathlib.Core.Path.{sym}
+use native.Mathlib.Omega.{arith}
+use borrow.Author.Rules.{rules}
+use lib.Seq.{length-take-le}
+use Rattle.check_volumes.proofs.run.Goals as goal
+
+pub slice_bounds-call-end : goal.slice_bounds-call-end
+slice_bounds-call-end c = sym (length-take-le _ _ (omega arith))

@@ -1,0 +1,43 @@
+-- `facts::has_no_unknown` meets its contract. The loop's invariant: the union so far is 0 exactly if no monomial so far that has an unknown
+-- is present.
+-- Assumes nothing.
+use mathlib.Core.Path.{◌≡◌, refl, ap, ◌∙◌}
+use mathlib.Core.Logic.{⊎_elim}
+use Prim.Native.Nat.{ℕ, ◌≤◌, ◌-◌, ◌^◌}
+use native.Mathlib.Omega.{arith}
+use borrow.Author.Rules.{rules}
+use lib.Dec.{eqb}
+use lib.ListN.{length}
+use lib.Pow.{pow_pos}
+use Rattle.ring.specs.Polynomial.{every_below}
+use Rattle.ring.specs.Table.{present}
+use Rattle.solution.specs.Fact.{has_no_unknown}
+use Rattle.facts.proofs.Unions.{union_more, union_skip, monomial_fits, with_unknown, without_unknown}
+use Rattle.facts.proofs.has_no_unknown.Goals as goal
+
+pub pow2-unknowns-requires : goal.pow2-unknowns-requires
+pow2-unknowns-requires c = omega arith
+
+pub overflow_sub-unknowns : goal.overflow_sub-unknowns
+overflow_sub-unknowns c = rw c.pow2-unknowns.ensures (pow_pos c.args.u)
+
+pub loop-m-init : goal.loop-m-init
+unfolding every_below
+loop-m-init c = (search rules, refl)
+
+pub loop-m-preserved : goal.loop-m-preserved
+loop-m-preserved c =
+    let fact = c.args.fact.now in
+    let u = c.args.u in (
+      search rules,
+      ⊎_elim
+          (λ w. rw w.2 (union_more fact (monomial_fits u (present fact)) c.loop-m.union _ c.loop-m.invariant.1 c.requires.1
+          (with_unknown u _ _ c.pow2-unknowns.ensures (present fact) w.0.taken)))
+          (λ w. rw w.1 (union_skip fact (monomial_fits u (present fact)) c.loop-m.union _ c.loop-m.invariant.1
+          (without_unknown u _ _ c.pow2-unknowns.ensures (present fact) w.0.left))) c.if-m-unknowns-ne0.branch,
+    )
+
+pub returns : goal.returns
+unfolding has_no_unknown
+returns c n size = let whole : c.loop-m.m ≡ 2 ^ n = omega (arith, c.loop-m.invariant.0, c.loop-m-test.false) in
+    c.loop-m.invariant.1 ∙ ap (λ (k : ℕ). every_below k (monomial_fits c.args.u (present c.args.fact.now))) whole

@@ -1,0 +1,20 @@
+-- `facts::is_zero` meets its contract. The loop's invariant: the union so far is 0 exactly if no monomial so far is present.
+-- Assumes nothing.
+use mathlib.Core.Path.{◌≡◌, refl, ap, ◌∙◌}
+use mathlib.Core.Bool.{not}
+use Prim.Native.Nat.{ℕ, ◌≤◌, ◌-◌, ◌^◌}
+use native.Mathlib.Omega.{arith}
+use borrow.Author.Rules.{rules}
+use lib.Dec.{eqb}
+use lib.ListN.{length}
+use Rattle.ring.specs.Polynomial.{every_below}
+use Rattle.ring.specs.Table.{present}
+use Rattle.solution.specs.Elimination.{is_zero}
+use Rattle.facts.proofs.Unions.{union_more}
+use Rattle.facts.proofs.is_zero.Given as goal
+
+abbrev pub invariant-loop-m : goal.invariant-loop-m
+invariant-loop-m l = (l.m ≤ length l.fact) × (eqb l.union 0 ≡ every_below l.m (λ i. not (present l.fact i)))
+
+abbrev pub decreases-loop-m : goal.decreases-loop-m
+decreases-loop-m l = length l.fact - l.m

@@ -1,0 +1,9 @@
+-- `layodegi::layodegi_product` meets its contract: the call's answer as a code, and the buffer as the call leaves it.
+-- Assumes nothing.
+use borrow.Author.Rules.{rules}
+use Rattle.layodegi.specs.Codes.{code}
+use Rattle.layodegi.proofs.Coded.{coded-call}
+use Rattle.layodegi.proofs.layodegi_product.Goals as goal
+
+pub returns : goal.returns
+returns c = coded-call code c.counted_code.ensures c.product.ensures

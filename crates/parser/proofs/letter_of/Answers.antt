@@ -1,0 +1,14 @@
+-- Test by test. Assumes nothing.
+use native.Mathlib.Omega.{arith}
+use borrow.Author.Rules.{rules}
+use borrow.Author.Tests.{lt-ltb, le-ltb}
+use Rattle.parser.specs.Inner.Blocks.{letter_of}
+use Rattle.parser.proofs.letter_of.Goals as goal
+
+pub returns-then-code-lt8 : goal.returns-then-code-lt8
+unfolding letter_of
+returns-then-code-lt8 c = (simp (lt-ltb _ _ c.if-code-lt8.true), omega arith)
+
+pub returns : goal.returns
+unfolding letter_of
+returns c = (simp (le-ltb _ _ c.if-code-lt8.false), omega (arith, c.requires.0, c.requires.1))

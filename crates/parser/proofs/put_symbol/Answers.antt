@@ -1,0 +1,6 @@
+-- The letter's number, then its block. Assumes nothing.
+use borrow.Author.Rules.{rules}
+use Rattle.parser.proofs.put_symbol.Goals as goal
+
+pub returns : goal.returns
+returns c = rw (← c.letter_of.ensures.0) c.put_letter.ensures

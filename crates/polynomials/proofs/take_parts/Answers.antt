@@ -1,0 +1,68 @@
+-- `polynomials::take_parts` meets its contract. Assumes nothing.
+use mathlib.Core.Path.{◌≡◌, ◌∙◌}
+use Prim.Native.Nat.{◌≤◌, ◌-◌, ◌*◌}
+use native.Mathlib.Omega.{arith}
+use native.Mathlib.Nat.{zero-mul}
+use borrow.Author.Rules.{rules}
+use lib.ListN.{length}
+use lib.Pow.{pow_pos}
+use Rattle.tables.proofs.Filled.{filled, filled-start}
+use Rattle.words.proofs.Parts.{parts_more, part_fits, part_length_lem}
+use Rattle.polynomials.specs.Inner.LookUp.{put_for}
+use Rattle.polynomials.proofs.Work.{part_word, part_put, parts_taken}
+use Rattle.polynomials.proofs.take_parts.Goals as goal
+
+pub loop-j-init : goal.loop-j-init
+loop-j-init c = (search rules, filled-start _ _ _ (zero-mul c.word_count-k.result), search rules)
+
+pub overflow_mul-start : goal.overflow_mul-start
+overflow_mul-start c = omega (
+  arith,
+  part_fits _ _ _ _ _ c.word_count-k.ensures c.loop-j-test.true
+      c.requires.4,
+  c.loop-j.invariant.2,
+)
+
+pub overflow_add-end : goal.overflow_add-end
+overflow_add-end c = omega (
+  arith,
+  part_fits _ _ _ _ _ c.word_count-k.ensures c.loop-j-test.true
+      c.requires.4,
+  c.loop-j.invariant.2,
+)
+
+pub offset_bounds-parts-start : goal.offset_bounds-parts-start
+offset_bounds-parts-start c = omega (
+  arith,
+  part_fits _ _ _ _ _ c.word_count-k.ensures c.loop-j-test.true
+      c.requires.4,
+  c.loop-j.invariant.2,
+)
+
+pub slice_bounds-take_part-end : goal.slice_bounds-take_part-end
+slice_bounds-take_part-end c = omega (
+  arith,
+  part_fits _ _ _ _ _ c.word_count-k.ensures c.loop-j-test.true
+      c.requires.4,
+  c.loop-j.invariant.2,
+)
+
+pub take_part-requires : goal.take_part-requires
+take_part-requires c = (c.requires.0, c.loop-j-test.true, c.requires.2, c.requires.3, part_length_lem _ _ _ (omega (arith, part_fits _ _ _ _ _ c.word_count-k.ensures c.loop-j-test.true c.requires.4, c.loop-j.invariant.2)) ∙ c.word_count-k.ensures)
+
+pub loop-j-preserved : goal.loop-j-preserved
+loop-j-preserved c = (
+  search rules,
+  parts_more _ _ _ _ _ _ c.loop-j.invariant.1
+      (part_put _ _ _ (put_for c.args.u
+      c.args.n
+      c.args.handed.now) _
+      c.take_part.ensures c.word_count-k.ensures),
+  search rules,
+)
+
+pub returns : goal.returns
+returns c = parts_taken _ _ _ (put_for c.args.u c.args.n
+    c.args.handed.now) c.args.parts.now _
+    c.word_count-k.ensures (omega arith) c.requires.4 c.loop-j.invariant.1
+    (pow_pos (c.args.n - 6))

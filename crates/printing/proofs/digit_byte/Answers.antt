@@ -1,0 +1,7 @@
+-- Assumes nothing.
+use borrow.Author.Rules.{rules}
+use Rattle.printing.proofs.Numbers.{digit_at}
+use Rattle.printing.proofs.digit_byte.Goals as goal
+
+pub returns : goal.returns
+returns c = digit_at _ c.requires

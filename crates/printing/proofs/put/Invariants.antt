@@ -1,0 +1,15 @@
+-- The invariant: the bytes passed stand in their place. Assumes nothing.
+use mathlib.Core.Path.{◌≡◌, refl}
+use Prim.Native.Nat.{◌+◌, ◌≤◌, ◌-◌}
+use native.Mathlib.Omega.{arith}
+use borrow.Author.Rules.{rules}
+use lib.ListN.{length, take, length-set}
+use Rattle.tables.specs.Inner.Put.{Put}
+use Rattle.tables.proofs.Put.{put_start, put_more, put_all}
+use Rattle.printing.proofs.put.Given as goal
+
+abbrev pub invariant-loop-i : goal.invariant-loop-i
+invariant-loop-i l = (l.i ≤ length l.bytes) × (length l.out ≡ length l.initial.out) × Put l.initial.out l.at (take l.i l.bytes) (l.at + l.i) l.out
+
+abbrev pub decreases-loop-i : goal.decreases-loop-i
+decreases-loop-i l = length l.bytes - l.i

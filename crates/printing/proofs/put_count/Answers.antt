@@ -1,0 +1,8 @@
+-- Assumes nothing.
+use native.Mathlib.Omega.{arith}
+use borrow.Author.Rules.{rules}
+use Rattle.printing.proofs.Lines.{count_put}
+use Rattle.printing.proofs.put_count.Goals as goal
+
+pub returns : goal.returns
+returns c = count_put _ c.put_decimal-end.ensures.put (omega arith)

@@ -1,0 +1,16 @@
+-- The invariant: two digits for each of the bytes passed stand in their place. Assumes nothing.
+use mathlib.Core.Path.{◌≡◌, refl}
+use Prim.Native.Nat.{◌+◌, ◌*◌, ◌≤◌, ◌-◌}
+use native.Mathlib.Omega.{arith}
+use borrow.Author.Rules.{rules}
+use lib.ListN.{length, take, length-set}
+use Rattle.printing.specs.Print.{hexadecimal}
+use Rattle.tables.specs.Inner.Put.{Put}
+use Rattle.printing.proofs.Hexadecimal.{hex_start, hex_more, hex_all}
+use Rattle.printing.proofs.put_hexadecimal.Given as goal
+
+abbrev pub invariant-loop-i : goal.invariant-loop-i
+invariant-loop-i l = (l.i ≤ length l.bytes) × (length l.out ≡ length l.initial.out) × Put l.initial.out l.at (hexadecimal (take l.i l.bytes)) (l.at + 2 * l.i) l.out
+
+abbrev pub decreases-loop-i : goal.decreases-loop-i
+decreases-loop-i l = length l.bytes - l.i

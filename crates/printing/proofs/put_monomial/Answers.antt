@@ -1,0 +1,16 @@
+-- A monomial of the condition, or of an answer. Assumes nothing.
+use borrow.Author.Rules.{rules}
+use Rattle.printing.proofs.Records.{condition_room, answer_room_lem, condition_line, answer_line}
+use Rattle.printing.proofs.put_monomial.Goals as goal
+
+pub put_line-requires : goal.put_line-requires
+put_line-requires c = search condition_room
+
+pub returns-then-i-eq0 : goal.returns-then-i-eq0
+returns-then-i-eq0 c = search condition_line
+
+pub put_line-requires-2 : goal.put_line-requires-2
+put_line-requires-2 c = search answer_room_lem
+
+pub returns : goal.returns
+returns c = search answer_line

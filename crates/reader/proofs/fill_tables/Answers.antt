@@ -1,0 +1,7 @@
+-- Cleared tables, and then the monomials. Assumes nothing.
+use borrow.Author.Rules.{rules}
+use Rattle.reader.proofs.Filling.{filled_condition, filled_answers}
+use Rattle.reader.proofs.fill_tables.Goals as goal
+
+pub returns : goal.returns
+returns c = record { condition_after = search filled_condition; answers_after = search filled_answers }

@@ -1,0 +1,14 @@
+-- The loop fills the bytes from the front. Assumes nothing.
+use mathlib.Core.Path.{◌≡◌, refl, ◌∙◌}
+use Prim.Native.Nat.{◌≤◌, ◌-◌}
+use borrow.Author.Rules.{rules}
+use lib.ListN.{length}
+use Rattle.ring.proofs.Lists.{listed-tabulate}
+use Rattle.tables.proofs.Filled.{filled, filled-start, filled_more, filled_end}
+use Rattle.records.proofs.clear.Given as goal
+
+abbrev pub invariant-loop-i : goal.invariant-loop-i
+invariant-loop-i l = (l.i ≤ length l.initial.t) × (l.t ≡ filled l.i (λ m. 0) l.initial.t) × (length l.t ≡ length l.initial.t)
+
+abbrev pub decreases-loop-i : goal.decreases-loop-i
+decreases-loop-i l = length l.initial.t - l.i

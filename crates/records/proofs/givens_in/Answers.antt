@@ -1,0 +1,18 @@
+-- Only kind 1 says it.
+-- Assumes nothing.
+use native.Mathlib.Omega.{arith}
+use borrow.Author.Rules.{rules}
+use Rattle.records.proofs.OneRecord.{long_1, givens_empty, givens_start, givens_none}
+use Rattle.records.proofs.givens_in.Goals as goal
+
+pub returns-then-r-eq0 : goal.returns-then-r-eq0
+returns-then-r-eq0 c = search givens_empty
+
+pub bounds-r-3 : goal.bounds-r-3
+bounds-r-3 c = omega (arith, long_1 _ c.requires c.in-1.is)
+
+pub returns-in-1 : goal.returns-in-1
+returns-in-1 c = search givens_start
+
+pub returns-in_default : goal.returns-in_default
+returns-in_default c = search givens_none

@@ -1,0 +1,8 @@
+-- The questions one after another.
+-- Assumes nothing.
+use borrow.Author.Rules.{rules}
+use Rattle.records.proofs.OneRecord.{chain}
+use Rattle.records.proofs.refusal_of.Goals as goal
+
+pub returns : goal.returns
+returns c = search chain

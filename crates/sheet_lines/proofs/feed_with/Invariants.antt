@@ -1,0 +1,19 @@
+-- The invariant: the bytes passed did what `Took` says, and the rest of the output is where it was. The measure is what is left of the
+-- piece.
+-- Assumes nothing.
+use mathlib.Core.Path.{◌≡◌, refl, ◌∙◌}
+use Prim.Native.Nat.{◌-◌}
+use native.Mathlib.Omega.{arith}
+use lib.ListN.{length}
+use borrow.Author.Rules.{rules}
+use Rattle.tables.proofs.Put.{put_length}
+use Rattle.sheet_lines.specs.Inner.Feeding.{Took}
+use Rattle.sheet_lines.proofs.Feeding.{took_none, took_more}
+use Rattle.sheet_lines.proofs.feed_with.Given as goal
+
+abbrev pub invariant-loop-used : goal.invariant-loop-used
+invariant-loop-used l = (length l.kept ≡ length l.initial.kept) × (length l.out ≡ length l.initial.out) × (length l.codes ≡ length l.initial.codes)
+    × Took l.initial.kept l.kept_count l.last_route l.piece l.initial.out l.at l.used l.count l.last l.next l.kept l.out
+
+abbrev pub decreases-loop-used : goal.decreases-loop-used
+decreases-loop-used l = length l.piece - l.used

@@ -1,0 +1,16 @@
+-- Assumes nothing.
+use borrow.Author.Rules.{rules}
+use Rattle.sheet_lines.proofs.Feeding.{text_inside, prints_answer, prints_unreadable}
+use Rattle.sheet_lines.proofs.sheet_line.Goals as goal
+
+pub slice_bounds-answer_line-count : goal.slice_bounds-answer_line-count
+slice_bounds-answer_line-count c = text_inside _ c.read_line.ensures c.in-Readable.is
+
+pub slice_bounds-answer_line-start : goal.slice_bounds-answer_line-start
+slice_bounds-answer_line-start c = text_inside _ c.read_line.ensures c.in-Readable.is
+
+pub returns-in-Readable : goal.returns-in-Readable
+returns-in-Readable c = search prints_answer
+
+pub returns-in-Unreadable : goal.returns-in-Unreadable
+returns-in-Unreadable c = search prints_unreadable

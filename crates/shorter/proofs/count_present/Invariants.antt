@@ -1,0 +1,20 @@
+-- `shorter::count_present` meets its contract. The loop's invariant: `found` is the count over the blocks passed.
+-- Assumes nothing.
+use mathlib.Core.Path.{◌≡◌, refl}
+use mathlib.Core.List.{List}
+use Prim.Native.Nat.{ℕ, ◌+◌, ◌≤◌, ◌-◌}
+use native.Mathlib.Omega.{arith}
+use borrow.Author.Rules.{rules}
+use lib.ListN.{length, drop, length-take}
+use Rattle.ring.specs.Polynomial.{count}
+use Rattle.ring.specs.Table.{present}
+use Rattle.ring.proofs.Parity.{count_most}
+use Rattle.tables.proofs.Bits.{bits_drop, bits_take}
+use Rattle.shorter.proofs.Counting.{block_more, all_counted}
+use Rattle.shorter.proofs.count_present.Given as goal
+
+abbrev pub invariant-loop-start : goal.invariant-loop-start
+invariant-loop-start l = (l.start ≤ length l.t) × (l.found ≡ count l.start (present l.t))
+
+abbrev pub decreases-loop-start : goal.decreases-loop-start
+decreases-loop-start l = length l.t - l.start

@@ -1,0 +1,16 @@
+-- `words::add_block` meets its contract. The loop's invariant is the run of stores itself.
+-- Assumes nothing.
+use mathlib.Core.Path.{◌≡◌, refl, ap, ◌∙◌}
+use Prim.Native.Nat.{◌≤◌, ◌-◌}
+use native.Mathlib.Omega.{arith}
+use borrow.Author.Rules.{rules}
+use lib.ListN.{length}
+use Rattle.words.specs.Inner.Words.{xor_run}
+use Rattle.words.proofs.Steps.{run_more}
+use Rattle.words.proofs.add_block.Given as goal
+
+abbrev pub invariant-loop-i : goal.invariant-loop-i
+invariant-loop-i l = (l.i ≤ l.w) × (l.t ≡ xor_run l.initial.t l.lo l.w l.i) × (length l.t ≡ length l.initial.t)
+
+abbrev pub decreases-loop-i : goal.decreases-loop-i
+decreases-loop-i l = l.w - l.i

@@ -1,0 +1,15 @@
+-- `words::copy` meets its contract. The loop fills the destination from the front.
+-- Assumes nothing.
+use mathlib.Core.Path.{◌≡◌, refl, ◌∙◌}
+use Prim.Native.Nat.{◌≤◌, ◌-◌}
+use borrow.Author.Rules.{rules}
+use lib.ListN.{length, get_or}
+use Rattle.ring.proofs.Lists.{listed_get_d}
+use Rattle.tables.proofs.Filled.{filled, filled-start, filled_more, filled_end}
+use Rattle.words.proofs.copy.Given as goal
+
+abbrev pub invariant-loop-i : goal.invariant-loop-i
+invariant-loop-i l = (l.i ≤ length l.initial.d) × (l.d ≡ filled l.i (λ m. get_or l.s m 0) l.initial.d) × (length l.d ≡ length l.initial.d)
+
+abbrev pub decreases-loop-i : goal.decreases-loop-i
+decreases-loop-i l = length l.initial.d - l.i

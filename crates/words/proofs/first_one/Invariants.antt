@@ -1,0 +1,17 @@
+-- `words::first_one` meets its contract. Assumes nothing.
+use mathlib.Core.Path.{◌≡◌}
+use Prim.Native.Nat.{ℕ, ◌≤◌, ◌-◌, ◌*◌, ◌<◌, ◌^◌}
+use native.Mathlib.Omega.{arith}
+use borrow.Author.Rules.{rules}
+use lib.ListN.{length, get_or}
+use mathlib.Core.Bool.{false}
+use lib.Count.{trailing_le}
+use Rattle.words.specs.Inner.Words.{bit_at}
+use Rattle.words.proofs.Counts.{trailing_first, none_more, first_found, first_none}
+use Rattle.words.proofs.first_one.Given as goal
+
+abbrev pub invariant-loop-i : goal.invariant-loop-i
+invariant-loop-i l = (l.i ≤ length l.words) × ((p : ℕ) → p < 64 * l.i → bit_at l.words p ≡ false)
+
+abbrev pub decreases-loop-i : goal.decreases-loop-i
+decreases-loop-i l = length l.words - l.i

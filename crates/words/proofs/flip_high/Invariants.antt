@@ -1,0 +1,20 @@
+-- `words::flip_high` meets its contract. Assumes nothing.
+use mathlib.Core.Path.{◌≡◌, refl}
+use Prim.Native.Nat.{◌≤◌, ◌-◌, ◌+◌, ◌*◌, ◌<◌, ◌^◌}
+use native.Mathlib.Omega.{arith}
+use borrow.Author.Rules.{rules}
+use lib.Bits.{bit_xor}
+use lib.ListN.{length, get_or}
+use Rattle.ring.specs.Derivative.{flipped}
+use Rattle.tables.proofs.Filled.{filled-start}
+use Rattle.words.specs.Inner.Words.{bit_at}
+use Rattle.words.proofs.Words.{words_filled}
+use Rattle.words.proofs.Holds.{words_to, words_more}
+use Rattle.words.proofs.Flipped.{flip_room, flip_high_holds}
+use Rattle.words.proofs.flip_high.Given as goal
+
+abbrev pub invariant-loop-i : goal.invariant-loop-i
+invariant-loop-i l = (l.i ≤ length l.initial.out) × (l.out ≡ words_to l.i (λ p. bit_at l.f (flipped (6 + l.c) (l.high * 64) p)) l.initial.out) × (length l.out ≡ length l.initial.out)
+
+abbrev pub decreases-loop-i : goal.decreases-loop-i
+decreases-loop-i l = length l.initial.out - l.i

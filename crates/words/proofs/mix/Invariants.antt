@@ -1,0 +1,20 @@
+-- `words::mix` meets its contract. Assumes nothing.
+use mathlib.Core.Path.{◌≡◌, refl}
+use Prim.Native.Nat.{◌≤◌, ◌-◌, ◌<◌, ◌^◌}
+use native.Mathlib.Omega.{arith}
+use borrow.Author.Rules.{rules}
+use lib.ListN.{length, get_or}
+use Rattle.tables.proofs.Filled.{filled-start}
+use Rattle.words.proofs.Words.{words_end}
+use mathlib.Core.Bool.{◌&&◌}
+use Rattle.ring.specs.Letters.{bit}
+use Rattle.ring.specs.Polynomial.{◌⊕◌}
+use Rattle.words.specs.Inner.Words.{bit_at}
+use Rattle.words.proofs.Holds.{words_to, read_holds, word_holds, and_holds, xor_holds, words_more}
+use Rattle.words.proofs.mix.Given as goal
+
+abbrev pub invariant-loop-i : goal.invariant-loop-i
+invariant-loop-i l = (l.i ≤ length l.initial.out) × (l.out ≡ words_to l.i (λ p. bit p l.x ⊕ (bit_at l.f p && (bit p l.x ⊕ bit_at l.b p))) l.initial.out) × (length l.out ≡ length l.initial.out)
+
+abbrev pub decreases-loop-i : goal.decreases-loop-i
+decreases-loop-i l = length l.initial.out - l.i

@@ -1,0 +1,12 @@
+-- `words::ones` meets its contract. Assumes nothing.
+use Prim.Native.Nat.{◌≤◌}
+use native.Mathlib.Omega.{arith}
+use lib.Count.{ones, ones-le}
+use Rattle.words.proofs.Counts.{ones-count}
+use Rattle.words.proofs.ones.Goals as goal
+
+pub overflow_cast-result : goal.overflow_cast-result
+overflow_cast-result c = omega (arith, ones-le 64 c.args.word (omega arith))
+
+pub returns : goal.returns
+returns c = (ones-count c.args.word (omega arith), ones-le 64 c.args.word (omega arith))

@@ -1,0 +1,18 @@
+-- `words::unpack_each` meets its contract. Assumes nothing.
+use mathlib.Core.Path.{◌≡◌, refl}
+use Prim.Native.Nat.{◌≤◌, ◌-◌}
+use native.Mathlib.Omega.{arith}
+use borrow.Author.Rules.{rules}
+use lib.Bits.{and_mask}
+use lib.ListN.{length}
+use Rattle.ring.specs.Letters.{digit}
+use Rattle.tables.proofs.Filled.{filled, filled-start, filled_more, filled_whole}
+use Rattle.words.specs.Inner.Words.{bit_at}
+use Rattle.words.proofs.Packing.{byte_at}
+use Rattle.words.proofs.unpack_each.Given as goal
+
+abbrev pub invariant-loop-p : goal.invariant-loop-p
+invariant-loop-p l = (l.p ≤ length l.initial.out) × (l.out ≡ filled l.p (λ m. digit (bit_at l.words m)) l.initial.out) × (length l.out ≡ length l.initial.out)
+
+abbrev pub decreases-loop-p : goal.decreases-loop-p
+decreases-loop-p l = length l.initial.out - l.p

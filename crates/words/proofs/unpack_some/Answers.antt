@@ -1,0 +1,45 @@
+-- `words::unpack_some` meets its contract: each word's bytes follow those before it, whatever stands behind them.
+-- Assumes nothing.
+use mathlib.Core.Path.{◌≡◌, refl, ap, ◌∙◌}
+use mathlib.Core.List.{List}
+use Prim.Native.Nat.{ℕ, ◌≤◌, ◌<◌, ◌+◌, ◌-◌, ◌*◌}
+use native.Mathlib.Omega.{arith}
+use borrow.Author.Rules.{rules}
+use lib.ListN.{length, get_or, take, drop}
+use Rattle.ring.specs.Letters.{digit}
+use Rattle.tables.proofs.Filled.{filled}
+use Rattle.words.specs.Inner.Words.{bit_at, crossed}
+use Rattle.words.proofs.Parts.{parts_more, part_length_lem}
+use Rattle.words.proofs.Crossing.{word_listed}
+use Rattle.words.proofs.unpack_some.Goals as goal
+use Rattle.words.proofs.unpack_some.Invariants.{front}
+
+pub loop-w-init : goal.loop-w-init
+loop-w-init c = (search rules, search rules, refl, λ W rest same e. e)
+
+pub slice_bounds-unpack_word-end : goal.slice_bounds-unpack_word-end
+slice_bounds-unpack_word-end c = omega (arith, c.requires.1, c.requires.2, c.loop-w-test.true, c.loop-w.invariant.2)
+
+pub unpack_word-requires : goal.unpack_word-requires
+unpack_word-requires c = let part : (let start = c.loop-w.w * 64 in length (take (start + 64 - start) (drop start c.loop-w.out))) ≡ 64 = part_length_lem c.loop-w.w 64 c.loop-w.out
+    (omega (arith, c.requires.1, c.requires.2, c.loop-w-test.true, c.loop-w.invariant.2)) in
+    (search rules, part)
+
+pub loop-w-preserved : goal.loop-w-preserved
+loop-w-preserved c = let part : (let start = c.loop-w.w * 64 in length (take (start + 64 - start) (drop start c.loop-w.out))) ≡ 64 = part_length_lem c.loop-w.w 64 c.loop-w.out
+    (omega (arith, c.requires.1, c.requires.2, c.loop-w-test.true, c.loop-w.invariant.2)) in
+    let w = c.loop-w.w in (
+      search rules,
+      search rules,
+      search rules,
+      λ W rest same e.
+          parts_more w 64 _ _ _ _ (c.loop-w.invariant.3 W rest same e)
+          (word_listed W w _ _ _ (same w c.loop-w.invariant.0 c.loop-w-test.true) (part)
+          c.unpack_word.ensures),
+    )
+
+pub returns : goal.returns
+unfolding filled
+returns c W rest same e = let to = c.args.to in
+    let all : c.loop-w.w ≡ to = omega (arith, c.loop-w.invariant.1, c.loop-w-test.false) in
+    c.loop-w.invariant.3 W rest same e ∙ ap (λ (w : ℕ). front W w rest) all

@@ -1,0 +1,25 @@
+-- `words::unpack_some` meets its contract: each word's bytes follow those before it, whatever stands behind them.
+-- Assumes nothing.
+use mathlib.Core.Path.{◌≡◌, refl, ap, ◌∙◌}
+use mathlib.Core.List.{List}
+use Prim.Native.Nat.{ℕ, ◌≤◌, ◌<◌, ◌+◌, ◌-◌, ◌*◌}
+use native.Mathlib.Omega.{arith}
+use borrow.Author.Rules.{rules}
+use lib.ListN.{length, get_or, take, drop}
+use Rattle.ring.specs.Letters.{digit}
+use Rattle.tables.proofs.Filled.{filled}
+use Rattle.words.specs.Inner.Words.{bit_at, crossed}
+use Rattle.words.proofs.Parts.{parts_more, part_length_lem}
+use Rattle.words.proofs.Crossing.{word_listed}
+use Rattle.words.proofs.unpack_some.Given as goal
+
+-- the bytes of the words below w
+abbrev pub front : List ℕ → ℕ → List ℕ → List ℕ
+front W w bytes = filled (w * 64) (λ p. digit (bit_at W (crossed p))) bytes
+
+abbrev pub invariant-loop-w : goal.invariant-loop-w
+invariant-loop-w l = (l.from ≤ l.w) × (l.w ≤ l.to) × (length l.out ≡ length l.initial.out)
+    × ((W bytes : List ℕ) → ((v : ℕ) → l.from ≤ v → v < l.to → get_or l.words v 0 ≡ get_or W v 0) → l.initial.out ≡ front W l.from bytes → l.out ≡ front W l.w bytes)
+
+abbrev pub decreases-loop-w : goal.decreases-loop-w
+decreases-loop-w l = l.to - l.w
