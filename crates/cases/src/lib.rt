@@ -3,21 +3,44 @@
 // Where a call takes an order, Y is its six bytes, two hexadecimal digits each; of the handed form it is the handed polynomials, a digit
 // each. Where a call takes a fact, A is the fact and B the condition; where it fills one, X is the length of its buffer. Of the shorter of two
 // answer tables A is Boole's and B Löwenheim's.
-// The contracts say what the programs need to index safely. Those that print promise nothing, since the contracts of `io` say nothing of what a
-// descriptor receives: what is printed is compared with stored output.
+// The contracts say what the programs need to index safely. Those that print promise nothing, since no contract says what standard output
+// receives: what is printed is compared with stored output. A write or a read that fails is handed up as the error, and ends the program.
 
 #![tactic(auto)]
 
-ghost use Rattle.std.specs.Prelude.{◌≡◌, ◌<◌, ◌≤◌, length};
+ghost use Rattle.std.specs.Prelude.{◌≡◌, ◌<◌, ◌≤◌, length, IfOk};
 ghost use Rattle.ring.specs.Lists.{listed};
 
-use libc::STDOUT_FILENO;
+use std::io;
+use std::io::Read;
 
 // Room for all cases of a program. The `ensures` gives only the length, which lending the array as a slice needs.
 pub fn input() -> [u8; 262144]
     ensures { 262144 ≡ length result }
 {
     [0; 262144]
+}
+
+// Room for one buffer of a call. The `ensures` gives only the length, as that of `input`.
+pub fn large_buffer() -> [u8; 65536]
+    ensures { 65536 ≡ length result }
+{
+    [0; 65536]
+}
+
+// Reads until the buffer is full or the input ends; answers how many bytes it put at the front of `buffer`.
+pub fn read_full(input: &mut impl Read, buffer: &mut [u8]) -> io::Result<usize>
+    ensures { IfOk result (λ n. n ≤ length buffer.new) }
+{
+    let mut done: usize = 0;
+    while done < buffer.len() {
+        let n = input.read(&mut buffer[done..])?;
+        if n == 0 {
+            break;
+        }
+        done += n;
+    }
+    Ok(done)
 }
 
 // The end of the line that starts at `at`: its line feed, or the end of the data.
@@ -159,22 +182,21 @@ fn digit_of(b: u8) -> u8 {
 }
 
 // A space, the buffer's bytes as digits, `-` for an empty one.
-pub fn show_digits(buffer: &[u8]) {
-    io::write_all(STDOUT_FILENO, b" ");
+pub fn show_digits(rt: &impl Print, buffer: &[u8]) -> io::Result<()> {
+    rt.write_all(b" ")?;
     if buffer.len() == 0 {
-        io::write_all(STDOUT_FILENO, b"-");
-        return;
+        return rt.write_all(b"-");
     }
     if 65536 < buffer.len() {
-        return;
+        return Ok(());
     }
-    let mut text = io::large_buffer();
+    let mut text = large_buffer();
     let mut i: usize = 0;
     while i < buffer.len() {
         text[i] = digit_of(buffer[i]);
         i += 1;
     }
-    io::write_all(STDOUT_FILENO, &text[..i]);
+    rt.write_all(&text[..i])
 }
 
 fn hex_digit(n: u8) -> u8 {
@@ -185,16 +207,15 @@ fn hex_digit(n: u8) -> u8 {
 }
 
 // A space, the buffer's bytes as two hexadecimal digits each, `-` for an empty one.
-pub fn show_hex(buffer: &[u8]) {
-    io::write_all(STDOUT_FILENO, b" ");
+pub fn show_hex(rt: &impl Print, buffer: &[u8]) -> io::Result<()> {
+    rt.write_all(b" ")?;
     if buffer.len() == 0 {
-        io::write_all(STDOUT_FILENO, b"-");
-        return;
+        return rt.write_all(b"-");
     }
     if 32768 < buffer.len() {
-        return;
+        return Ok(());
     }
-    let mut text = io::large_buffer();
+    let mut text = large_buffer();
     let mut i: usize = 0;
     while i < buffer.len() {
         text[2 * i] = hex_digit(buffer[i] / 16);
@@ -202,7 +223,7 @@ pub fn show_hex(buffer: &[u8]) {
         i += 1;
     }
     let n = 2 * i;
-    io::write_all(STDOUT_FILENO, &text[..n]);
+    rt.write_all(&text[..n])
 }
 
 fn from_hex(c: u8) -> u8
@@ -255,39 +276,37 @@ pub fn order(line: &[u8], at: usize) -> [u8; 6]
 }
 
 // A word, and a number behind it.
-pub fn show_number(word: &[u8], n: usize) {
-    io::write_all(STDOUT_FILENO, word);
-    io::write_all(STDOUT_FILENO, b" ");
-    io::print_decimal(STDOUT_FILENO, n as u64);
+pub fn show_number(rt: &impl Print, word: &[u8], n: usize) -> io::Result<()> {
+    rt.write_all(word)?;
+    rt.write_all(b" ")?;
+    rt.print(n)
 }
 
-pub fn show_refused(number: u8) {
-    io::write_all(STDOUT_FILENO, b"refused ");
-    io::print_decimal(STDOUT_FILENO, wide(number));
+pub fn show_refused(rt: &impl Print, number: u8) -> io::Result<()> {
+    rt.write_all(b"refused ")?;
+    rt.print(number)
 }
 
-pub fn show_line_end() {
-    io::write_all(STDOUT_FILENO, b"\n");
+pub fn show_line_end(rt: &impl Print) -> io::Result<()> {
+    rt.write_all(b"\n")
 }
 
 // What a call answers that gives no value of its own, and the buffer behind it.
-pub fn show_outcome(r: calls::Outcome, buffer: &[u8]) {
+pub fn show_outcome(rt: &impl Print, r: calls::Outcome, buffer: &[u8]) -> io::Result<()> {
     match r {
-        calls::Outcome::Done => {
-            io::write_all(STDOUT_FILENO, b"done");
-        }
-        calls::Outcome::Refused(q) => show_refused(q),
+        calls::Outcome::Done => rt.write_all(b"done")?,
+        calls::Outcome::Refused(q) => show_refused(rt, q)?,
     }
-    show_digits(buffer);
-    show_line_end();
+    show_digits(rt, buffer)?;
+    show_line_end(rt)
 }
 
 // What a call answers that counts the monomials of its result, and the buffer behind it.
-pub fn show_counted(r: calls::Counted, buffer: &[u8]) {
+pub fn show_counted(rt: &impl Print, r: calls::Counted, buffer: &[u8]) -> io::Result<()> {
     match r {
-        calls::Counted::Monomials(n) => show_number(b"done", n),
-        calls::Counted::Refused(q) => show_refused(q),
+        calls::Counted::Monomials(n) => show_number(rt, b"done", n)?,
+        calls::Counted::Refused(q) => show_refused(rt, q)?,
     }
-    show_digits(buffer);
-    show_line_end();
+    show_digits(rt, buffer)?;
+    show_line_end(rt)
 }

@@ -4,93 +4,112 @@
 #![tactic(auto)]
 
 use calls::{Heading, Read, Verdict, Written};
-use libc::{STDIN_FILENO, STDOUT_FILENO};
+use std::io;
 
-fn show_written(r: Written, out: &[u8]) {
+fn show_written(rt: &impl Print, r: Written, out: &[u8]) -> io::Result<()> {
     match r {
-        Written::Done(length) => cases::show_number(b"done", length),
-        Written::Refused(q) => cases::show_refused(q),
+        Written::Done(length) => cases::show_number(rt, b"done", length)?,
+        Written::Refused(q) => cases::show_refused(rt, q)?,
     }
-    cases::show_hex(out);
-    cases::show_line_end();
+    cases::show_hex(rt, out)?;
+    cases::show_line_end(rt)
 }
 
-fn show_heading(h: Heading) {
-    cases::show_number(b"", h.route as usize);
-    cases::show_number(b"", h.unknowns);
-    cases::show_number(b"", h.givens);
-    cases::show_number(b"", h.used);
+fn show_heading(rt: &impl Print, h: Heading) -> io::Result<()> {
+    cases::show_number(rt, b"", h.route as usize)?;
+    cases::show_number(rt, b"", h.unknowns)?;
+    cases::show_number(rt, b"", h.givens)?;
+    cases::show_number(rt, b"", h.used)
 }
 
-fn show_verdict(verdict: Verdict) {
+fn show_verdict(rt: &impl Print, verdict: Verdict) -> io::Result<()> {
     match verdict {
-        Verdict::Solved => {
-            io::write_all(STDOUT_FILENO, b"solved");
-        }
-        Verdict::None(state) => cases::show_number(b"none", state.0),
+        Verdict::Solved => rt.write_all(b"solved"),
+        Verdict::None(state) => cases::show_number(rt, b"none", state.0),
     }
 }
 
-fn show_read(r: Read, order: [u8; 6], fact: &[u8], condition: &[u8], answers: &[u8]) {
+fn show_read(
+    rt: &impl Print,
+    r: Read,
+    order: [u8; 6],
+    fact: &[u8],
+    condition: &[u8],
+    answers: &[u8],
+) -> io::Result<()> {
     match r {
         Read::Entry(heading, verdict) => {
-            show_verdict(verdict);
-            show_heading(heading);
+            show_verdict(rt, verdict)?;
+            show_heading(rt, heading)?;
         }
-        Read::Refused(q) => cases::show_refused(q),
+        Read::Refused(q) => cases::show_refused(rt, q)?,
     }
-    cases::show_hex(&order);
-    cases::show_digits(fact);
-    cases::show_digits(condition);
-    cases::show_digits(answers);
-    cases::show_line_end();
+    cases::show_hex(rt, &order)?;
+    cases::show_digits(rt, fact)?;
+    cases::show_digits(rt, condition)?;
+    cases::show_digits(rt, answers)?;
+    cases::show_line_end(rt)
 }
 
 // One call on buffers of the stated lengths.
-fn write(f: cases::Fields, order: [u8; 6], fact: &[u8], condition: &[u8], out: &mut [u8]) {
+fn write(
+    rt: &impl Print,
+    f: cases::Fields,
+    order: [u8; 6],
+    fact: &[u8],
+    condition: &[u8],
+    out: &mut [u8],
+) -> io::Result<()> {
     let r = writer::write_entry(f.x, f.unknowns, f.givens, order, fact, condition, out);
-    show_written(r, out);
+    show_written(rt, r, out)
 }
 
-fn read(bytes: &[u8], fact: &mut [u8], condition: &mut [u8], answers: &mut [u8]) {
+fn read(
+    rt: &impl Print,
+    bytes: &[u8],
+    fact: &mut [u8],
+    condition: &mut [u8],
+    answers: &mut [u8],
+) -> io::Result<()> {
     let mut order = [7u8; 6];
     let r = reader::read_entry(bytes, &mut order, fact, condition, answers);
-    show_read(r, order, fact, condition, answers);
+    show_read(rt, r, order, fact, condition, answers)
 }
 
-fn run_write(line: &[u8], f: cases::Fields, order: [u8; 6]) {
+fn run_write(rt: &impl Print, line: &[u8], f: cases::Fields, order: [u8; 6]) -> io::Result<()> {
     let at = f.a;
     if line.len() < at {
-        return;
+        return Ok(());
     }
     let at2 = f.b;
     if line.len() < at2 {
-        return;
+        return Ok(());
     }
-    let mut a = io::large_buffer();
+    let mut a = cases::large_buffer();
     let na = cases::digits(line, at, &mut a);
-    let mut b = io::large_buffer();
+    let mut b = cases::large_buffer();
     let nb = cases::digits(line, at2, &mut b);
-    let mut out = io::large_buffer();
+    let mut out = cases::large_buffer();
     cases::mark(&mut out);
     let size = f.size;
     if size <= 65536 {
-        write(f, order, &a[..na], &b[..nb], &mut out[..size]);
+        write(rt, f, order, &a[..na], &b[..nb], &mut out[..size])?;
     }
+    Ok(())
 }
 
-fn run_read(line: &[u8], f: cases::Fields) {
+fn run_read(rt: &impl Print, line: &[u8], f: cases::Fields) -> io::Result<()> {
     let at = f.b;
     if line.len() < at {
-        return;
+        return Ok(());
     }
-    let mut b = io::large_buffer();
+    let mut b = cases::large_buffer();
     let nb = cases::hex_bytes(line, at, &mut b);
-    let mut fact = io::large_buffer();
+    let mut fact = cases::large_buffer();
     cases::mark(&mut fact);
-    let mut condition = io::large_buffer();
+    let mut condition = cases::large_buffer();
     cases::mark(&mut condition);
-    let mut answers = io::large_buffer();
+    let mut answers = cases::large_buffer();
     cases::mark(&mut answers);
     let x = f.x;
     let size = f.size;
@@ -99,43 +118,46 @@ fn run_read(line: &[u8], f: cases::Fields) {
         if size <= 65536 {
             if size2 <= 65536 {
                 read(
+                    rt,
                     &b[..nb],
                     &mut fact[..x],
                     &mut condition[..size],
                     &mut answers[..size2],
-                );
+                )?;
             }
         }
     }
+    Ok(())
 }
 
 // A line, taken apart.
-fn run(line: &[u8]) {
+fn run(rt: &impl Print, line: &[u8]) -> io::Result<()> {
     if line.len() == 0 {
-        return;
+        return Ok(());
     }
     let f = cases::take_apart(line);
     if f.call == b'w' {
         let order = cases::order(line, f.order);
-        run_write(line, f, order);
-        return;
+        return run_write(rt, line, f, order);
     }
     if f.call == b'r' {
-        run_read(line, f);
+        run_read(rt, line, f)?;
     }
+    Ok(())
 }
 
-fn run_all(input: &[u8]) {
+fn run_all(rt: &impl Print, input: &[u8]) -> io::Result<()> {
     let mut at: usize = 0;
     while at < input.len() {
         let end = cases::line_end(input, at);
-        run(&input[at..end]);
+        run(rt, &input[at..end])?;
         at = end + 1;
     }
+    Ok(())
 }
 
-fn main() {
+fn main(rt: HostRuntime) -> io::Result<()> {
     let mut input = cases::input();
-    let n = io::read_full(STDIN_FILENO, &mut input);
-    run_all(&input[..n]);
+    let n = cases::read_full(&mut rt.stdin(), &mut input)?;
+    run_all(&rt, &input[..n])
 }

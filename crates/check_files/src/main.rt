@@ -3,10 +3,11 @@
 
 #![tactic(auto)]
 
-fn main() {
-    walk_file::print_walk(b"missing");
-    walk_file::print_walk(b"directory");
-    walk_file::print_walk(b"empty");
-    walk_file::print_walk(b"bytes_65536");
-    walk_file::print_walk(b"bytes_65537");
+fn main(rt: HostRuntime) {
+    let mut output = rt.stdout();
+    walk_file::print_walk(&rt, &mut output, b"missing");
+    walk_file::print_walk(&rt, &mut output, b"directory");
+    walk_file::print_walk(&rt, &mut output, b"empty");
+    walk_file::print_walk(&rt, &mut output, b"bytes_65536");
+    walk_file::print_walk(&rt, &mut output, b"bytes_65537");
 }

@@ -5,101 +5,110 @@
 #![tactic(auto)]
 
 use calls::{Shorter, Valued};
-use libc::{STDIN_FILENO, STDOUT_FILENO};
+use std::io;
 
-fn show_value(r: Valued) {
+fn show_value(rt: &impl Print, r: Valued) -> io::Result<()> {
     match r {
-        Valued::Value(v) => cases::show_number(b"value", v as usize),
-        Valued::Refused(q) => cases::show_refused(q),
+        Valued::Value(v) => cases::show_number(rt, b"value", v as usize)?,
+        Valued::Refused(q) => cases::show_refused(rt, q)?,
     }
-    cases::show_line_end();
+    cases::show_line_end(rt)
 }
 
-fn show_which(r: Shorter) {
+fn show_which(rt: &impl Print, r: Shorter) -> io::Result<()> {
     match r {
-        Shorter::Boole => {
-            io::write_all(STDOUT_FILENO, b"boole");
-        }
-        Shorter::Lowenheim => {
-            io::write_all(STDOUT_FILENO, b"lowenheim");
-        }
-        Shorter::Refused(q) => cases::show_refused(q),
+        Shorter::Boole => rt.write_all(b"boole"),
+        Shorter::Lowenheim => rt.write_all(b"lowenheim"),
+        Shorter::Refused(q) => cases::show_refused(rt, q),
     }
 }
 
 // Which table it is, what the companion call says, and the length and the bytes of the part handed back. The tables have one lifetime, since the
 // part may be of either.
-fn show_shorter<'a>(u: usize, g: usize, boole: &'a [u8], lowenheim: &'a [u8]) {
-    show_which(shorter::which_shorter(u, g, boole, lowenheim));
+fn show_shorter<'a>(
+    rt: &impl Print,
+    u: usize,
+    g: usize,
+    boole: &'a [u8],
+    lowenheim: &'a [u8],
+) -> io::Result<()> {
+    show_which(rt, shorter::which_shorter(u, g, boole, lowenheim))?;
     let number = shorter::shorter_refusal(u, g, boole, lowenheim);
-    cases::show_number(b"", number as usize);
+    cases::show_number(rt, b"", number as usize)?;
     let part = shorter::shorter(u, g, boole, lowenheim);
-    cases::show_number(b"", part.len());
-    cases::show_digits(part);
-    cases::show_line_end();
+    cases::show_number(rt, b"", part.len())?;
+    cases::show_digits(rt, part)?;
+    cases::show_line_end(rt)
 }
 
 // One call on buffers of the stated lengths.
-fn call<'a>(f: cases::Fields, a: &'a [u8], b: &'a [u8], out: &mut [u8]) {
+fn call<'a>(
+    rt: &impl Print,
+    f: cases::Fields,
+    a: &'a [u8],
+    b: &'a [u8],
+    out: &mut [u8],
+) -> io::Result<()> {
     let name = f.call;
     if name == b'v' {
-        show_value(operations::value(f.unknowns, f.givens, a, ring::State(f.x), ring::Choice(f.y)));
-        return;
+        return show_value(
+            rt,
+            operations::value(f.unknowns, f.givens, a, ring::State(f.x), ring::Choice(f.y)),
+        );
     }
     if name == b'+' {
         let r = operations::sum(f.unknowns, f.givens, a, b, out);
-        cases::show_counted(r, out);
-        return;
+        return cases::show_counted(rt, r, out);
     }
     if name == b'*' {
         let r = operations::product(f.unknowns, f.givens, a, b, out);
-        cases::show_counted(r, out);
-        return;
+        return cases::show_counted(rt, r, out);
     }
     if name == b's' {
         let r = operations::substitute(f.unknowns, f.givens, a, b, out);
-        cases::show_counted(r, out);
-        return;
+        return cases::show_counted(rt, r, out);
     }
     if name == b'd' {
         let r = operations::derivative(f.unknowns, f.givens, a, f.x, out);
-        cases::show_outcome(r, out);
-        return;
+        return cases::show_outcome(rt, r, out);
     }
     if name == b'm' {
-        show_shorter(f.unknowns, f.givens, a, b);
+        show_shorter(rt, f.unknowns, f.givens, a, b)?;
     }
+    Ok(())
 }
 
 // A line, taken apart.
-fn run(line: &[u8]) {
+fn run(rt: &impl Print, line: &[u8]) -> io::Result<()> {
     if line.len() == 0 {
-        return;
+        return Ok(());
     }
     let f = cases::take_apart(line);
-    let mut a = io::large_buffer();
+    let mut a = cases::large_buffer();
     let na = cases::digits(line, f.a, &mut a);
-    let mut b = io::large_buffer();
+    let mut b = cases::large_buffer();
     let nb = cases::digits(line, f.b, &mut b);
-    let mut out = io::large_buffer();
+    let mut out = cases::large_buffer();
     cases::mark(&mut out);
     let size = f.size;
     if size <= 65536 {
-        call(f, &a[..na], &b[..nb], &mut out[..size]);
+        call(rt, f, &a[..na], &b[..nb], &mut out[..size])?;
     }
+    Ok(())
 }
 
-fn run_all(input: &[u8]) {
+fn run_all(rt: &impl Print, input: &[u8]) -> io::Result<()> {
     let mut at: usize = 0;
     while at < input.len() {
         let end = cases::line_end(input, at);
-        run(&input[at..end]);
+        run(rt, &input[at..end])?;
         at = end + 1;
     }
+    Ok(())
 }
 
-fn main() {
+fn main(rt: HostRuntime) -> io::Result<()> {
     let mut input = cases::input();
-    let n = io::read_full(STDIN_FILENO, &mut input);
-    run_all(&input[..n]);
+    let n = cases::read_full(&mut rt.stdin(), &mut input)?;
+    run_all(&rt, &input[..n])
 }

@@ -8,8 +8,8 @@
 ghost use Rattle.std.specs.Prelude.{◌≤◌, length};
 
 use calls::Outcome;
-use libc::{STDIN_FILENO, STDOUT_FILENO};
 use session::{Mark, Session, Step};
+use std::io;
 
 // The largest prime below 2^32: a sum is a u32, and the product with 31 fits.
 const MODULUS: u64 = 4294967291;
@@ -45,47 +45,44 @@ fn checksum(s: Session) -> u32 {
     sum
 }
 
-fn show_marks(s: Session) {
+fn show_marks(rt: &impl Print, s: Session) -> io::Result<()> {
     let mut marks = [0u8; 4];
     for i in 0usize..4 {
         let m = s.marks[i];
         marks[i] = digit(m.set);
     }
-    cases::show_digits(&marks);
+    cases::show_digits(rt, &marks)
 }
 
 // The present table, if the letters say how long it is.
-fn show_table(s: Session) {
+fn show_table(rt: &impl Print, s: Session) -> io::Result<()> {
     if !tables::letters_fit(s.unknowns, s.givens) {
-        cases::show_digits(b"");
-        return;
+        return cases::show_digits(rt, b"");
     }
     let k = tables::pow2(s.unknowns + s.givens);
     let t = s.table;
-    cases::show_digits(&t[..k]);
+    cases::show_digits(rt, &t[..k])
 }
 
-fn show_outcome(outcome: Outcome) {
+fn show_outcome(rt: &impl Print, outcome: Outcome) -> io::Result<()> {
     match outcome {
-        Outcome::Done => {
-            io::write_all(STDOUT_FILENO, b"done");
-        }
-        Outcome::Refused(q) => cases::show_refused(q),
+        Outcome::Done => rt.write_all(b"done"),
+        Outcome::Refused(q) => cases::show_refused(rt, q),
     }
 }
 
 // The session after the step is handed on, for the next line.
-fn show(step: Step) -> Session {
+fn show(rt: &impl Print, step: Step) -> io::Result<Session> {
     let outcome = step.outcome;
-    show_outcome(outcome);
+    show_outcome(rt, outcome)?;
     let s = step.session;
-    cases::show_number(b"", s.unknowns);
-    cases::show_number(b"", s.givens);
-    cases::show_number(b"", checksum(s) as usize);
-    show_marks(s);
-    show_table(s);
-    cases::show_line_end();
-    s
+    cases::show_number(rt, b"", s.unknowns)?;
+    cases::show_number(rt, b"", s.givens)?;
+    cases::show_number(rt, b"", checksum(s) as usize)?;
+    show_marks(rt, s)?;
+    show_table(rt, s)?;
+    cases::show_line_end(rt)?;
+    Ok(s)
 }
 
 // At a place behind the table's end nothing is changed.
@@ -150,49 +147,50 @@ fn change(s: Session, which: usize, place: usize, byte: u8) -> Session {
 fn add(s: Session, line: &[u8], at: usize) -> Step
     requires { at ≤ length line.now }
 {
-    let mut h = io::large_buffer();
+    let mut h = cases::large_buffer();
     let n = cases::digits(line, at, &mut h);
     s.add(&h[..n])
 }
 
 // The session after a line.
-fn play(s: Session, line: &[u8]) -> Session {
+fn play(rt: &impl Print, s: Session, line: &[u8]) -> io::Result<Session> {
     if line.len() == 0 {
-        return s;
+        return Ok(s);
     }
     let f = cases::take_apart(line);
     let name = f.call;
     if name == b's' {
-        return show(Session::start(f.unknowns, f.givens));
+        return show(rt, Session::start(f.unknowns, f.givens));
     }
     if name == b'a' {
-        return show(add(s, line, f.a));
+        return show(rt, add(s, line, f.a));
     }
     if name == b'm' {
-        return show(s.mark(f.x));
+        return show(rt, s.mark(f.x));
     }
     if name == b'r' {
-        return show(s.return_to(f.x));
+        return show(rt, s.return_to(f.x));
     }
     if name == b'd' {
-        return change(s, f.unknowns, f.givens, (f.x % 256) as u8);
+        return Ok(change(s, f.unknowns, f.givens, (f.x % 256) as u8));
     }
-    s
+    Ok(s)
 }
 
-fn run_all(input: &[u8]) {
+fn run_all(rt: &impl Print, input: &[u8]) -> io::Result<()> {
     let first = Session::start(0, 0);
     let mut s = first.session;
     let mut at: usize = 0;
     while at < input.len() {
         let end = cases::line_end(input, at);
-        s = play(s, &input[at..end]);
+        s = play(rt, s, &input[at..end])?;
         at = end + 1;
     }
+    Ok(())
 }
 
-fn main() {
+fn main(rt: HostRuntime) -> io::Result<()> {
     let mut input = cases::input();
-    let n = io::read_full(STDIN_FILENO, &mut input);
-    run_all(&input[..n]);
+    let n = cases::read_full(&mut rt.stdin(), &mut input)?;
+    run_all(&rt, &input[..n])
 }

@@ -4,81 +4,82 @@
 #![tactic(auto)]
 
 use calls::Solving;
-use libc::STDIN_FILENO;
+use std::io;
 
-fn show_solving(r: Solving, answers: &[u8]) {
+fn show_solving(rt: &impl Print, r: Solving, answers: &[u8]) -> io::Result<()> {
     match r {
-        Solving::Solved(monomials) => cases::show_number(b"done", monomials),
-        Solving::None(state) => cases::show_number(b"none", state.0),
-        Solving::Refused(q) => cases::show_refused(q),
+        Solving::Solved(monomials) => cases::show_number(rt, b"done", monomials)?,
+        Solving::None(state) => cases::show_number(rt, b"none", state.0)?,
+        Solving::Refused(q) => cases::show_refused(rt, q)?,
     }
-    cases::show_digits(answers);
-    cases::show_line_end();
+    cases::show_digits(rt, answers)?;
+    cases::show_line_end(rt)
 }
 
 // One call on buffers of the stated lengths.
 fn call(
+    rt: &impl Print,
     f: cases::Fields,
     order: [u8; 6],
     fact: &[u8],
     condition: &[u8],
     handed: &[u8],
     answers: &mut [u8],
-) {
+) -> io::Result<()> {
     let name = f.call;
     if name == b'b' {
         let r = solver::boole(f.unknowns, f.givens, order, fact, condition, answers);
-        show_solving(r, answers);
-        return;
+        return show_solving(rt, r, answers);
     }
     if name == b'p' {
         let r = solver::particular(f.unknowns, f.givens, order, fact, condition, answers);
-        show_solving(r, answers);
-        return;
+        return show_solving(rt, r, answers);
     }
     if name == b'l' {
         let r = solver::lowenheim(f.unknowns, f.givens, order, fact, condition, answers);
-        show_solving(r, answers);
-        return;
+        return show_solving(rt, r, answers);
     }
     if name == b'h' {
         let r = solver::lowenheim_handed(f.unknowns, f.givens, fact, condition, handed, answers);
-        cases::show_counted(r, answers);
+        cases::show_counted(rt, r, answers)?;
     }
+    Ok(())
 }
 
 // A line, taken apart. The handed form takes no order: the handed polynomials stand in its place.
-fn run(line: &[u8]) {
+fn run(rt: &impl Print, line: &[u8]) -> io::Result<()> {
     if line.len() == 0 {
-        return;
+        return Ok(());
     }
     let f = cases::take_apart(line);
     let order = cases::order(line, f.order);
-    let mut a = io::large_buffer();
+    let mut a = cases::large_buffer();
     let na = cases::digits(line, f.a, &mut a);
-    let mut b = io::large_buffer();
+    let mut b = cases::large_buffer();
     let nb = cases::digits(line, f.b, &mut b);
-    let mut h = io::large_buffer();
+    let mut h = cases::large_buffer();
     let nh = cases::digits(line, f.order, &mut h);
-    let mut out = io::large_buffer();
+    let mut out = cases::large_buffer();
     cases::mark(&mut out);
     let size = f.size;
     if size <= 65536 {
-        call(f, order, &a[..na], &b[..nb], &h[..nh], &mut out[..size]);
+        call(rt, f, order, &a[..na], &b[..nb], &h[..nh], &mut out[..size])?;
     }
+    Ok(())
 }
 
-fn run_all(input: &[u8]) {
+fn run_all(rt: &impl Print, input: &[u8]) -> io::Result<()> {
     let mut at: usize = 0;
     while at < input.len() {
         let end = cases::line_end(input, at);
-        run(&input[at..end]);
+        run(rt, &input[at..end])?;
         at = end + 1;
     }
+    Ok(())
 }
 
-fn main() {
+fn main(rt: HostRuntime) -> io::Result<()> {
     let mut input = cases::input();
-    let n = io::read_full(STDIN_FILENO, &mut input);
-    run_all(&input[..n]);
+    let n = cases::read_full(&mut rt.stdin(), &mut input)?;
+    run_all(&rt, &input[..n])
 }

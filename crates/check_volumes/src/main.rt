@@ -4,78 +4,77 @@
 #![tactic(auto)]
 
 use calls::{Heading, Read, Verdict, Walked};
-use libc::{STDIN_FILENO, STDOUT_FILENO};
+use std::io;
 
-fn show_heading(h: Heading) {
-    cases::show_number(b"", h.route as usize);
-    cases::show_number(b"", h.unknowns);
-    cases::show_number(b"", h.givens);
-    cases::show_number(b"", h.used);
+fn show_heading(rt: &impl Print, h: Heading) -> io::Result<()> {
+    cases::show_number(rt, b"", h.route as usize)?;
+    cases::show_number(rt, b"", h.unknowns)?;
+    cases::show_number(rt, b"", h.givens)?;
+    cases::show_number(rt, b"", h.used)
 }
 
-fn show_verdict(verdict: Verdict) {
+fn show_verdict(rt: &impl Print, verdict: Verdict) -> io::Result<()> {
     match verdict {
-        Verdict::Solved => {
-            io::write_all(STDOUT_FILENO, b"solved");
-        }
-        Verdict::None(state) => cases::show_number(b"none", state.0),
+        Verdict::Solved => rt.write_all(b"solved"),
+        Verdict::None(state) => cases::show_number(rt, b"none", state.0),
     }
 }
 
-fn show_audited(r: Read) {
+fn show_audited(rt: &impl Print, r: Read) -> io::Result<()> {
     match r {
         Read::Entry(h, verdict) => {
-            show_verdict(verdict);
-            show_heading(h);
+            show_verdict(rt, verdict)?;
+            show_heading(rt, h)?;
         }
-        Read::Refused(q) => cases::show_refused(q),
+        Read::Refused(q) => cases::show_refused(rt, q)?,
     }
-    cases::show_line_end();
+    cases::show_line_end(rt)
 }
 
-fn show_walked(r: Walked) {
+fn show_walked(rt: &impl Print, r: Walked) -> io::Result<()> {
     match r {
-        Walked::Count(count) => cases::show_number(b"count", count),
+        Walked::Count(count) => cases::show_number(rt, b"count", count)?,
         Walked::Refused(q, passed) => {
-            cases::show_refused(q);
-            cases::show_number(b"", passed);
+            cases::show_refused(rt, q)?;
+            cases::show_number(rt, b"", passed)?;
         }
     }
-    cases::show_line_end();
+    cases::show_line_end(rt)
 }
 
-fn call(f: cases::Fields, bytes: &[u8]) {
+fn call(rt: &impl Print, f: cases::Fields, bytes: &[u8]) -> io::Result<()> {
     if f.call == b'a' {
-        show_audited(audit::audit(bytes));
-        return;
+        return show_audited(rt, audit::audit(bytes));
     }
     if f.call == b'k' {
-        show_walked(volume::walk_volume(bytes, f.x));
+        show_walked(rt, volume::walk_volume(bytes, f.x))?;
     }
+    Ok(())
 }
 
 // A line, taken apart.
-fn run(line: &[u8]) {
+fn run(rt: &impl Print, line: &[u8]) -> io::Result<()> {
     if line.len() == 0 {
-        return;
+        return Ok(());
     }
     let f = cases::take_apart(line);
-    let mut bytes = io::large_buffer();
+    let mut bytes = cases::large_buffer();
     let n = cases::hex_bytes(line, f.b, &mut bytes);
-    call(f, &bytes[..n]);
+    call(rt, f, &bytes[..n])
 }
 
-fn run_all(input: &[u8]) {
+fn run_all(rt: &impl Print, input: &[u8]) -> io::Result<()> {
     let mut at: usize = 0;
     while at < input.len() {
         let end = cases::line_end(input, at);
-        run(&input[at..end]);
+        run(rt, &input[at..end])?;
         at = end + 1;
     }
+    Ok(())
 }
 
-fn main() {
+fn main(rt: HostRuntime) -> io::Result<()> {
     let mut input = cases::input();
-    let n = io::read_full(STDIN_FILENO, &mut input);
-    run_all(&input[..n]);
+    let n = cases::read_full(&mut rt.stdin(), &mut input)?;
+    run_all(&rt, &input[..n])
 }

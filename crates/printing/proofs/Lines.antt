@@ -1,19 +1,13 @@
 -- The lines of words and numbers, part by part.
 -- Assumes nothing.
-use mathlib.Core.Path.{◌≡◌, ◌∙◌}
+use mathlib.Core.Path.{◌∙◌}
 use mathlib.Core.List.{List, [], ◌∷◌, ◌++◌, append_assoc}
 use Prim.Native.Nat.{ℕ, ◌+◌, ◌<◌}
 use lib.ListN.{length, set}
 use Rattle.tables.specs.Inner.Put.{Put}
 use Rattle.tables.specs.Answered.{accepted}
 use Rattle.tables.proofs.Put.{put_both, put_one, put_same}
-use Rattle.io.specs.Digits.{last_digits, IsDigitCount}
 use Rattle.printing.specs.Print.{line_feed, decimal, refused_word, spaced, refused_line, reply_line}
-use Rattle.printing.proofs.Numbers.{fewest_digits}
-
-pub decimal_put : {old new vs : List ℕ} {at next k n : ℕ} → Put old at vs next new → vs ≡ last_digits 10 k n → IsDigitCount 10 1 n k
-    → Put old at (decimal n) next new
-decimal_put {k = k} {n = n} p e f = put_same p (e ∙ fewest_digits n k f)
 
 -- the number behind the word, and the end of the line
 pub refused_put : (number : ℕ) {old new : List ℕ} {at next : ℕ} → Put old at (refused_word ++ (32 ∷ decimal number)) next new

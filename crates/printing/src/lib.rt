@@ -28,9 +28,9 @@ fn put_decimal(out: &mut [u8], at: usize, n: u64) -> usize
     ensures put { Put out.old at (decimal n) result out.new }
     ensures upper_bound { result ≤ at + 20 }
 {
-    let mut text = [0u8; 20];
-    let k = io::decimal(n, &mut text);
-    put(out, at, &text[..k])
+    let mut buffer = itoa::Buffer::new();
+    let text = buffer.format(n);
+    put(out, at, text.as_bytes())
 }
 
 // From 10 on the digits stand 39 further on. No branch: what a digit is cannot be foretold.

@@ -97,14 +97,14 @@ module _ (room : List ℕ) (read written : ℕ) (c : Carried) where
   unfolding got_bytes
   takes_read (Bytes n) going read' written' c' h t = piece_read read written c n room read' written' c' h.1 t.advances
   takes_read End going read' written' c' h t = piece_read read written c 0 room read' written' c' (omega arith) t.advances
-  takes_read Failed going read' written' c' h t = piece_read read written c 0 room read' written' c' (omega arith) t.advances
+  takes_read (Failed e) going read' written' c' h t = piece_read read written c 0 room read' written' c' (omega arith) t.advances
 
   pub takes_forward : (got : Got) (going : Bool) (read' written' : ℕ) (c' : Carried) → got_within got (length room)
       → Takes got room read written c going read' written' c' → going ≡ true → read < read'
   unfolding got_bytes got_some
   takes_forward (Bytes n) going read' written' c' h t g = piece_forward read written c n room read' written' c' h.1 t.advances h.0
   takes_forward End going read' written' c' h t g = absurd (false≢true (sym t.goes_on ∙ g))
-  takes_forward Failed going read' written' c' h t g = absurd (false≢true (sym t.goes_on ∙ g))
+  takes_forward (Failed e) going read' written' c' h t g = absurd (false≢true (sym t.goes_on ∙ g))
 
 -- how far a run has come, behind some input
 pub record Reached (read written : ℕ) (c : Carried) : Type 0 where

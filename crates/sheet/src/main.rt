@@ -7,7 +7,7 @@
 //
 // Proved, over the bytes that stand in the room after a read: all of what the read gave is printed or carried, as `sheet_lines` says, and
 // after a failure nothing more is; and of a run that ends, that it has written as many bytes as `sheet` prints for some input of as many
-// bytes as were read. Left to a reader, since no contract speaks of what the C library reads or writes: that the bytes in the room are
+// bytes as were read. Left to a reader, since no contract speaks of what the system reads or writes: that the bytes in the room are
 // those of the input (`streams::read_some`), and that the bytes handed over reach the output, once (`streams::write_whole`).
 
 #![tactic(auto)]
@@ -18,7 +18,8 @@ ghost use Rattle.sheet_lines.specs.Inner.Feeding.{line_room, carried};
 ghost use Rattle.streams.specs.Inner.Got.{got_within};
 ghost use Rattle.sheet.specs.Running.{Advances, Takes, Ran};
 
-use libc::{STDIN_FILENO, STDOUT_FILENO};
+use std::io::{Read, Write};
+use std::rt::Clock;
 use streams::Got;
 
 // How far a run has come: whether the input goes on, whether a read or a write has failed, how many bytes were read and written, how
@@ -47,6 +48,12 @@ fn kept_room() -> [u8; 301]
     [0; 301]
 }
 
+fn input_room() -> [u8; 65536]
+    ensures { 65536 ≡ length result }
+{
+    [0; 65536]
+}
+
 fn output_room() -> [u8; 262144]
     ensures { 262144 ≡ length result }
 {
@@ -68,7 +75,13 @@ fn stopped() -> Progress
 }
 
 // Writes the first `n` bytes of `out`, behind `written` bytes. No run comes to where the sum does not fit.
-fn write_out(out: &[u8], n: usize, written: usize) -> Written
+fn write_out<H: Clock + Eprint, W: Write>(
+    rt: &H,
+    sink: &mut W,
+    out: &[u8],
+    n: usize,
+    written: usize,
+) -> Written
     requires { n ≤ length out.now }
     ensures { result.failed ≡ false → result.total ≡ written + n }
 {
@@ -78,8 +91,8 @@ fn write_out(out: &[u8], n: usize, written: usize) -> Written
             total: written,
         };
     }
-    if !streams::write_whole(STDOUT_FILENO, &out[..n]) {
-        os::fail(b"sheet: standard output");
+    if let Err(error) = streams::write_whole(rt, sink, &out[..n]) {
+        streams::complain(rt, "sheet: standard output", error);
         return Written {
             failed: true,
             total: written,
@@ -92,7 +105,9 @@ fn write_out(out: &[u8], n: usize, written: usize) -> Written
 }
 
 // Prints a piece of the input, as many lines at a time as `out` has room for. No run comes to where the sum does not fit.
-fn print_piece(
+fn print_piece<H: Clock + Eprint, W: Write>(
+    rt: &H,
+    sink: &mut W,
     piece: &[u8],
     kept: &mut [u8],
     kept_count: usize,
@@ -117,7 +132,7 @@ fn print_piece(
     while at < piece.len() {
         let fed = sheet_lines::feed(&piece[at..], kept, count, last, out, 0);
         let next = fed.next;
-        let done = write_out(out, next, written);
+        let done = write_out(rt, sink, out, next, written);
         if done.failed {
             return stopped();
         }
@@ -137,7 +152,9 @@ fn print_piece(
 }
 
 // Takes what a read gave: bytes are printed, the end leaves the line that has begun to `run`, and after a failure it is never answered.
-fn take_got(
+fn take_got<H: Clock + Eprint, W: Write>(
+    rt: &H,
+    sink: &mut W,
     got: Got,
     input: &[u8],
     kept: &mut [u8],
@@ -154,7 +171,7 @@ fn take_got(
         → Takes got input.now read written (carried last count kept.old) result.going result.read result.written (carried result.last result.count kept.new) }
 {
     match got {
-        Got::Bytes(n) => print_piece(&input[..n], kept, count, last, out, read, written),
+        Got::Bytes(n) => print_piece(rt, sink, &input[..n], kept, count, last, out, read, written),
         Got::End => Progress {
             going: false,
             failed: false,
@@ -163,15 +180,18 @@ fn take_got(
             count,
             last,
         },
-        Got::Failed => {
-            os::fail(b"sheet: standard input");
+        Got::Failed(error) => {
+            streams::complain(rt, "sheet: standard input", error);
             stopped()
         }
     }
 }
 
 // Reads a piece and takes it. At the end of the input the piece is empty.
-fn read_piece(
+fn read_piece<H: Clock + Eprint, R: Read, W: Write>(
+    rt: &H,
+    source: &mut R,
+    sink: &mut W,
     input: &mut [u8],
     kept: &mut [u8],
     count: usize,
@@ -186,12 +206,19 @@ fn read_piece(
         → Advances read written (carried last count kept.old) (take (result.read - read) input.new) result.read result.written (carried result.last result.count kept.new) }
     ensures read_lt_read { result.failed ≡ false → result.going ≡ true → read < result.read }
 {
-    let got = streams::read_some(STDIN_FILENO, input);
-    take_got(got, input, kept, count, last, out, read, written)
+    let got = streams::read_some(rt, source, input);
+    take_got(rt, sink, got, input, kept, count, last, out, read, written)
 }
 
 // Reads and prints to the end of the input.
-fn run(input: &mut [u8], kept: &mut [u8], out: &mut [u8]) -> Progress
+fn run<H: Clock + Eprint, R: Read, W: Write>(
+    rt: &H,
+    source: &mut R,
+    sink: &mut W,
+    input: &mut [u8],
+    kept: &mut [u8],
+    out: &mut [u8],
+) -> Progress
     requires { (length kept.old ≡ kept_length) × (line_room ≤ length out.old) }
     ensures { result.failed ≡ false → Ran result.read result.written }
 {
@@ -201,7 +228,9 @@ fn run(input: &mut [u8], kept: &mut [u8], out: &mut [u8]) -> Progress
     let mut read: usize = 0;
     let mut written: usize = 0;
     while going {
-        let progress = read_piece(input, kept, count, last, out, read, written);
+        let progress = read_piece(
+            rt, source, sink, input, kept, count, last, out, read, written,
+        );
         if progress.failed {
             return stopped();
         }
@@ -212,7 +241,7 @@ fn run(input: &mut [u8], kept: &mut [u8], out: &mut [u8]) -> Progress
         written = progress.written;
     }
     let n = sheet_lines::finish(kept, count, last, out, 0);
-    let done = write_out(out, n, written);
+    let done = write_out(rt, sink, out, n, written);
     Progress {
         going: false,
         failed: done.failed,
@@ -223,9 +252,16 @@ fn run(input: &mut [u8], kept: &mut [u8], out: &mut [u8]) -> Progress
     }
 }
 
-fn main() {
-    let mut input = io::large_buffer();
+fn main(rt: HostRuntime) {
+    let mut input = input_room();
     let mut kept = kept_room();
     let mut out = output_room();
-    run(&mut input, &mut kept, &mut out);
+    run(
+        &rt,
+        &mut rt.stdin(),
+        &mut rt.stdout(),
+        &mut input,
+        &mut kept,
+        &mut out,
+    );
 }

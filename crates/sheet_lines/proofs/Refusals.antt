@@ -12,7 +12,7 @@ use Rattle.tables.specs.Inner.Put.{Put}
 use Rattle.tables.specs.Inner.Asking.{also}
 use Rattle.tables.specs.Questions.{Asked, asks, number, first_no, letters_fit}
 use Rattle.tables.specs.Answered.{after}
-use Rattle.tables.proofs.FirstNo.{no_to, yes_to, yes_counts, first_also, asked_before}
+use Rattle.tables.proofs.FirstNo.{no_to, yes_to, yes_counts, first_also}
 use Rattle.tables.proofs.Questions.{failed, passed}
 use Rattle.grammar.specs.Text.{text_table}
 use Rattle.calls.specs.Questions.{has_text_length}

@@ -1,47 +1,45 @@
 // Reading and writing for the programs: a call that a signal interrupted is made again, one for which nothing is ready yet is made again
 // after a pause, and a write that took only a part goes on. A read that fails otherwise is told apart from the end of the input.
-// No contract can say which bytes the C library reads or writes.
+// No contract can say which bytes the system reads or writes.
 
 #![tactic(auto)]
 
-ghost use Rattle.std.specs.Prelude.{◌≡◌, ◌≤◌, length};
+ghost use Rattle.std.specs.Prelude.{◌≡◌, ◌≤◌, length, IfOk};
 ghost use Rattle.streams.specs.Inner.Got.{got_of, got_within};
 
-use libc::types::timespec;
-use libc::{EAGAIN, EINTR};
+use std::io::{ErrorKind, Read, Write};
+use std::rt::Clock;
+use std::time::Duration;
+use std::{io, thread};
 
-// What a read gave: so many bytes at the front of the room, the end of the input, or a failure.
+// What a read gave: so many bytes at the front of the room, the end of the input, or a failure, and why.
 #[derive(Clone, Copy)]
 pub enum Got {
     Bytes(usize),
     End,
-    Failed,
+    Failed(io::Error),
 }
 
-// Waits for a two-hundredth of a second, or until a signal comes, so that waiting takes no processor time.
-fn pause() {
-    let asked = timespec {
-        tv_sec: 0,
-        tv_nsec: 5000000,
-    };
-    let mut left = timespec {
-        tv_sec: 0,
-        tv_nsec: 0,
-    };
-    libc::nanosleep(&asked, &mut left);
+// Waits for a two-hundredth of a second, so that waiting takes no processor time.
+fn pause(clock: &impl Clock) {
+    thread::sleep(clock, Duration::from_millis(5));
 }
 
-// Whether the call that has just failed is to be made again: a signal interrupted it, or nothing was ready, and then only after a pause.
-fn again() -> bool {
-    let error = os::errno();
-    if error == EINTR {
-        return true;
+// Whether the call that failed so is to be made again: a signal interrupted it, or nothing was ready, and then only after a pause.
+fn again(clock: &impl Clock, error: &io::Error) -> bool {
+    match error.kind() {
+        ErrorKind::Interrupted => true,
+        ErrorKind::WouldBlock => {
+            pause(clock);
+            true
+        }
+        _ => false,
     }
-    if error == EAGAIN {
-        pause();
-        return true;
-    }
-    false
+}
+
+// What a call fails with that was made as often as a loop can go.
+fn too_often() -> io::Error {
+    io::Error::from(ErrorKind::TimedOut)
 }
 
 // A read that did not fail, by its count.
@@ -54,51 +52,54 @@ fn got_of(n: usize) -> Got
     Got::Bytes(n)
 }
 
-// Reads once, at the front of `room`. A proved loop has to end, so the turns count down from a number that no run uses up.
-pub fn read_some(file: i32, room: &mut [u8]) -> Got
+// Reads once, at the front of `room`. A proved loop has to end, so the turns are counted, up to a number that no run uses up.
+pub fn read_some<C: Clock, R: Read>(clock: &C, file: &mut R, room: &mut [u8]) -> Got
     ensures { got_within result (length room.old) }
 {
-    let mut turns = u64::MAX;
-    while 0 < turns {
-        let answer = libc::read(file, room);
-        if 0 <= answer {
-            return got_of(io::count(answer, room));
+    for _ in 0..u64::MAX {
+        match file.read(room) {
+            Ok(n) => return got_of(n),
+            Err(e) => {
+                if !again(clock, &e) {
+                    return Got::Failed(e);
+                }
+            }
         }
-        if !again() {
-            return Got::Failed;
-        }
-        turns -= 1;
     }
-    Got::Failed
+    Got::Failed(too_often())
 }
 
-// Writes once, from the front of `bytes`, and answers how many it took: 0 where the output takes nothing more.
-fn write_some(file: i32, bytes: &[u8]) -> usize
-    ensures { result ≤ length bytes.now }
+// Writes once, from the front of `bytes`, and answers how many it took: an output that takes nothing more is an error.
+fn write_some<C: Clock, W: Write>(clock: &C, file: &mut W, bytes: &[u8]) -> io::Result<usize>
+    ensures { IfOk result (λ n. n ≤ length bytes.now) }
 {
-    let mut turns = u64::MAX;
-    while 0 < turns {
-        let answer = libc::write(file, bytes);
-        if 0 <= answer {
-            return io::count(answer, bytes);
+    for _ in 0..u64::MAX {
+        match file.write(bytes) {
+            Ok(n) => return Ok(n),
+            Err(e) => {
+                if !again(clock, &e) {
+                    return Err(e);
+                }
+            }
         }
-        if !again() {
-            return 0;
-        }
-        turns -= 1;
     }
-    0
+    Err(too_often())
 }
 
-// Writes all of `bytes`, or answers false where the output takes nothing more.
-pub fn write_whole(file: i32, bytes: &[u8]) -> bool {
+// Writes all of `bytes`, or fails where the output takes nothing more.
+pub fn write_whole<C: Clock, W: Write>(clock: &C, file: &mut W, bytes: &[u8]) -> io::Result<()> {
     let mut done = 0;
     while done < bytes.len() {
-        let more = write_some(file, &bytes[done..]);
+        let more = write_some(clock, file, &bytes[done..])?;
         if more == 0 {
-            return false;
+            return Err(io::Error::from(ErrorKind::WriteZero));
         }
         done += more;
     }
-    true
+    Ok(())
+}
+
+// Writes a line to standard error: what failed, as the caller names it, a colon and why.
+pub fn complain(rt: &impl Eprint, what: &str, error: io::Error) {
+    let _ = eprintln!(rt; "{what}: {error}");
 }

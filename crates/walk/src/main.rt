@@ -4,6 +4,7 @@
 
 #![tactic(auto)]
 
-fn main() {
-    walk_file::print_walk(b"volume");
+fn main(rt: HostRuntime) {
+    let mut output = rt.stdout();
+    walk_file::print_walk(&rt, &mut output, b"volume");
 }

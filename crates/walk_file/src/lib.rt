@@ -1,6 +1,6 @@
 // What `walk` prints for a file. What is printed is worked out by `loaded_line`, on slices; the rest only reads and writes.
 // A file that cannot be opened or read is `unreadable`, and standard error says why. Left to a reader, since no contract speaks of what the
-// C library reads or writes: that the bytes in the room are those of the file (`streams::read_some`), and that the line reaches the output.
+// system reads or writes: that the bytes in the room are those of the file (`streams::read_some`), and that the line reaches the output.
 
 #![tactic(auto)]
 
@@ -11,7 +11,9 @@ ghost use Rattle.walk_file.specs.Loaded.{room_length, loaded_within, loaded_prin
 ghost use Rattle.walk_file.specs.Walk.{walk_printed};
 
 use calls::Walked;
-use libc::STDOUT_FILENO;
+use std::io::{ErrorKind, Read, Write};
+use std::rt::{Clock, Files};
+use std::{fs, io};
 use streams::Got;
 
 const LONGEST_VOLUME: usize = 65536; // 'the volume .. of at most 65,536 bytes'
@@ -32,30 +34,30 @@ fn volume_room() -> [u8; 65537]
 }
 
 // One read, behind the first `n` bytes, which stay.
-fn load_more(file: i32, room: &mut [u8], n: usize) -> Got
+fn load_more<C: Clock, R: Read>(clock: &C, file: &mut R, room: &mut [u8], n: usize) -> Got
     requires { n ≤ length room.old }
     ensures got_within { got_within result (length room.old - n) }
     ensures room_unchanged { take n room.new ≡ take n room.old }
 {
-    streams::read_some(file, &mut room[n..])
+    streams::read_some(clock, file, &mut room[n..])
 }
 
 // Reads to the end of the file, or of the room.
-fn load(file: i32, room: &mut [u8]) -> Loaded
+fn load<H: Clock + Eprint, R: Read>(rt: &H, file: &mut R, room: &mut [u8]) -> Loaded
     requires { length room.old ≡ room_length }
     ensures { loaded_within result }
 {
     let mut n: usize = 0;
     while n < room.len() {
-        match load_more(file, room, n) {
+        match load_more(rt, file, room, n) {
             Got::Bytes(more) => {
                 n += more;
             }
             Got::End => {
                 return Loaded::Ended(n);
             }
-            Got::Failed => {
-                os::fail(b"walk: read");
+            Got::Failed(error) => {
+                streams::complain(rt, "walk: read", error);
                 return Loaded::Failed;
             }
         }
@@ -63,18 +65,25 @@ fn load(file: i32, room: &mut [u8]) -> Loaded
     Loaded::Longer(n)
 }
 
-fn load_file(name: &[u8], room: &mut [u8]) -> Loaded
+// Opens the file of that name for reading. The system's names are opened by text, so that bytes that are no UTF-8 name no file.
+fn open<H: Files>(rt: &H, name: &[u8]) -> io::Result<H::File> {
+    match str::from_utf8(name) {
+        Ok(text) => fs::open(rt, text),
+        Err(_) => Err(io::Error::from(ErrorKind::InvalidInput)),
+    }
+}
+
+fn load_file<H: Files + Clock + Eprint>(rt: &H, name: &[u8], room: &mut [u8]) -> Loaded
     requires { length room.old ≡ room_length }
     ensures { loaded_within result }
 {
-    let file = os::open_read(name);
-    if file < 0 {
-        os::fail(b"walk: open");
-        return Loaded::Failed;
+    match open(rt, name) {
+        Ok(mut file) => load(rt, &mut file, room),
+        Err(error) => {
+            streams::complain(rt, "walk: open", error);
+            Loaded::Failed
+        }
     }
-    let loaded = load(file, room);
-    libc::close(file);
-    loaded
 }
 
 // What is printed for the bytes of a file.
@@ -103,13 +112,20 @@ fn loaded_line(loaded: Loaded, room: &[u8], out: &mut [u8]) -> usize
     }
 }
 
+// The longest line has 50 bytes.
+fn line_room() -> [u8; 64]
+    ensures { 64 ≡ length result }
+{
+    [0; 64]
+}
+
 // Prints the walk over the file of that name.
-pub fn print_walk(name: &[u8]) {
+pub fn print_walk<H: Files + Clock + Eprint, W: Write>(rt: &H, output: &mut W, name: &[u8]) {
     let mut room = volume_room();
-    let loaded = load_file(name, &mut room);
-    let mut out = io::buffer();
+    let loaded = load_file(rt, name, &mut room);
+    let mut out = line_room();
     let n = loaded_line(loaded, &room, &mut out);
-    if !streams::write_whole(STDOUT_FILENO, &out[..n]) {
-        os::fail(b"walk: standard output");
+    if let Err(error) = streams::write_whole(rt, output, &out[..n]) {
+        streams::complain(rt, "walk: standard output", error);
     }
 }

@@ -1,7 +1,7 @@
 -- `cases::mark` meets its contract: the loop fills the bytes from the front.
 -- Assumes nothing.
-use Rattle.std.proofs.Common.{◌≡◌, ◌-◌, ◌≤◌, length, refl, rules}
-use Rattle.tables.proofs.Filled.{filled, filled-start, filled_more, filled_end}
+use Rattle.std.proofs.Common.{refl, rules}
+use Rattle.tables.proofs.Filled.{filled-start, filled_more, filled_end}
 use Rattle.cases.proofs.mark.Goals as goal
 
 pub loop-i-init : goal.loop-i-init

@@ -1,6 +1,6 @@
 -- `cases::skip` meets its contract: every place that it looks at lies within.
 -- Assumes nothing.
-use Rattle.std.proofs.Common.{◌-◌, ◌≤◌, length, rules}
+use Rattle.std.proofs.Common.{◌-◌, ◌≤◌, length}
 use Rattle.cases.proofs.skip.Given as goal
 
 abbrev pub invariant-loop-i : goal.invariant-loop-i

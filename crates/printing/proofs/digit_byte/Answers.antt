@@ -1,5 +1,4 @@
 -- Assumes nothing.
-use borrow.Author.Rules.{rules}
 use Rattle.printing.proofs.Numbers.{digit_at}
 use Rattle.printing.proofs.digit_byte.Goals as goal
 

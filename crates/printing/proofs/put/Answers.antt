@@ -1,10 +1,7 @@
 -- The invariant: the bytes passed stand in their place. Assumes nothing.
-use mathlib.Core.Path.{◌≡◌, refl}
-use Prim.Native.Nat.{◌+◌, ◌≤◌, ◌-◌}
+use mathlib.Core.Path.{refl}
 use native.Mathlib.Omega.{arith}
-use borrow.Author.Rules.{rules}
-use lib.ListN.{length, take, length-set}
-use Rattle.tables.specs.Inner.Put.{Put}
+use lib.ListN.{length-set}
 use Rattle.tables.proofs.Put.{put_start, put_more, put_all}
 use Rattle.printing.proofs.put.Goals as goal
 

@@ -1,11 +1,8 @@
 -- The invariant: the bytes passed stand in their place. Assumes nothing.
-use mathlib.Core.Path.{◌≡◌, refl}
+use mathlib.Core.Path.{◌≡◌}
 use Prim.Native.Nat.{◌+◌, ◌≤◌, ◌-◌}
-use native.Mathlib.Omega.{arith}
-use borrow.Author.Rules.{rules}
-use lib.ListN.{length, take, length-set}
+use lib.ListN.{length, take}
 use Rattle.tables.specs.Inner.Put.{Put}
-use Rattle.tables.proofs.Put.{put_start, put_more, put_all}
 use Rattle.printing.proofs.put.Given as goal
 
 abbrev pub invariant-loop-i : goal.invariant-loop-i

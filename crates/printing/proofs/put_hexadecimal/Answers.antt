@@ -1,11 +1,8 @@
 -- The invariant: two digits for each of the bytes passed stand in their place. Assumes nothing.
-use mathlib.Core.Path.{◌≡◌, refl}
-use Prim.Native.Nat.{◌+◌, ◌*◌, ◌≤◌, ◌-◌}
+use mathlib.Core.Path.{refl}
 use native.Mathlib.Omega.{arith}
 use borrow.Author.Rules.{rules}
-use lib.ListN.{length, take, length-set}
-use Rattle.printing.specs.Print.{hexadecimal}
-use Rattle.tables.specs.Inner.Put.{Put}
+use lib.ListN.{length-set}
 use Rattle.printing.proofs.Hexadecimal.{hex_start, hex_more, hex_all}
 use Rattle.printing.proofs.put_hexadecimal.Goals as goal
 

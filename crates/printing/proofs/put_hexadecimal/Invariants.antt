@@ -1,12 +1,9 @@
 -- The invariant: two digits for each of the bytes passed stand in their place. Assumes nothing.
-use mathlib.Core.Path.{◌≡◌, refl}
+use mathlib.Core.Path.{◌≡◌}
 use Prim.Native.Nat.{◌+◌, ◌*◌, ◌≤◌, ◌-◌}
-use native.Mathlib.Omega.{arith}
-use borrow.Author.Rules.{rules}
-use lib.ListN.{length, take, length-set}
+use lib.ListN.{length, take}
 use Rattle.printing.specs.Print.{hexadecimal}
 use Rattle.tables.specs.Inner.Put.{Put}
-use Rattle.printing.proofs.Hexadecimal.{hex_start, hex_more, hex_all}
 use Rattle.printing.proofs.put_hexadecimal.Given as goal
 
 abbrev pub invariant-loop-i : goal.invariant-loop-i

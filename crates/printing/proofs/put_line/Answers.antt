@@ -1,6 +1,5 @@
 -- Assumes nothing.
 use native.Mathlib.Omega.{arith}
-use borrow.Author.Rules.{rules}
 use Rattle.tables.proofs.Put.{put_length, put_one}
 use Rattle.printing.proofs.Hexadecimal.{hex_length}
 use Rattle.printing.proofs.put_line.Goals as goal
@@ -10,8 +9,9 @@ bounds-out-end c = let put = c.put_hexadecimal-end.ensures in
     omega (arith, put.place, put_length put, hex_length c.args.bytes.now)
 
 pub overflow_add-result : goal.overflow_add-result
-overflow_add-result c = omega (arith, room c)
+overflow_add-result c = let put = c.put_hexadecimal-end.ensures in
+    omega (arith, put.place, put_length put, hex_length c.args.bytes.now)
 
 pub returns : goal.returns
-returns c = put_one c.put_hexadecimal-end.ensures
-    (omega (arith, room c, put_length c.put_hexadecimal-end.ensures)) 10
+returns c = let put = c.put_hexadecimal-end.ensures in
+    put_one put (omega (arith, put.place, put_length put, hex_length c.args.bytes.now)) 10

@@ -1,5 +1,4 @@
 -- A monomial of the condition, or of an answer. Assumes nothing.
-use borrow.Author.Rules.{rules}
 use Rattle.printing.proofs.Records.{condition_room, answer_room_lem, condition_line, answer_line}
 use Rattle.printing.proofs.put_monomial.Goals as goal
 

@@ -1,9 +1,6 @@
 -- The invariant: the lines of the first p numbers are put. The measure is how many are left. Assumes nothing.
-use Prim.Native.Nat.{◌-◌}
-use lib.ListN.{length}
 use native.Mathlib.Omega.{arith}
-use borrow.Author.Rules.{rules}
-use Rattle.printing.proofs.Records.{Printing, printing_start, line_fits, printing_more, printing_end}
+use Rattle.printing.proofs.Records.{printing_start, line_fits, printing_more, printing_end}
 use Rattle.printing.proofs.put_monomials.Goals as goal
 
 pub loop-p-init : goal.loop-p-init

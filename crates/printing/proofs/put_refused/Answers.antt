@@ -1,6 +1,5 @@
 -- Assumes nothing.
 use native.Mathlib.Omega.{arith}
-use borrow.Author.Rules.{rules}
 use Rattle.printing.proofs.Lines.{refused_put}
 use Rattle.printing.proofs.put_refused.Goals as goal
 

@@ -2,7 +2,6 @@
 use mathlib.Core.Path.{◌∙◌}
 use native.Mathlib.Omega.{arith}
 use lib.ListN.{length-set}
-use borrow.Author.Rules.{rules}
 use Rattle.tables.proofs.Put.{put_length}
 use Rattle.printing.proofs.Lines.{refused_behind_put}
 use Rattle.printing.proofs.put_refused_behind.Goals as goal

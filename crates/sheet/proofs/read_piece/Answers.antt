@@ -12,14 +12,13 @@ sized : (r : Got) {k room : ℕ} → k ≡ room → got_within r k → got_withi
 sized r e h = subst (got_within r) e h
 
 pub take_got-requires : goal.take_got-requires
-take_got-requires c = let within : got_within c.read_some-got.result (length c.read_some-got.new.room) = sized c.read_some-got.result (sym c.read_some-got.auto.room) c.read_some-got.ensures in
+take_got-requires g c = let within : got_within c.read_some-got.result (length c.read_some-got.new.room) = sized c.read_some-got.result (sym c.read_some-got.auto.room) c.read_some-got.ensures in
     (within, search rules, search rules, search rules)
 
 pub returns : goal.returns
-returns c = let within : got_within c.read_some-got.result (length c.read_some-got.new.room) = sized c.read_some-got.result (sym c.read_some-got.auto.room) c.read_some-got.ensures in
+returns g c = let within : got_within c.read_some-got.result (length c.read_some-got.new.room) = sized c.read_some-got.result (sym c.read_some-got.auto.room) c.read_some-got.ensures in
     let taken = c.take_got.ensures in record {
       count_le_kept_length = taken.count_le_kept_length;
-      advances = λ f. takes_read _ _ _ _ c.read_some-got.result _ _ _ _ (within) (taken.takes f);
-      read_lt_read = λ f g. takes_forward _ _ _ _
-          c.read_some-got.result _ _ _ _ (within) (taken.takes f) g;
+      advances = λ f. takes_read _ _ _ _ c.read_some-got.result _ _ _ _ within (taken.takes f);
+      read_lt_read = λ f h. takes_forward _ _ _ _ c.read_some-got.result _ _ _ _ within (taken.takes f) h;
     }

@@ -3,7 +3,6 @@ use mathlib.Core.Path.{◌≡◌, sym, ◌∙◌}
 use mathlib.Core.Bool.{true≢false}
 use Prim.Native.Nat.{ℕ, ◌≤◌, ◌<◌}
 use borrow.Author.Rules.{rules}
-use lib.Seq.{length-take-le}
 use Rattle.streams.specs.declared.Got.{Got}
 use Rattle.streams.specs.declared.Got.TheVariants.{Bytes}
 use Rattle.streams.specs.Inner.Got.{got_within}
@@ -14,11 +13,13 @@ within : {got : Got} {n room : ℕ} → got ≡ Bytes n → got_within got room 
 within e h = rw e at h
 
 pub returns-in-Bytes : goal.returns-in-Bytes
-returns-in-Bytes c = let printed = c.print_piece.ensures in
-    let got = c.in-Bytes.is in record { count_le_kept_length = printed.count_le_kept_length; takes = λ f. takes_bytes _ _ _ _ got (printed.going_value f) (printed.advances f) }
+returns-in-Bytes g c = let printed = c.print_piece.ensures in record {
+  count_le_kept_length = printed.count_le_kept_length;
+  takes = λ f. takes_bytes _ _ _ _ c.in-Bytes.is (printed.going_value f) (printed.advances f);
+}
 
 pub returns-in-End : goal.returns-in-End
-returns-in-End c = record { count_le_kept_length = search rules; takes = λ f. takes_end _ _ _ _ c.in-End.is }
+returns-in-End g c = record { count_le_kept_length = search rules; takes = λ f. takes_end _ _ _ _ c.in-End.is }
 
 pub returns-in-Failed : goal.returns-in-Failed
-returns-in-Failed c = record { count_le_kept_length = c.stopped.ensures.1; takes = λ f. absurd (true≢false (sym c.stopped.ensures.0 ∙ f)) }
+returns-in-Failed g c = record { count_le_kept_length = c.stopped.ensures.1; takes = λ f. absurd (true≢false (sym c.stopped.ensures.0 ∙ f)) }

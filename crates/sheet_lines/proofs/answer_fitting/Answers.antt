@@ -1,6 +1,5 @@
 -- Once no question is answered no, the entry of the text's values is printed. Assumes nothing.
 use mathlib.Core.Path.{sym, ◌∙◌}
-use borrow.Author.Rules.{rules}
 use Rattle.sheet_lines.proofs.Refusals.{route_passes, answers_refused, answers_done}
 use Rattle.sheet_lines.proofs.Entries.{text_values, text_table_lem}
 use Rattle.sheet_lines.proofs.answer_fitting.Goals as goal

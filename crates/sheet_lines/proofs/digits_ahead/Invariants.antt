@@ -1,11 +1,8 @@
 -- The invariant: as many digits as were passed, and those that are left. Assumes nothing.
 use mathlib.Core.Path.{◌≡◌}
 use Prim.Native.Nat.{◌+◌, ◌≤◌, ◌-◌}
-use native.Mathlib.Omega.{arith}
-use borrow.Author.Rules.{rules}
 use lib.ListN.{length, drop}
 use Rattle.sheet_lines.specs.Fields.{digits_ahead}
-use Rattle.sheet_lines.proofs.Fields.{ahead_stop, ahead_more, ahead_end}
 use Rattle.sheet_lines.proofs.digits_ahead.Given as goal
 
 abbrev pub invariant-loop-k : goal.invariant-loop-k

@@ -1,14 +1,10 @@
 -- The invariant: the bytes passed did what `Took` says, and the rest of the output is where it was. The measure is what is left of the
 -- piece.
 -- Assumes nothing.
-use mathlib.Core.Path.{◌≡◌, refl, ◌∙◌}
+use mathlib.Core.Path.{◌≡◌}
 use Prim.Native.Nat.{◌-◌}
-use native.Mathlib.Omega.{arith}
 use lib.ListN.{length}
-use borrow.Author.Rules.{rules}
-use Rattle.tables.proofs.Put.{put_length}
 use Rattle.sheet_lines.specs.Inner.Feeding.{Took}
-use Rattle.sheet_lines.proofs.Feeding.{took_none, took_more}
 use Rattle.sheet_lines.proofs.feed_with.Given as goal
 
 abbrev pub invariant-loop-used : goal.invariant-loop-used

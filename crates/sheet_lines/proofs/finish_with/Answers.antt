@@ -1,7 +1,6 @@
 -- Assumes nothing.
 use mathlib.Core.Path.{sym}
 use native.Mathlib.Omega.{arith}
-use borrow.Author.Rules.{rules}
 use lib.Seq.{length-take-le}
 use Rattle.sheet_lines.proofs.Feeding.{last_none, last_line}
 use Rattle.sheet_lines.proofs.finish_with.Goals as goal

@@ -1,5 +1,4 @@
 -- Each way out is one test of `has_letters`, in their order. Assumes nothing.
-use borrow.Author.Rules.{rules}
 use Rattle.sheet_lines.proofs.Fields.{letters_short, letters_first, letters_unknowns, letters-second, letters_givens, letters_third}
 use mathlib.Core.Path.{ap}
 use mathlib.Core.Bool.{not}

@@ -1,5 +1,4 @@
 -- Each way out is one test of `is_readable`, in their order. Assumes nothing.
-use borrow.Author.Rules.{rules}
 use Rattle.sheet_lines.proofs.Fields.{readable_long, readable_none, readable_many, readable_rest}
 use Rattle.sheet_lines.proofs.is_readable.Goals as goal
 

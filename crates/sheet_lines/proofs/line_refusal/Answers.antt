@@ -1,6 +1,5 @@
 -- Question 2, then those of the text by way of reading it, then 15. Assumes nothing.
 use native.Mathlib.Omega.{arith}
-use borrow.Author.Rules.{rules}
 use Rattle.sheet_lines.proofs.Refusals.{refused_route, line_asked, line_values}
 use mathlib.Core.Path.{ap}
 use mathlib.Core.Bool.{not}

@@ -1,5 +1,4 @@
 -- One way out for each number of digits. Assumes nothing.
-use borrow.Author.Rules.{rules}
 use Rattle.sheet_lines.proofs.Fields.{number_one, number_two, number_three}
 use Rattle.sheet_lines.proofs.number.Goals as goal
 

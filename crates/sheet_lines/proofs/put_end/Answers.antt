@@ -1,5 +1,4 @@
 -- The line of one record. Assumes nothing.
-use borrow.Author.Rules.{rules}
 use Rattle.sheet_lines.proofs.Entries.{end_line}
 use Rattle.sheet_lines.proofs.put_end.Goals as goal
 

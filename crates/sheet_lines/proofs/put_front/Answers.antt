@@ -1,5 +1,4 @@
 -- A line, and those of the monomials. Assumes nothing.
-use borrow.Author.Rules.{rules}
 use Rattle.sheet_lines.proofs.Entries.{front_room, front_put}
 use Rattle.sheet_lines.proofs.put_front.Goals as goal
 

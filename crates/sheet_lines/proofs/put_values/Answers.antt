@@ -3,7 +3,6 @@ use mathlib.Core.Path.{refl}
 use mathlib.Core.List.{[]}
 use Prim.Native.Nat.{◌+◌}
 use native.Mathlib.Omega.{arith}
-use borrow.Author.Rules.{rules}
 use Rattle.tables.proofs.Questions.{letters_small, unknowns_small, givens_small, tables_fit}
 use Rattle.sheet_lines.proofs.Entries.{route_small, values-size, without_facts, listable, default_asked, default_lists}
 use Rattle.sheet_lines.proofs.Entries.{archived_room, archived_put, same_table}

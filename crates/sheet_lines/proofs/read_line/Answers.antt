@@ -1,7 +1,6 @@
 -- A readable line has room for its fields. Assumes nothing.
 use mathlib.Core.Path.{sym}
 use native.Mathlib.Omega.{arith}
-use borrow.Author.Rules.{rules}
 use lib.Seq.{length-take-le}
 use Rattle.sheet_lines.proofs.Fields.{Fits, readable_fits, read_no, read_yes}
 use Rattle.sheet_lines.proofs.read_line.Goals as goal

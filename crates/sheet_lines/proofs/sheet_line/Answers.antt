@@ -1,5 +1,4 @@
 -- Assumes nothing.
-use borrow.Author.Rules.{rules}
 use Rattle.sheet_lines.proofs.Feeding.{text_inside, prints_answer, prints_unreadable}
 use Rattle.sheet_lines.proofs.sheet_line.Goals as goal
 

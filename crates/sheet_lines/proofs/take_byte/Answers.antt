@@ -1,7 +1,6 @@
 -- Assumes nothing.
 use mathlib.Core.Path.{sym}
 use native.Mathlib.Omega.{arith}
-use borrow.Author.Rules.{rules}
 use lib.Seq.{length-take-le}
 use Rattle.sheet_lines.proofs.Feeding.{took_line, took_kept, took_full}
 use Rattle.sheet_lines.proofs.take_byte.Goals as goal

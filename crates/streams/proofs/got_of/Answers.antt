@@ -11,6 +11,7 @@ some zero s = absurd (s refl)
 some (suc n) s = refl
 
 pub returns-then-n-eq0 : goal.returns-then-n-eq0
+unfolding got_of
 returns-then-n-eq0 c = ap got_of (sym c.if-n-eq0.true)
 
 pub returns : goal.returns

@@ -1,8 +1,7 @@
--- The invariant: the room keeps its length. The measure is the number of turns that are left. Assumes nothing.
-use mathlib.Core.Path.{◌≡◌, sym, subst}
+-- A read that did not fail gave as many bytes as there is room for, or none at the end. Assumes nothing.
+use mathlib.Core.Path.{sym, subst}
 use Prim.Native.Nat.{ℕ, zero, suc, ◌≤◌}
 use native.Mathlib.Omega.{arith}
-use borrow.Author.Rules.{rules}
 use lib.ListN.{length}
 use Rattle.streams.specs.declared.Got.{Got}
 use Rattle.streams.specs.Inner.Got.{got_of, got_within}
@@ -13,10 +12,7 @@ unfolding got_of
 of-count zero room h = tt
 of-count (suc n) room h = (omega arith, h)
 
-pub returns-then-answer-ge0 : goal.returns-then-answer-ge0
-returns-then-answer-ge0 c = let size : c.count.result ≤ length
-    c.args.room.now =
-    omega (arith, c.count.ensures.in_bounds.0, c.read-answer.auto.buf, c.loop-turns.invariant) in
-    subst (λ (r : Got). got_within r
-    (length c.args.room.now))
-    (sym c.got_of.ensures) (of-count c.count.result _ size)
+pub returns-in-Ok : goal.returns-in-Ok
+returns-in-Ok g c = let size : c.in-Ok.n ≤ length c.args.room.now =
+    omega (arith, c.in-Ok.ensures.bound.0) in
+    subst (λ (r : Got). got_within r (length c.args.room.now)) (sym c.got_of.ensures) (of-count c.in-Ok.n _ size)

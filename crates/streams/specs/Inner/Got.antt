@@ -13,20 +13,20 @@ got_of (suc n) = Bytes (suc n)
 unfoldable pub got_bytes : Got → List ℕ → List ℕ
 got_bytes (Bytes n) room = take n room
 got_bytes End room = []
-got_bytes Failed room = []
+got_bytes (Failed e) room = []
 
 unfoldable pub got_some : Got → Bool
 got_some (Bytes n) = true
 got_some End = false
-got_some Failed = false
+got_some (Failed e) = false
 
 unfoldable pub got_failed : Got → Bool
 got_failed (Bytes n) = false
 got_failed End = false
-got_failed Failed = true
+got_failed (Failed e) = true
 
 -- bytes are some, and as many as there is room for
 abbrev pub got_within : Got → ℕ → Type 0
 got_within (Bytes n) room = (0 < n) × (n ≤ room)
 got_within End room = Unit {0}
-got_within Failed room = Unit {0}
+got_within (Failed e) room = Unit {0}

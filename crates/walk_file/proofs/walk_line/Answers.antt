@@ -1,5 +1,4 @@
 -- One way out for each answer of the walk, and one for a volume that is too long. Assumes nothing.
-use borrow.Author.Rules.{rules}
 use Rattle.tables.proofs.Put.{put_same}
 use Rattle.walk_file.proofs.Walk.{walk_long, walk_count, walk_refused}
 use Rattle.walk_file.proofs.walk_line.Goals as goal
