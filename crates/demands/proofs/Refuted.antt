@@ -75,7 +75,7 @@ u*v-v-first = ordered 2 0 (1 ∷ 0 ∷ []) (0 ∷ 0 ∷ 0 ∷ 1 ∷ [])
 one : Substitution
 one j = constant true
 
--- the particular solution archived as the general one: u = 0 for the condition 0 leaves u = 1 out (every-instance) ..
+-- the particular solution archived as the general one: u = 0 for the condition 0 leaves u = 1 out (every_instance) ..
 abbrev particular_archived : List ℕ
 particular_archived =
     1 ∷ 7 ∷ 1 ∷ 0
@@ -93,7 +93,7 @@ particular_refuted h =
     (no_givens []) one one_solves in
     true≢false (sym (instance.1 0 (omega arith) (λ l. true)))
 
--- .. and Löwenheim's answer, u = u, is no instance of it (each-other)
+-- .. and Löwenheim's answer, u = u, is no instance of it (each_other)
 pub particular_no_lowenheim : Demand3 the_zero particular_archived → ⊥
 unfolding has_none records first_records next until_end kind size fields widths value_of value_in from_low_first among answers_in has_monomial value_over put_in substitute monomial product odd count value within constant letter point_of present listed own_letters letter_at place bit sum restrict next_condition answer_from boole_answers particular lowenheim own_lowenheim default_order table_where_zero where_zero no_fact table tabulate
 particular_no_lowenheim h =
@@ -103,7 +103,7 @@ particular_no_lowenheim h =
 
 -- ---- answers that do not make the condition zero
 
--- the untouched unknown, u = u for u: its instance u = 1 does not make u zero (each-makes-zero)
+-- the untouched unknown, u = u for u: its instance u = 1 does not make u zero (each_makes_zero)
 abbrev unknowns_archived : List ℕ
 unknowns_archived =
     1 ∷ 7 ∷ 1 ∷ 0
@@ -125,7 +125,7 @@ pub unknowns_refuted : Demand3 u unknowns_archived → ⊥
 unfolding has_none records first_records next until_end kind size fields widths value_of value_in from_low_first among value_over put_in substitute monomial product odd count value within constant bit point_of present one table_where_zero where_zero no_fact table tabulate sum
 unknowns_refuted h = true≢false (h.each_makes_zero refl [] (no_givens []) one one_instance (λ l. true))
 
--- r and s exchanged: x*(r + s + 1) + r is 1 for u (makes-zero)
+-- r and s exchanged: x*(r + s + 1) + r is 1 for u (makes_zero)
 abbrev exchanged_archived : List ℕ
 exchanged_archived =
     1 ∷ 7 ∷ 1 ∷ 0
@@ -140,7 +140,7 @@ exchanged_refuted h = true≢false (h.makes_zero refl (λ l. true))
 
 -- ---- 'none' and solved
 
--- 'none' where there is a solution: u = 0 solves u (none-exactly, and none-on-list)
+-- 'none' where there is a solution: u = 0 solves u (none_exactly, and none_on_list)
 abbrev none_archived : List ℕ
 none_archived =
     1 ∷ 7 ∷ 1 ∷ 0
@@ -165,7 +165,7 @@ none_refuted_on_list h =
     let nothing_solves : (σ : Substitution) → ¬ Solves u [] σ = (h.none_on_list [] (no_givens [])).0 refl in
     nothing_solves (λ j. constant false) zero_solves
 
--- solved where there is no solution: nothing makes 1 zero, over any list (none-exactly)
+-- solved where there is no solution: nothing makes 1 zero, over any list (none_exactly)
 abbrev solved_archived : List ℕ
 solved_archived =
     1 ∷ 7 ∷ 0 ∷ 0
@@ -181,7 +181,7 @@ pub solved_refuted : Demand3 the_one solved_archived → ⊥
 unfolding has_none records first_records next until_end kind size fields widths value_of value_in from_low_first among table_where_zero where_zero no_fact table tabulate sum product odd count present constant
 solved_refuted h = true≢false (sym (h.none_exactly.1 one_unsolved))
 
--- 'none' only when the condition is the polynomial 1: a is not, and no answer makes it zero (none-on-list)
+-- 'none' only when the condition is the polynomial 1: a is not, and no answer makes it zero (none_on_list)
 abbrev not_one_archived : List ℕ
 not_one_archived =
     1 ∷ 7 ∷ 1 ∷ 1
@@ -199,7 +199,7 @@ not_one_refuted h = true≢false (sym ((h.none_on_list (own_letters 1 1) (own_ho
 
 -- ---- the state
 
--- a later state than the smallest: 1 for the condition 1, which is blocked in 0 (smallest-state)
+-- a later state than the smallest: 1 for the condition 1, which is blocked in 0 (smallest_state)
 abbrev later_archived : List ℕ
 later_archived =
     1 ∷ 7 ∷ 0 ∷ 1
@@ -214,7 +214,7 @@ later_refuted h =
     let smallest : SmallestBlocked 0 1 (polynomial one_beside_a) (record { 0 = 1 }) = h.smallest_state (record { 0 = 1 }) refl in
     smallest.smallest (record { 0 = 0 }) (omega arith) (λ choice l. refl)
 
--- a state that was not examined: 0 for a, which is blocked in 1 alone (smallest-state)
+-- a state that was not examined: 0 for a, which is blocked in 1 alone (smallest_state)
 abbrev open_archived : List ℕ
 open_archived =
     1 ∷ 7 ∷ 1 ∷ 1
@@ -231,7 +231,7 @@ open_refuted h =
 
 -- ---- to the monomial
 
--- Löwenheim's answers, u*v for both, in the place of Boole's for u+v: a general solution too, and not the one that is promised (holds-booles)
+-- Löwenheim's answers, u*v for both, in the place of Boole's for u+v: a general solution too, and not the one that is promised (holds_booles)
 abbrev lowenheim_archived : List ℕ
 lowenheim_archived =
     1 ∷ 7 ∷ 2 ∷ 0
@@ -246,7 +246,7 @@ pub lowenheim_refuted : Demand3 u+v lowenheim_archived → ⊥
 unfolding has_none records first_records next until_end kind size fields widths value_of value_in from_low_first among answers_in has_monomial boole_answers answer_from next_condition default_order listed substitute monomial product restrict sum constant letter odd count bit present table_where_zero where_zero no_fact table tabulate
 lowenheim_refuted h = true≢false (h.holds_booles refl 0 3 (omega arith) (omega arith))
 
--- one monomial less in an answer: u = u for u*v, whose answer is u + u*v (holds-booles)
+-- one monomial less in an answer: u = u for u*v, whose answer is u + u*v (holds_booles)
 abbrev less_archived : List ℕ
 less_archived =
     1 ∷ 7 ∷ 2 ∷ 0
@@ -263,7 +263,7 @@ less_refuted h = true≢false (sym (h.holds_booles refl 0 3 (omega arith) (omega
 same_tables : {x y : List ℕ} → solved x ≡ solved y → x ≡ y
 same_tables e = cc
 
--- and one more: v = v + u*v for u+v, whose answer is v (verdict-read)
+-- and one more: v = v + u*v for u+v, whose answer is v (verdict_read)
 abbrev more_archived : List ℕ
 more_archived =
     1 ∷ 7 ∷ 2 ∷ 0
@@ -279,7 +279,7 @@ pub more_refuted : Demand3 u+v more_archived → ⊥
 unfolding records first_records next until_end kind size fields widths value_of value_in from_low_first among held_verdict unless_none answers_in has_monomial answer_table tabulate solve boole_table solvable is_zero every_below remains boole_answers answer_from next_condition default_order listed substitute monomial product restrict sum constant letter odd count bit present table_where_zero where_zero no_fact table
 more_refuted h = true≢false (ap (λ (tables : List ℕ). present tables 7) (same_tables h.verdict_read))
 
--- U and G exchanged in the record of kind 1: reading u+v finds no answer tables (verdict-read)
+-- U and G exchanged in the record of kind 1: reading u+v finds no answer tables (verdict_read)
 abbrev counts_exchanged_archived : List ℕ
 counts_exchanged_archived =
     1 ∷ 7 ∷ 0 ∷ 2
@@ -294,7 +294,7 @@ pub counts_exchanged_refuted : Demand3 u+v counts_exchanged_archived → ⊥
 unfolding records first_records next until_end kind size fields widths value_of value_in from_low_first among held_verdict unless_none answers_in has_monomial answer_table tabulate solve boole_table solvable is_zero every_below remains boole_answers answer_from next_condition default_order listed substitute monomial product restrict sum constant letter odd count bit present table_where_zero where_zero no_fact table
 counts_exchanged_refuted h = true≢false (sym (ap (λ (tables : List ℕ). present tables 2) (same_tables h.verdict_read)))
 
--- a monomial of the condition left out, v of u+v, beside the right answers (condition-read)
+-- a monomial of the condition left out, v of u+v, beside the right answers (condition_read)
 abbrev condition_less_archived : List ℕ
 condition_less_archived =
     1 ∷ 7 ∷ 2 ∷ 0
@@ -308,7 +308,7 @@ pub condition_less_refuted : Demand3 u+v condition_less_archived → ⊥
 unfolding records first_records next until_end kind size fields widths value_of value_in from_low_first among held_condition condition_in has_monomial table tabulate present table_where_zero where_zero no_fact sum product odd count constant
 condition_less_refuted h = true≢false (sym (ap (λ (c : Condition). present c.table 2) h.condition_read))
 
--- and one more, u*v (condition-read)
+-- and one more, u*v (condition_read)
 abbrev condition_more_archived : List ℕ
 condition_more_archived =
     1 ∷ 7 ∷ 2 ∷ 0
@@ -326,7 +326,7 @@ condition_more_refuted h = true≢false (ap (λ (c : Condition). present c.table
 
 -- ---- the order
 
--- the order ignored: for u*v, v first, the answers of u first, u = u + u*v and v = v (holds-booles)
+-- the order ignored: for u*v, v first, the answers of u first, u = u + u*v and v = v (holds_booles)
 abbrev order_ignored_archived : List ℕ
 order_ignored_archived =
     1 ∷ 7 ∷ 2 ∷ 0
@@ -342,7 +342,7 @@ pub order_ignored_refuted : Demand3 u*v-v-first order_ignored_archived → ⊥
 unfolding has_none records first_records next until_end kind size fields widths value_of value_in from_low_first among answers_in has_monomial boole_answers answer_from next_condition listed substitute monomial product restrict sum constant letter odd count bit present table_where_zero where_zero no_fact table tabulate
 order_ignored_refuted h = true≢false (h.holds_booles refl 0 3 (omega arith) (omega arith))
 
--- kind 6 left out: the answers of v first, u = u and v = v + u*v, as if u had gone first (condition-read)
+-- kind 6 left out: the answers of v first, u = u and v = v + u*v, as if u had gone first (condition_read)
 abbrev order_left_out_archived : List ℕ
 order_left_out_archived =
     1 ∷ 7 ∷ 2 ∷ 0
@@ -383,7 +383,7 @@ default_named_refuted route c behind a e =
 abbrev exclusive : Condition
 exclusive = under_fact 1 2 (0 ∷ []) (0 ∷ 0 ∷ 0 ∷ 0 ∷ 0 ∷ 0 ∷ 1 ∷ 0 ∷ []) (0 ∷ 0 ∷ 0 ∷ 1 ∷ 1 ∷ 1 ∷ 0 ∷ 0 ∷ [])
 
--- the fact ignored, or f*g solved: 'none' at state 3, which does not count (smallest-state)
+-- the fact ignored, or f*g solved: 'none' at state 3, which does not count (smallest_state)
 abbrev fact_ignored_archived : List ℕ
 fact_ignored_archived =
     1 ∷ 7 ∷ 1 ∷ 2
@@ -399,12 +399,12 @@ pub fact_ignored_refuted : Demand3 exclusive fact_ignored_archived → ⊥
 unfolding records first_records next until_end kind size fields widths value_of value_in from_low_first among says unless_none value within point table_where_zero where_zero table tabulate sum product odd count present constant
 fact_ignored_refuted h = true≢false (sym ((h.smallest_state _ refl).blocked (record { 0 = 0 }) (omega arith)))
 
--- the same in document 02's own words: g is 1 there (smallest-state)
+-- the same in document 02's own words: g is 1 there (smallest_state)
 pub uncounted_refuted : Demand3Where exclusive fact_ignored_archived → ⊥
 unfolding records first_records next until_end kind size fields widths value_of value_in from_low_first among says unless_none value_in_state value within point odd count present
 uncounted_refuted h = true≢false (h.smallest_state _ refl).counts
 
--- f*(1 + g) in kind 2: one monomial more, a*b (condition-read)
+-- f*(1 + g) in kind 2: one monomial more, a*b (condition_read)
 abbrev solved_one_archived : List ℕ
 solved_one_archived =
     1 ∷ 7 ∷ 1 ∷ 2
@@ -425,7 +425,7 @@ pub solved_one_refuted : Demand3 exclusive solved_one_archived → ⊥
 unfolding records first_records next until_end kind size fields widths value_of value_in from_low_first among held_condition condition_in has_monomial table tabulate present
 solved_one_refuted h = true≢false (ap (λ (c : Condition). present c.table 6) h.condition_read)
 
--- the fact left out of the entry: the answers are those of another condition (condition-read)
+-- the fact left out of the entry: the answers are those of another condition (condition_read)
 abbrev fact_left_out_archived : List ℕ
 fact_left_out_archived =
     1 ∷ 7 ∷ 1 ∷ 2
@@ -448,7 +448,7 @@ fact_left_out_refuted h = true≢false (sym (ap (λ (c : Condition). present c.f
 abbrev no_choice : Condition
 no_choice = under_fact 1 1 (0 ∷ []) (1 ∷ 0 ∷ 1 ∷ 0 ∷ []) (1 ∷ 0 ∷ 0 ∷ 0 ∷ [])
 
--- the smallest state in which f is blocked, where g is 1 (smallest-state)
+-- the smallest state in which f is blocked, where g is 1 (smallest_state)
 abbrev uncounted_archived : List ℕ
 uncounted_archived =
     1 ∷ 7 ∷ 1 ∷ 1

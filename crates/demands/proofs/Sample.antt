@@ -33,9 +33,9 @@ pub first_entry_lem : entry 7 (condition_of 2 0 (text_table 2 0 first_text)) ≡
 unfolding first_text first_entry order_records fact_records table_where_zero where_zero no_fact order_bytes is_default same_bytes text_table table tabulate normal_form tree_of symbols symbol is_unknown is_given is_single reads read_with and_then entry entry_records condition_records answer_records verdict_records bytes fields body_of low_first monomials order groups below keep letters solve boole_table solvable is_zero every_below remains next_condition product restrict odd count present held bit default_order listed answer_table boole_answers answer_from sum letter constant substitute monomial smallest_blocked smallest_below blocked point value within
 first_entry_lem = refl
 
-pub second-entry : entry 8 (condition_of 1 1 (text_table 1 1 second_text)) ≡ second_entry
+pub second_entry_lem : entry 8 (condition_of 1 1 (text_table 1 1 second_text)) ≡ second_entry
 unfolding second_text second_entry order_records fact_records table_where_zero where_zero no_fact order_bytes is_default same_bytes text_table table tabulate normal_form tree_of symbols symbol is_unknown is_given is_single reads read_with and_then entry entry_records condition_records answer_records verdict_records bytes fields body_of low_first monomials order groups below keep letters solve boole_table solvable is_zero every_below remains next_condition product restrict odd count present held bit default_order listed answer_table boole_answers answer_from sum letter constant substitute monomial smallest_blocked smallest_below blocked point value within
-second-entry = refl
+second_entry_lem = refl
 
 wide_table : text_table 1 8 wide_text ≡ one_given 1 8 7
 unfolding wide_text symbols symbol is_unknown is_given is_single normal_form
@@ -45,9 +45,9 @@ pub wide_entry_lem : entry 9 (condition_of 1 8 (text_table 1 8 wide_text)) ≡ w
 unfolding wide_entry bytes fields body_of low_first
 wide_entry_lem = ap (λ (t : List ℕ). entry 9 (condition_of 1 8 t)) wide_table ∙ given_entry 1 8 7 (omega arith) 9
 
-pub ordered-entry : entry 10 (ordered 2 0 (take 2 v_first) (text_table 2 0 ordered_text)) ≡ ordered_entry
+pub ordered_entry_lem : entry 10 (ordered 2 0 (take 2 v_first) (text_table 2 0 ordered_text)) ≡ ordered_entry
 unfolding ordered_text v_first ordered_entry order_records fact_records table_where_zero where_zero no_fact order_bytes is_default same_bytes text_table table tabulate normal_form tree_of symbols symbol is_unknown is_given is_single reads read_with and_then entry entry_records condition_records answer_records verdict_records bytes fields body_of low_first monomials order groups below keep letters solve boole_table solvable is_zero every_below remains next_condition product restrict odd count present held bit default_order listed answer_table boole_answers answer_from sum letter constant substitute monomial smallest_blocked smallest_below blocked point value within
-ordered-entry = refl
+ordered_entry_lem = refl
 
 -- 'With g = a*b that row becomes u = b + u + a*b + a*u + b*u': from the two texts to the bytes, in which kind 2 holds f
 pub exclusive_entry_lem : entry 11 (under_fact 1 2 (default_order 1) (text_table 1 2 exclusive_fact) (text_table 1 2 exclusive_text)) ≡ exclusive_entry

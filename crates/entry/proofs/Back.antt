@@ -4,7 +4,7 @@
 use mathlib.Core.Path.{◌≡◌, refl, sym, ap, ◌∙◌}
 use mathlib.Core.Bool.{Bool, true, false, ◌&&◌, not, cond}
 use mathlib.Core.List.{List, [], ◌∷◌, ◌++◌, append_assoc, map}
-use Prim.Native.Nat.{ℕ, zero, suc, ◌+◌, ◌≤◌}
+use Prim.Native.Nat.{ℕ, zero, suc, ◌≤◌}
 use native.Mathlib.Omega.{arith}
 use lib.Dec.{eqb, ltb}
 use lib.ListN.{length, drop, length-append}
@@ -187,6 +187,6 @@ module _ (route : ℕ) (c : Condition) (v : Verdict (List ℕ)) where
   pub written_whole : all_whole (entry_records route c v) ≡ true
   written_whole = ap all_whole entry_body ∙ all_whole_lem body route body_inner
 
-pub entry-records : (route : ℕ) (c : Condition) (bs : List ℕ) → records (entry route c ++ bs) ≡ archived_records route c
+pub records-entry : (route : ℕ) (c : Condition) (bs : List ℕ) → records (entry route c ++ bs) ≡ archived_records route c
 unfolding entry
-entry-records route c bs = written-records route c _ bs
+records-entry route c bs = written-records route c _ bs

@@ -349,7 +349,7 @@ module _ {A : Type 0} (a : A) where
       → state.0 < 2 ^ G
   unfolding unless_none among fields
   state_bounds U G q s [] f e = clash e
-  state_bounds U G q s (r ∷ rs) f e = go (bool_cases (is_none r)) (state_bounds U G _ s rs (fits_rest U G q r rs f))
+  state_bounds U G q s (r ∷ rs) f e = go (bool_cases (is_none r)) (state_bounds U G (place_of r) s rs (fits_rest U G q r rs f))
     where
       go : (is_none r ≡ true) ⊎ (is_none r ≡ false) → (unless_none a rs ≡ none s → s.0 < 2 ^ G) → s.0 < 2 ^ G
       go (inl n) ih =

@@ -20,7 +20,7 @@ use Rattle.solution.specs.Elimination.{solved, solve}
 use Rattle.entry.specs.Record.{Record, kind, is_answer, answer_record, condition_record, fact_record, order_record, is_default}
 use Rattle.entry.specs.Entry.{order_records, fact_records, condition_records, answer_records, verdict_records, entry_records, entry}
 use Rattle.entry.specs.Held.{records, answer_count}
-use Rattle.entry.proofs.Back.{entry-records}
+use Rattle.entry.proofs.Back.{records-entry}
 
 -- the number of monomials is the length of their list in written order
 pub length-written : (n : ℕ) (f : Polynomial) → monomial_count n f ≡ length (monomials n f)
@@ -88,4 +88,4 @@ module _ (route : ℕ) (c : Condition) (a : List ℕ) where
   pub entry_total : (behind : List ℕ) → solve c ≡ solved a
       → answer_count (records (entry route c ++ behind)) ≡ total_count c.U (width c) (held (width c) a)
   entry_total behind e =
-      ap answer_count (entry-records route c behind ∙ ap (entry_records route c) e) ∙ solved_total
+      ap answer_count (records-entry route c behind ∙ ap (entry_records route c) e) ∙ solved_total

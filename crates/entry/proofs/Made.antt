@@ -2,13 +2,13 @@
 -- Each law goes by induction on the fields of a kind, so that it holds of any kind that `layout` has.
 -- Assumes nothing.
 use mathlib.Core.Path.{◌≡◌, refl, sym, ap, ap₂, ◌∙◌}
-use mathlib.Core.Bool.{Bool, true, false, ◌&&◌, not, cond, and-true}
+use mathlib.Core.Bool.{Bool, true, false, ◌&&◌, cond, and-true}
 use mathlib.Core.List.{List, [], ◌∷◌, ◌++◌}
 use mathlib.Core.Logic.{◌⊎◌, inl, inr}
 use Prim.Native.Nat.{ℕ, zero, suc, ◌+◌, ◌*◌, ◌/◌, ◌%◌, ◌≤◌, ◌<◌}
 use native.Mathlib.Omega.{arith}
 use lib.Dec.{eqb, ltb}
-use lib.ListN.{length, get_or, take, drop, length-append, length-drop, take-append-drop, get_or-eq_default}
+use lib.ListN.{length, take, drop, length-append, length-drop, take-append-drop, get_or-eq_default}
 use lib.Seq.{take_at, drop_at, get_or-drop, length-take-le}
 use borrow.Author.Tests.{ltb-true, ltb-false, eqb-true}
 use Rattle.ring.specs.Polynomial.{every_below}
@@ -16,7 +16,7 @@ use Rattle.ring.proofs.Bool.{and_left, and_right, bool_cases, never}
 use Rattle.ring.proofs.Every.{every_all}
 use Rattle.entry.specs.Record.{Record, Field, route_field, unknowns_field, givens_field, unknown_field, mask_field, state_field, order_field}
 use Rattle.entry.specs.Record.{layout, fields, width, widths, size_with, size, kind, low_first, from_low_first, body_of, record_of, place}
-use Rattle.entry.specs.Record.{same_field, among, value_in, value_of, field_fits, body_fits, is_order, is_default, is_needed, in_bounds, AreBytes}
+use Rattle.entry.specs.Record.{same_field, among, value_in, value_of, field_fits, body_fits, is_order, is_needed, in_bounds, AreBytes}
 
 -- ---- numbers in bytes
 length_low : (w v : ℕ) → length (low_first w v) ≡ w

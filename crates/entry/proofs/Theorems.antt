@@ -6,7 +6,7 @@ use mathlib.Core.Path.{◌≡◌, refl, sym, ap, ◌∙◌}
 use mathlib.Core.Bool.{Bool, true, false, cond}
 use mathlib.Core.List.{List, [], ◌++◌}
 use mathlib.Core.Logic.{◌↔◌}
-use Prim.Native.Nat.{ℕ, ◌+◌, ◌≤◌}
+use Prim.Native.Nat.{ℕ, ◌≤◌}
 use lib.ListN.{length, take}
 use borrow.Author.Tests.{eqb-true, eq-eqb}
 use Rattle.ring.specs.Table.{present}
@@ -26,7 +26,7 @@ use Rattle.entry.specs.Entry.{entry_records, archived_records, entry, Archivable
 use Rattle.entry.specs.Held.{records, second, route_of, unknowns_of, givens_of, order_in, answers_in, says, held_condition, held_verdict}
 use Rattle.entry.specs.Questions.{same_verdict, answers_hold}
 use Rattle.entry.proofs.Records.{records_made}
-use Rattle.entry.proofs.Back.{entry-records}
+use Rattle.entry.proofs.Back.{records-entry}
 use Rattle.entry.proofs.Verdicts.{solve_fits}
 use Rattle.entry.proofs.EntryPasses.{entry-has_end, entry_kinds, entry_numbers}
 use Rattle.entry.proofs.Held.{entry_route, entry_unknowns, entry_givens, verdict_back, answers_held, solved_unless}
@@ -42,7 +42,7 @@ use Rattle.entry.proofs.Passes.{Passes}
 pub entry_right : (route : ℕ) (c : Condition) (behind : List ℕ) → IsOrder c.U c.order
     → RightVerdict c (says (records (entry route c ++ behind)))
 unfolding says solve boole_table AreBooles
-entry_right route c behind is = rw (entry-records route c behind) (go (solvable (width c) (polynomial c) c.order) refl)
+entry_right route c behind is = rw (records-entry route c behind) (go (solvable (width c) (polynomial c) c.order) refl)
   where
     go : (b : Bool) → solvable (width c) (polynomial c) c.order ≡ b
         → RightVerdict c (says
@@ -104,7 +104,7 @@ written route c a =
 -- demand 2: a written entry, with any bytes behind it, reads back: the route, U, G, the order, the fact, the condition, solved or 'none'
 -- and the state, the answers, and the length used
 pub reads_back : (route : ℕ) (c : Condition) (behind : List ℕ) → Archivable route c → ReadsBack route c (records (entry route c ++ behind))
-reads_back route c behind a = rw (entry-records route c behind) (written route c a)
+reads_back route c behind a = rw (records-entry route c behind) (written route c a)
 
 -- the entry without a kind 6 is the one for the order 0, 1, 2 and so on
 pub no_order_exactly : (route : ℕ) (c : Condition) → Archivable route c

@@ -14,7 +14,7 @@ use Rattle.tables.specs.declared.Question.TheVariants.{Letters, TextLength, Room
 use Rattle.tables.specs.Questions.{Asked, asks, first_no, letters_fit, has_room, room_questions, bit_questions, buffer_questions}
 use Rattle.tables.specs.Inner.Asking.{also}
 use Rattle.tables.specs.Answered.{answered, accepted, refused, after, ◌into◌}
-use Rattle.tables.proofs.FirstNo.{number_some, yes_to, no_to, yes_counts, also_none, first_counts, then_further}
+use Rattle.tables.proofs.FirstNo.{yes_to, no_to, yes_counts, also_none, first_counts, then_further}
 use Rattle.tables.proofs.Answered.{gives_nothing, after_refused, call_stops, call_refused, call_done}
 use Rattle.tables.proofs.Questions.{letters_small, unknowns_small, room_enough}
 use Rattle.grammar.specs.Symbols.{all_signs, all_declared}

@@ -5,13 +5,13 @@ use mathlib.Core.Bool.{Bool, true, false, ◌&&◌, ◌||◌, cond, false≢true
 use mathlib.Core.List.{List, [], ◌∷◌}
 use Prim.Native.Nat.{ℕ, suc, ◌+◌, ◌-◌, ◌≤◌, ◌<◌}
 use native.Mathlib.Omega.{arith}
-use borrow.Author.Tests.{eq-eqb, ne_eqb, eqb-true, le-leb, leb-true, lt-ltb, le-ltb, ltb-true}
+use borrow.Author.Tests.{ne_eqb, le-leb, leb-true, lt-ltb, le-ltb, ltb-true}
 use lib.Dec.{eqb, leb, ltb}
 use lib.ListN.{get_or}
 use Rattle.ring.specs.Polynomial.{every_below}
-use Rattle.ring.proofs.Bool.{and_left, and_right}
+use Rattle.ring.proofs.Bool.{and_right}
 use Rattle.ring.proofs.Every.{every_all}
-use Rattle.grammar.specs.Symbols.{Symbol, unknown_letter, given_letter, single, foreign, plus_sign, or_sign, space}
+use Rattle.grammar.specs.Symbols.{unknown_letter, given_letter, single, foreign, plus_sign, or_sign, space}
 use Rattle.grammar.specs.Symbols.{is_unknown, is_given, is_single, symbol, symbols}
 use Rattle.grammar.specs.Reader.{is, joins_sum}
 use Rattle.parser.specs.Inner.Codes.{code, meant, codes, meanings}

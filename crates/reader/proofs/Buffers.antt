@@ -9,7 +9,7 @@ use native.Mathlib.Omega.{arith}
 use lib.ListN.{length, take, drop, length-append, take-append-drop, drop_of_length-le}
 use lib.Seq.{length-take-le, take-append_seam, drop-append_seam}
 use Rattle.ring.specs.declared.State.{State}
-use Rattle.ring.specs.Table.{table, answer_table}
+use Rattle.ring.specs.Table.{answer_table}
 use Rattle.ring.proofs.Table.{length-tabulate, length-table, length-answer_table}
 use Rattle.tables.specs.declared.Question.TheVariants.{Room}
 use Rattle.tables.specs.Questions.{Asked, asks, first_no, has_room, writes, room_questions, bit_questions, buffer_questions}

@@ -33,8 +33,9 @@ join_cong n f g h k a b =
 
 -- ---- lists
 -- the join of a list is 1 where one of its members is ..
-pub one_joined : {hs : List Polynomial} {h : Polynomial} (n p : ℕ) → Member h hs → value n h p ≡ true → value n (joined n hs) p ≡ true
+pub one_joined : {h : Polynomial} {hs : List Polynomial} (n p : ℕ) → Member h hs → value n h p ≡ true → value n (joined n hs) p ≡ true
 unfolding joined
+one_joined {hs = []} n p m e = elim m [ ]
 one_joined {hs = h ∷ hs} n p here e =
     value-join n (joined n hs) h p ∙ ap (λ (x : Bool). value n (joined n hs) p || x) e ∙ or-true (value n (joined n hs) p)
 one_joined {hs = k ∷ hs} n p (behind m) e = value-join n (joined n hs) k p ∙ ap (λ (x : Bool). x || value n k p) (one_joined n p m e)

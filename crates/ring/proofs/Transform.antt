@@ -8,7 +8,7 @@ use native.Mathlib.Nat.{mod-lt}
 use native.Mathlib.Omega.{arith}
 use lib.Arith.{mod-mul}
 use lib.Pow.{pow_pos, split, high, low as low_of}
-use borrow.Author.Tests.{eqb-true, eqb-false, ne_eqb}
+use borrow.Author.Tests.{eqb-true, eqb-false}
 use Rattle.ring.specs.Letters.{bit}
 use Rattle.ring.specs.Polynomial.{◌⊕◌, odd, within, value}
 use Rattle.ring.proofs.Bool.{and_left_comm, xor_false, xor_comm}

@@ -128,5 +128,6 @@ member_map f (behind m) = behind (member_map f m)
 -- and there are no others: what holds of f of every member holds of all of them
 pub each_mapped : {A B : Type 0} (f : A → B) (xs : List A) (P : B → Type 0) → ((a : A) → Member a xs → P (f a))
     → (b : B) → Member b (map f xs) → P b
+each_mapped f [] P h b m = elim m [ ]
 each_mapped f (x ∷ xs) P h b here = h x here
 each_mapped f (x ∷ xs) P h b (behind m) = each_mapped f xs P (λ a k. h a (behind k)) b m

@@ -35,8 +35,9 @@ module _ (U G : ℕ) (L : List Letter) (holds : HoldsGivens G L) (σ : Substitut
     λ z v. either_value f h v ∙ ap₂ ◌||◌ (z.0 v) (z.1 v),
   )
 
-  each_zero : {hs : List Polynomial} {h : Polynomial} → MakesZero U G (joined (U + G) hs) L σ → Member h hs → MakesZero U G h L σ
+  each_zero : {h : Polynomial} {hs : List Polynomial} → MakesZero U G (joined (U + G) hs) L σ → Member h hs → MakesZero U G h L σ
   unfolding joined
+  each_zero {hs = []} z m = elim m [ ]
   each_zero {hs = h ∷ hs} z here = ((zero_join (joined (U + G) hs) h).0 z).1
   each_zero {hs = k ∷ hs} z (behind m) = each_zero ((zero_join (joined (U + G) hs) k).0 z).0 m
 

@@ -136,7 +136,9 @@ pub call-also : (questions : List Asked) (values answer lent now : List ℕ) (bu
     → answered gives (now ∷ rest) ≡ call questions values (answer into lent ∷ buffers)
 unfolding call after
 call-also questions values answer lent now buffers z en e =
-    ap (λ (x : Answered Reply). answered x.gives (now ∷ x.lent)) e ∙ rw (z, en)
+    ap (λ (x : Answered Reply). answered x.gives (now ∷ x.lent)) e
+    ∙ ap (λ (x : List ℕ). answered (reply questions values) (x ∷ (call questions values buffers).lent))
+    (en ∙ sym (ap (λ (q : ℕ). after q answer lent) z))
 
 -- ---- a call's contract is taken apart
 module _ (questions : List Asked) (values : List ℕ) where

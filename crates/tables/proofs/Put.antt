@@ -7,7 +7,7 @@ use native.Mathlib.Nat.{add-zero, suc-add, add-suc, add_assoc}
 use native.Mathlib.Numerals.{add-one}
 use native.Mathlib.Omega.{arith}
 use lib.ListN.{length, get_or, set, take, length-append, length-set}
-use lib.Seq.{sets, length-sets, sets-eq, take-suc, take_all, take-append_seam}
+use lib.Seq.{sets, length-sets, take-suc, take_all}
 use Rattle.tables.specs.Inner.Put.{Put}
 
 -- one part, and another right behind it

@@ -2,7 +2,6 @@
 use mathlib.Core.Path.{◌≡◌, sym, ap, ◌∙◌}
 use mathlib.Core.List.{List}
 use Prim.Native.Nat.{ℕ}
-use borrow.Author.Rules.{rules}
 use Rattle.tables.proofs.Questions.{failed, passed}
 use Rattle.entry.specs.Held.{records}
 use Rattle.records.specs.declared.Survey.{Survey}

@@ -1,6 +1,5 @@
 -- Solved answers are compared by their values; a fresh 'none' is not the same. Assumes nothing.
 use native.Mathlib.Omega.{arith}
-use borrow.Author.Rules.{rules}
 use Rattle.audit.proofs.Same.{against_solved, against_none}
 use Rattle.audit.proofs.same_answers.Goals as goal
 

@@ -1,5 +1,4 @@
 -- A fresh answer is not the same as 'none'; two states are compared. Assumes nothing.
-use borrow.Author.Rules.{rules}
 use Rattle.audit.proofs.same_state.Goals as goal
 
 pub returns-in-Solved : goal.returns-in-Solved

@@ -1,10 +1,6 @@
 -- The invariant: the words are the same exactly if they are from place i on. The measure is what is left of them.
 -- Assumes nothing.
-use mathlib.Core.Path.{◌≡◌, refl}
-use Prim.Native.Nat.{◌-◌}
-use lib.ListN.{length, drop}
-use borrow.Author.Rules.{rules}
-use Rattle.entry.specs.Record.{same_bytes}
+use mathlib.Core.Path.{refl}
 use Rattle.entry.proofs.SameBytes.{bytes_end, bytes_differ, bytes_next}
 use Rattle.audit.proofs.same_words.Goals as goal
 

@@ -1,11 +1,9 @@
 -- The invariant: the words are the same exactly if they are from place i on. The measure is what is left of them.
 -- Assumes nothing.
-use mathlib.Core.Path.{◌≡◌, refl}
+use mathlib.Core.Path.{◌≡◌}
 use Prim.Native.Nat.{◌-◌}
 use lib.ListN.{length, drop}
-use borrow.Author.Rules.{rules}
 use Rattle.entry.specs.Record.{same_bytes}
-use Rattle.entry.proofs.SameBytes.{bytes_end, bytes_differ, bytes_next}
 use Rattle.audit.proofs.same_words.Given as goal
 
 abbrev pub invariant-loop-i : goal.invariant-loop-i

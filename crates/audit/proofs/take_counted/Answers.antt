@@ -1,7 +1,6 @@
 -- Multiplied by the values of 1 + g; without a fact every point counts. 22 and 23 have been answered yes. Assumes nothing.
 use mathlib.Core.Path.{◌∙◌}
 use native.Mathlib.Omega.{arith}
-use borrow.Author.Rules.{rules}
 use Rattle.facts.proofs.Kept.{values_where}
 use Rattle.records.proofs.Facts.{passed_fits}
 use Rattle.audit.proofs.Same.{all_count}

@@ -1,13 +1,10 @@
 -- `elimination::arrange` meets its contract: the slots of the unknowns before x are copied. Assumes nothing.
-use mathlib.Core.Path.{◌≡◌, sym, ◌∙◌}
-use Prim.Native.Nat.{◌≤◌, ◌^◌, ◌-◌, ◌*◌}
+use mathlib.Core.Path.{sym, ◌∙◌}
 use native.Mathlib.Omega.{arith}
 use native.Mathlib.Nat.{zero-mul}
 use borrow.Author.Rules.{rules}
 use borrow.Author.Tests.{lt-ltb}
-use lib.ListN.{length}
-use Rattle.tables.proofs.Filled.{filled, filled-start}
-use Rattle.elimination.specs.Inner.Stages.{slot_word}
+use Rattle.tables.proofs.Filled.{filled-start}
 use Rattle.words.proofs.Parts.{parts_more, parts_end, part_fits, part_length_lem}
 use Rattle.elimination.proofs.Slots.{slot_copied}
 use Rattle.elimination.proofs.arrange.Goals as goal

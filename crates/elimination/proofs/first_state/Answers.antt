@@ -1,7 +1,6 @@
 -- `elimination::first_state` meets its contract: the points of the states before that of the first point have the value 0.
 -- Assumes nothing.
 use mathlib.Core.Path.{refl}
-use borrow.Author.Rules.{rules}
 use Rattle.words.proofs.Letters.{count_small}
 use Rattle.elimination.proofs.States.{found_state, no_state}
 use Rattle.elimination.proofs.first_state.Goals as goal

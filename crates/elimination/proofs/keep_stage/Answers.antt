@@ -1,5 +1,4 @@
 -- `elimination::keep_stage` meets its contract. Assumes nothing.
-use borrow.Author.Rules.{rules}
 use Rattle.elimination.proofs.Stages.{both_copied}
 use Rattle.elimination.proofs.keep_stage.Goals as goal
 

@@ -1,14 +1,12 @@
 -- `elimination::put_placed` meets its contract. The invariant: the answers of the letters from place i on are put in. Assumes nothing.
-use mathlib.Core.Path.{◌≡◌, refl}
+use mathlib.Core.Path.{refl}
 use mathlib.Core.List.{List}
 use native.Mathlib.Omega.{arith}
 use borrow.Author.Rules.{rules}
 use Prim.Native.Nat.{ℕ, ◌-◌, ◌≤◌, ◌<◌}
-use lib.ListN.{length, get_or, drop}
-use Rattle.ring.specs.Letters.{bit}
+use lib.ListN.{length, get_or}
 use Rattle.ring.proofs.Lists.{has_place}
-use Rattle.words.specs.Inner.Words.{word_of}
-use Rattle.elimination.specs.Inner.Stages.{InLetters, put_placed}
+use Rattle.elimination.specs.Inner.Stages.{InLetters}
 use Rattle.elimination.proofs.OneWord.{put_start, put_next, put_end}
 use Rattle.elimination.proofs.put_placed.Goals as goal
 

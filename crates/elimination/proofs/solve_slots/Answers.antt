@@ -2,7 +2,6 @@
 use mathlib.Core.Path.{ap, ◌∙◌}
 use Prim.Native.Nat.{ℕ, ◌^◌}
 use native.Mathlib.Omega.{arith}
-use borrow.Author.Rules.{rules}
 use Rattle.words.proofs.Words.{size_words}
 use Rattle.elimination.proofs.States.{order-letters, same_power, same_slots, own_stages, state_remains, slots_answered}
 use Rattle.elimination.proofs.States.{remains_ignores}

@@ -1,7 +1,6 @@
 -- `elimination::solve_with` meets its contract. Assumes nothing.
 use mathlib.Core.Path.{ap, ◌∙◌}
 use native.Mathlib.Omega.{arith}
-use borrow.Author.Rules.{rules}
 use lib.ListN.{length}
 use Rattle.elimination.proofs.Stages.{length_slots}
 use Rattle.elimination.proofs.States.{same_slots, answers_arranged}

@@ -1,7 +1,6 @@
 -- `elimination::solve_word` meets its contract. Assumes nothing.
 use mathlib.Core.Path.{refl}
 use native.Mathlib.Omega.{arith}
-use borrow.Author.Rules.{rules}
 use Rattle.words.proofs.Words.{size_words}
 use Rattle.elimination.proofs.States.{state_remains, remains_ignores}
 use Rattle.elimination.proofs.OneWord.{one, a_word_each, in_order, remains_words, answered_words_lem}

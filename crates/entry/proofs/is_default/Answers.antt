@@ -2,7 +2,6 @@
 use mathlib.Core.Path.{ap, ◌∙◌}
 use mathlib.Core.List.{List}
 use Prim.Native.Nat.{ℕ}
-use borrow.Author.Rules.{rules}
 use Rattle.entry.specs.Record.{same_bytes, is_default}
 use Rattle.entry.proofs.is_default.Goals as goal
 

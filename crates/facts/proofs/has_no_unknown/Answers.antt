@@ -2,18 +2,16 @@
 -- is present.
 -- Assumes nothing.
 use mathlib.Core.Path.{◌≡◌, refl, ap, ◌∙◌}
-use mathlib.Core.Logic.{⊎_elim}
-use Prim.Native.Nat.{ℕ, ◌≤◌, ◌-◌, ◌^◌}
+use Prim.Native.Nat.{ℕ, ◌^◌}
 use native.Mathlib.Omega.{arith}
 use borrow.Author.Rules.{rules}
-use lib.Dec.{eqb}
-use lib.ListN.{length}
 use lib.Pow.{pow_pos}
 use Rattle.ring.specs.Polynomial.{every_below}
 use Rattle.ring.specs.Table.{present}
 use Rattle.solution.specs.Fact.{has_no_unknown}
 use Rattle.facts.proofs.Unions.{union_more, union_skip, monomial_fits, with_unknown, without_unknown}
 use Rattle.facts.proofs.has_no_unknown.Goals as goal
+use Rattle.facts.proofs.has_no_unknown.Goals.{then-m-unknowns-ne0, else-m-unknowns-ne0}
 
 pub pow2-unknowns-requires : goal.pow2-unknowns-requires
 pow2-unknowns-requires c = omega arith
@@ -30,11 +28,14 @@ loop-m-preserved c =
     let fact = c.args.fact.now in
     let u = c.args.u in (
       search rules,
-      ⊎_elim
-          (λ w. rw w.2 (union_more fact (monomial_fits u (present fact)) c.loop-m.union _ c.loop-m.invariant.1 c.requires.1
-          (with_unknown u _ _ c.pow2-unknowns.ensures (present fact) w.0.taken)))
-          (λ w. rw w.1 (union_skip fact (monomial_fits u (present fact)) c.loop-m.union _ c.loop-m.invariant.1
-          (without_unknown u _ _ c.pow2-unknowns.ensures (present fact) w.0.left))) c.if-m-unknowns-ne0.branch,
+      elim c.if-m-unknowns-ne0.branch [
+        | then-m-unknowns-ne0 w ↦
+            rw w.union-is (union_more fact (monomial_fits u (present fact)) c.loop-m.union _ c.loop-m.invariant.1 c.requires.1
+            (with_unknown u _ _ c.pow2-unknowns.ensures (present fact) w.if-m-unknowns-ne0.true))
+        | else-m-unknowns-ne0 w ↦
+            rw w.union-is (union_skip fact (monomial_fits u (present fact)) c.loop-m.union _ c.loop-m.invariant.1
+            (without_unknown u _ _ c.pow2-unknowns.ensures (present fact) w.if-m-unknowns-ne0.false))
+      ],
     )
 
 pub returns : goal.returns

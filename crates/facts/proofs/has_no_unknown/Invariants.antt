@@ -1,18 +1,13 @@
 -- `facts::has_no_unknown` meets its contract. The loop's invariant: the union so far is 0 exactly if no monomial so far that has an unknown
 -- is present.
 -- Assumes nothing.
-use mathlib.Core.Path.{◌≡◌, refl, ap, ◌∙◌}
-use mathlib.Core.Logic.{⊎_elim}
-use Prim.Native.Nat.{ℕ, ◌≤◌, ◌-◌, ◌^◌}
-use native.Mathlib.Omega.{arith}
-use borrow.Author.Rules.{rules}
+use mathlib.Core.Path.{◌≡◌}
+use Prim.Native.Nat.{◌≤◌, ◌-◌}
 use lib.Dec.{eqb}
 use lib.ListN.{length}
-use lib.Pow.{pow_pos}
 use Rattle.ring.specs.Polynomial.{every_below}
 use Rattle.ring.specs.Table.{present}
-use Rattle.solution.specs.Fact.{has_no_unknown}
-use Rattle.facts.proofs.Unions.{union_more, union_skip, monomial_fits, with_unknown, without_unknown}
+use Rattle.facts.proofs.Unions.{monomial_fits}
 use Rattle.facts.proofs.has_no_unknown.Given as goal
 
 abbrev pub invariant-loop-m : goal.invariant-loop-m

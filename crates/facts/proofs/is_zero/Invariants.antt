@@ -1,16 +1,12 @@
 -- `facts::is_zero` meets its contract. The loop's invariant: the union so far is 0 exactly if no monomial so far is present.
 -- Assumes nothing.
-use mathlib.Core.Path.{◌≡◌, refl, ap, ◌∙◌}
+use mathlib.Core.Path.{◌≡◌}
 use mathlib.Core.Bool.{not}
-use Prim.Native.Nat.{ℕ, ◌≤◌, ◌-◌, ◌^◌}
-use native.Mathlib.Omega.{arith}
-use borrow.Author.Rules.{rules}
+use Prim.Native.Nat.{◌≤◌, ◌-◌}
 use lib.Dec.{eqb}
 use lib.ListN.{length}
 use Rattle.ring.specs.Polynomial.{every_below}
 use Rattle.ring.specs.Table.{present}
-use Rattle.solution.specs.Elimination.{is_zero}
-use Rattle.facts.proofs.Unions.{union_more}
 use Rattle.facts.proofs.is_zero.Given as goal
 
 abbrev pub invariant-loop-m : goal.invariant-loop-m

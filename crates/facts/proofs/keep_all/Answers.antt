@@ -1,12 +1,10 @@
 -- `facts::keep_all` meets its contract. Assumes nothing.
-use mathlib.Core.Path.{◌≡◌, refl}
+use mathlib.Core.Path.{refl}
 use mathlib.Core.Bool.{true}
-use Prim.Native.Nat.{◌≤◌, ◌-◌}
 use borrow.Author.Rules.{rules}
-use lib.ListN.{length}
 use Rattle.tables.proofs.Filled.{filled-start}
 use Rattle.words.proofs.Words.{words_end}
-use Rattle.words.proofs.Holds.{words_to, constant_holds, words_more}
+use Rattle.words.proofs.Holds.{constant_holds, words_more}
 use Rattle.facts.proofs.keep_all.Goals as goal
 
 pub loop-i-init : goal.loop-i-init

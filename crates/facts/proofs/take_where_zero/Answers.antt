@@ -2,7 +2,6 @@
 -- of f*(1 + g).
 -- Assumes nothing.
 use mathlib.Core.Path.{sym, ◌∙◌}
-use borrow.Author.Rules.{rules}
 use Rattle.facts.proofs.Kept.{values_where}
 use Rattle.facts.proofs.take_where_zero.Goals as goal
 

@@ -1,6 +1,5 @@
 -- `layodegi::layodegi_audit` meets its contract: the call's answer as a code.
 -- Assumes nothing.
-use borrow.Author.Rules.{rules}
 use Rattle.layodegi.specs.Codes.{entry_code}
 use Rattle.layodegi.proofs.Coded.{coded-call}
 use Rattle.layodegi.proofs.layodegi_audit.Goals as goal

@@ -1,6 +1,5 @@
 -- `layodegi::layodegi_read_entry` meets its contract: the call's answer as a code, and the buffers as the call leaves them.
 -- Assumes nothing.
-use borrow.Author.Rules.{rules}
 use Rattle.layodegi.specs.Codes.{entry_code}
 use Rattle.layodegi.proofs.Coded.{coded-call}
 use Rattle.layodegi.proofs.layodegi_read_entry.Goals as goal

@@ -1,6 +1,5 @@
 -- `layodegi::layodegi_session_return` meets its contract: the call's answer as a code, and the block as the call leaves it.
 -- Assumes nothing.
-use borrow.Author.Rules.{rules}
 use Rattle.layodegi.specs.Codes.{code}
 use Rattle.layodegi.proofs.Coded.{coded-call}
 use Rattle.layodegi.proofs.layodegi_session_return.Goals as goal

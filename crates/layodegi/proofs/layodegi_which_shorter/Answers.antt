@@ -1,6 +1,5 @@
 -- `layodegi::layodegi_which_shorter` meets its contract: the call's answer as a code.
 -- Assumes nothing.
-use borrow.Author.Rules.{rules}
 use Rattle.layodegi.specs.Codes.{code}
 use Rattle.layodegi.proofs.Coded.{coded-call}
 use Rattle.layodegi.proofs.layodegi_which_shorter.Goals as goal

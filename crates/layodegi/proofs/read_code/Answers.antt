@@ -1,6 +1,5 @@
 -- `layodegi::read_code` meets its contract, case by case.
 -- Assumes nothing.
-use borrow.Author.Rules.{rules}
 use Rattle.layodegi.proofs.read_code.Goals as goal
 
 pub returns-in-Entry : goal.returns-in-Entry

@@ -2,7 +2,6 @@
 -- Assumes nothing.
 use mathlib.Core.Path.{sym, ap, ◌∙◌}
 use Prim.Native.Nat.{◌+◌, ◌*◌}
-use borrow.Author.Rules.{rules}
 use Rattle.calls.specs.Solving.{solving}
 use Rattle.layodegi.specs.Codes.{code}
 use Rattle.layodegi.proofs.solving_code.Goals as goal

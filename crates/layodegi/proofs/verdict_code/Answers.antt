@@ -3,7 +3,6 @@
 use mathlib.Core.Path.{sym, ap, ◌∙◌}
 use Prim.Native.Nat.{◌+◌}
 use native.Mathlib.Omega.{arith}
-use borrow.Author.Rules.{rules}
 use Rattle.calls.specs.Entries.{state_said}
 use Rattle.layodegi.specs.Codes.{state_code}
 use Rattle.layodegi.proofs.verdict_code.Goals as goal

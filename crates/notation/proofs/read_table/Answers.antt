@@ -2,7 +2,6 @@
 -- Assumes nothing.
 use mathlib.Core.Path.{sym, ◌∙◌}
 use native.Mathlib.Omega.{arith}
-use borrow.Author.Rules.{rules}
 use Rattle.tables.proofs.Answered.{after_refused}
 use Rattle.calls.proofs.Text.{text_is_table}
 use Rattle.notation.proofs.Refusal.{after_all}

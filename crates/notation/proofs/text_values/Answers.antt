@@ -1,8 +1,6 @@
 -- `notation::text_values` meets its contract: question 3, then those of the symbols.
 -- Assumes nothing.
-use mathlib.Core.Path.{sym, ◌∙◌}
 use native.Mathlib.Omega.{arith}
-use borrow.Author.Rules.{rules}
 use Rattle.tables.proofs.Questions.{failed, passed}
 use Rattle.tables.proofs.Answered.{after_refused}
 use Rattle.notation.proofs.Refusal.{ready, values_length, values-symbols}

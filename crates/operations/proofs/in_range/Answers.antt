@@ -1,6 +1,5 @@
 -- `operations::in_range` meets its contract, test by test.
 -- Assumes nothing.
-use borrow.Author.Rules.{rules}
 use borrow.Author.Tests.{le-ltb, lt-ltb}
 use Rattle.tables.specs.Questions.{in_range}
 use Rattle.operations.proofs.in_range.Goals as goal

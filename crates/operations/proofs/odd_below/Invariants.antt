@@ -1,15 +1,11 @@
 -- `operations::odd_below` meets its contract. The loop's invariant: `odd` is the parity over the masks passed.
 -- Assumes nothing.
-use mathlib.Core.Path.{◌≡◌, sym, ap, ◌∙◌}
+use mathlib.Core.Path.{◌≡◌}
 use mathlib.Core.Bool.{◌&&◌}
-use Prim.Native.Nat.{ℕ, ◌≤◌, ◌-◌}
-use native.Mathlib.Omega.{arith}
-use borrow.Author.Rules.{rules}
+use Prim.Native.Nat.{◌≤◌, ◌-◌}
 use lib.ListN.{length}
 use Rattle.ring.specs.Polynomial.{odd as parity, within}
 use Rattle.ring.specs.Table.{present}
-use Rattle.ring.proofs.Parity.{odd_zero}
-use Rattle.operations.proofs.Work.{parity_more}
 use Rattle.operations.proofs.odd_below.Given as goal
 
 abbrev pub invariant-loop-m : goal.invariant-loop-m

@@ -2,7 +2,6 @@
 -- Assumes nothing.
 use mathlib.Core.Path.{refl}
 use native.Mathlib.Omega.{arith}
-use borrow.Author.Rules.{rules}
 use lib.Bits.{and_le_r}
 use Rattle.ring.specs.Table.{present}
 use Rattle.operations.proofs.Work.{parity_end, parity_few, few_masks, whole_blocks}

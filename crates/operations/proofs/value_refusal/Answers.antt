@@ -3,7 +3,6 @@
 use mathlib.Core.Path.{◌≡◌}
 use mathlib.Core.Bool.{true}
 use native.Mathlib.Omega.{arith}
-use borrow.Author.Rules.{rules}
 use Rattle.tables.specs.Questions.{letters_fit, room_questions, bit_questions, buffer_questions}
 use Rattle.tables.proofs.FirstNo.{ask_then, ask_last}
 use Rattle.tables.proofs.Questions.{failed, passed, letters_small}

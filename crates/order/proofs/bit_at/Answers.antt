@@ -1,5 +1,4 @@
 -- `order::bit_at` meets its contract. Assumes nothing.
-use borrow.Author.Rules.{rules}
 use Rattle.words.proofs.Packing.{bit-code}
 use Rattle.order.proofs.bit_at.Goals as goal
 

@@ -1,10 +1,10 @@
 -- `order::copy_order` meets its contract. The loop fills the buffer from the front. Assumes nothing.
 use mathlib.Core.Path.{◌≡◌, refl, ap, ◌∙◌}
 use mathlib.Core.List.{List, ◌++◌}
-use Prim.Native.Nat.{ℕ, ◌≤◌, ◌-◌}
+use Prim.Native.Nat.{ℕ}
 use native.Mathlib.Omega.{arith}
 use borrow.Author.Rules.{rules}
-use lib.ListN.{length, get_or, drop}
+use lib.ListN.{get_or, drop}
 use Rattle.ring.specs.Lists.{listed}
 use Rattle.ring.proofs.Lists.{listed_get_d}
 use Rattle.tables.proofs.Filled.{filled, filled-start, filled_more}

@@ -1,15 +1,9 @@
 -- `order::copy_order` meets its contract. The loop fills the buffer from the front. Assumes nothing.
-use mathlib.Core.Path.{◌≡◌, refl, ap, ◌∙◌}
-use mathlib.Core.List.{List, ◌++◌}
-use Prim.Native.Nat.{ℕ, ◌≤◌, ◌-◌}
-use native.Mathlib.Omega.{arith}
-use borrow.Author.Rules.{rules}
-use lib.ListN.{length, get_or, drop}
-use Rattle.ring.specs.Lists.{listed}
-use Rattle.ring.proofs.Lists.{listed_get_d}
-use Rattle.tables.proofs.Filled.{filled, filled-start, filled_more}
+use mathlib.Core.Path.{◌≡◌}
+use Prim.Native.Nat.{◌≤◌, ◌-◌}
+use lib.ListN.{length, get_or}
+use Rattle.tables.proofs.Filled.{filled}
 use Rattle.order.specs.Order.{order}
-use Rattle.order.proofs.Order.{length-order, order_below}
 use Rattle.order.proofs.copy_order.Given as goal
 
 abbrev pub invariant-loop-p : goal.invariant-loop-p

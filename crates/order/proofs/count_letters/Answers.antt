@@ -2,7 +2,6 @@
 use mathlib.Core.Path.{◌≡◌}
 use Prim.Native.Nat.{◌+◌, ◌≤◌}
 use native.Mathlib.Omega.{arith}
-use borrow.Author.Rules.{rules}
 use Rattle.order.specs.Order.{letters}
 use Rattle.order.proofs.Letters.{letters_looked_up}
 use Rattle.order.proofs.count_letters.Goals as goal

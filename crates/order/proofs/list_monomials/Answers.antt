@@ -1,15 +1,13 @@
 -- Up to six letters `list_word` lists them. Beyond, the invariant: those of the first p masks that the words have are listed. The measure
 -- is the number of masks that are left. Assumes nothing.
 use mathlib.Core.Path.{refl, ap, ◌∙◌}
-use Prim.Native.Nat.{◌-◌, ◌^◌, ◌≤◌, ◌<◌}
+use Prim.Native.Nat.{◌^◌, ◌≤◌, ◌<◌}
 use native.Mathlib.Omega.{arith}
-use borrow.Author.Rules.{rules}
 use lib.ListN.{length}
 use lib.Pow.{pow_mono}
 use Rattle.ring.specs.Letters.{digit}
-use Rattle.words.specs.Inner.Words.{bit_at}
 use Rattle.order.proofs.Order.{length-order}
-use Rattle.order.proofs.Listing.{Listing, listing_start, listing_room, listing_more, listing_end, listed-monomials, mask_place}
+use Rattle.order.proofs.Listing.{listing_start, listing_room, listing_more, listing_end, listed-monomials, mask_place}
 use Rattle.order.proofs.Listing.{mask_in_words, one_word, listed_word}
 use Rattle.order.proofs.list_monomials.Goals as goal
 

@@ -1,6 +1,5 @@
 -- `order::rank_of` meets its contract. Assumes nothing.
 use native.Mathlib.Omega.{arith}
-use borrow.Author.Rules.{rules}
 use Rattle.order.specs.Inner.Place.{rank}
 use Rattle.order.proofs.rank_of.Goals as goal
 

@@ -1,10 +1,7 @@
 -- `order::skip_large` meets its contract. The loop's invariant, `Walked`: the buffer begins with the masks of the first p places that are
 -- small enough, and goes on as it was. The measure is the number of places that are left. Assumes nothing.
 use Prim.Native.Nat.{◌-◌, ◌^◌}
-use native.Mathlib.Omega.{arith}
-use borrow.Author.Rules.{rules}
-use Rattle.order.proofs.Skip.{Walked, walk_start, walk_most, walk_inside, walk_read, walk_room, walk_mask, walk_put, walk_next}
-use Rattle.order.proofs.Skip.{walk_skip, walk_end}
+use Rattle.order.proofs.Skip.{Walked}
 use Rattle.order.proofs.skip_large.Given as goal
 
 abbrev pub invariant-loop-at : goal.invariant-loop-at

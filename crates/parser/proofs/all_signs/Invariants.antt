@@ -1,13 +1,11 @@
 -- The loop's invariant: the byte says whether one of the symbols so far has failed the test. Assumes nothing.
-use mathlib.Core.Path.{◌≡◌, refl}
+use mathlib.Core.Path.{◌≡◌}
 use mathlib.Core.Bool.{not}
 use Prim.Native.Nat.{◌≤◌, ◌-◌}
-use borrow.Author.Rules.{rules}
 use lib.ListN.{length, take}
 use Rattle.ring.specs.Letters.{digit}
 use Rattle.grammar.specs.Symbols.{every}
 use Rattle.parser.specs.Inner.Questions.{is_known}
-use Rattle.parser.proofs.Decoding.{none_noted, one_noted, all_noted}
 use Rattle.parser.proofs.all_signs.Given as goal
 
 abbrev pub invariant-loop-i : goal.invariant-loop-i

@@ -1,5 +1,5 @@
 -- Each arm of the match covers some bytes, and a computed test over these says what their symbols are. Assumes nothing.
-use mathlib.Core.Logic.{inl, inr, ⊎_elim}
+use mathlib.Core.Logic.{⊎_elim}
 use mathlib.Core.Path.{refl}
 use Prim.Native.Nat.{◌+◌, ◌-◌}
 use borrow.Author.Rules.{rules}
@@ -21,7 +21,7 @@ returns-in-117-to-122 c = by_test (λ byte. byte - 117) 117 6 refl _ (search rul
 -- what lies between the signs
 pub returns-in_default : goal.returns-in_default
 unfolding every_below symbol is_unknown is_given is_single
-returns-in_default c = foreign_test 0 40 33 refl _ (search rules) (search rules) (λ e. c.in_default-1.rest.1 (inl e))
+returns-in_default c = foreign_test 0 40 33 refl c.args.byte (search rules) (search rules) (search rules)
 
 pub returns-in_default-2 : goal.returns-in_default-2
 unfolding every_below symbol is_unknown is_given is_single
@@ -38,8 +38,7 @@ returns-in_default-4 c = by_test (λ byte. code foreign) 105 12 refl c.args.byte
 
 pub returns-in_default-5 : goal.returns-in_default-5
 unfolding every_below symbol is_unknown is_given is_single
-returns-in_default-5 c = foreign_test 123 133 124 refl _ (search rules) (search rules)
-    (λ e. c.in_default-1.rest.1 (inr e))
+returns-in_default-5 c = foreign_test 123 133 124 refl c.args.byte (search rules) (search rules) (search rules)
 
 -- the single signs
 pub returns-in-48 : goal.returns-in-48

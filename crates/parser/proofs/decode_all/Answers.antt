@@ -1,9 +1,8 @@
 -- Byte by byte. Assumes nothing.
-use mathlib.Core.Path.{◌≡◌, refl, ap, ◌∙◌}
-use Prim.Native.Nat.{ℕ, ◌≤◌, ◌-◌}
+use mathlib.Core.Path.{refl, ap, ◌∙◌}
+use Prim.Native.Nat.{ℕ}
 use borrow.Author.Rules.{rules}
-use lib.ListN.{length, get_or}
-use Rattle.tables.proofs.Filled.{filled, filled-start, filled_more, filled_read, filled_end}
+use Rattle.tables.proofs.Filled.{filled-start, filled_more, filled_read, filled_end}
 use Rattle.grammar.specs.Symbols.{symbol}
 use Rattle.parser.specs.Inner.Codes.{code}
 use Rattle.parser.proofs.decode_all.Goals as goal

@@ -1,9 +1,7 @@
 -- The loop's invariant: the bytes kept are those of the bytes read that are no spaces. Assumes nothing.
-use mathlib.Core.Logic.{⊎_elim}
 use Prim.Native.Nat.{◌-◌}
-use borrow.Author.Rules.{rules}
 use lib.ListN.{length}
-use Rattle.parser.proofs.Decoding.{Unspacing, unspacing, all_unspaced, past_space, past_sign}
+use Rattle.parser.proofs.Decoding.{Unspacing}
 use Rattle.parser.proofs.drop_spaces.Given as goal
 
 abbrev pub invariant-loop-i : goal.invariant-loop-i

@@ -1,12 +1,8 @@
 -- Word by word. Assumes nothing.
-use mathlib.Core.Path.{◌≡◌, refl}
-use Prim.Native.Nat.{◌≤◌, ◌-◌}
+use mathlib.Core.Path.{refl}
 use native.Mathlib.Omega.{arith}
 use borrow.Author.Rules.{rules}
-use lib.ListN.{length}
-use Rattle.ring.specs.Letters.{bit}
-use Rattle.tables.proofs.Filled.{filled, filled-start, filled_more}
-use Rattle.parser.specs.Inner.Blocks.{word_at}
+use Rattle.tables.proofs.Filled.{filled-start, filled_more}
 use Rattle.parser.proofs.Blocks.{fill_end}
 use Rattle.parser.proofs.fill_high.Goals as goal
 

@@ -1,13 +1,10 @@
 -- Word by word. Assumes nothing.
-use mathlib.Core.Path.{◌≡◌, refl}
+use mathlib.Core.Path.{◌≡◌}
 use Prim.Native.Nat.{◌≤◌, ◌-◌}
-use native.Mathlib.Omega.{arith}
-use borrow.Author.Rules.{rules}
 use lib.ListN.{length}
 use Rattle.ring.specs.Letters.{bit}
-use Rattle.tables.proofs.Filled.{filled, filled-start, filled_more}
+use Rattle.tables.proofs.Filled.{filled}
 use Rattle.parser.specs.Inner.Blocks.{word_at}
-use Rattle.parser.proofs.Blocks.{fill_end}
 use Rattle.parser.proofs.fill_high.Given as goal
 
 abbrev pub invariant-loop-i : goal.invariant-loop-i

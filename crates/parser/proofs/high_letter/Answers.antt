@@ -1,6 +1,5 @@
 -- The bit of the word's number. Assumes nothing.
 use mathlib.Core.Bool.{true, false}
-use borrow.Author.Rules.{rules}
 use borrow.Author.Tests.{eq-eqb, ne_eqb}
 use Rattle.parser.proofs.Blocks.{high_word}
 use Rattle.parser.proofs.high_letter.Goals as goal

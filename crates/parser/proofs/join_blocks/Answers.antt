@@ -1,10 +1,7 @@
 -- Word by word. Assumes nothing.
-use mathlib.Core.Path.{◌≡◌, refl}
-use Prim.Native.Nat.{◌≤◌, ◌-◌}
+use mathlib.Core.Path.{refl}
 use borrow.Author.Rules.{rules}
-use lib.ListN.{length}
-use Rattle.tables.proofs.Filled.{filled, filled-start}
-use Rattle.parser.specs.Inner.Blocks.{paired}
+use Rattle.tables.proofs.Filled.{filled-start}
 use Rattle.parser.proofs.Blocks.{pair_more, fill_end}
 use Rattle.parser.proofs.join_blocks.Goals as goal
 

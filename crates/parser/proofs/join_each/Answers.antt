@@ -1,10 +1,7 @@
 -- Word by word. Assumes nothing.
-use mathlib.Core.Path.{◌≡◌, refl}
-use Prim.Native.Nat.{◌≤◌, ◌-◌}
+use mathlib.Core.Path.{refl}
 use borrow.Author.Rules.{rules}
-use lib.ListN.{length, get_or}
-use Rattle.tables.proofs.Filled.{filled, filled-start}
-use Rattle.parser.specs.Inner.Blocks.{join_of}
+use Rattle.tables.proofs.Filled.{filled-start}
 use Rattle.parser.proofs.Blocks.{each_more, fill_end}
 use Rattle.parser.proofs.join_each.Goals as goal
 

@@ -1,11 +1,9 @@
 -- Word by word. Assumes nothing.
-use mathlib.Core.Path.{◌≡◌, refl}
+use mathlib.Core.Path.{◌≡◌}
 use Prim.Native.Nat.{◌≤◌, ◌-◌}
-use borrow.Author.Rules.{rules}
 use lib.ListN.{length, get_or}
-use Rattle.tables.proofs.Filled.{filled, filled-start}
+use Rattle.tables.proofs.Filled.{filled}
 use Rattle.parser.specs.Inner.Blocks.{join_of}
-use Rattle.parser.proofs.Blocks.{each_more, fill_end}
 use Rattle.parser.proofs.join_each.Given as goal
 
 abbrev pub invariant-loop-i : goal.invariant-loop-i

@@ -1,6 +1,5 @@
 -- Test by test. Assumes nothing.
 use native.Mathlib.Omega.{arith}
-use borrow.Author.Rules.{rules}
 use borrow.Author.Tests.{lt-ltb, le-ltb}
 use Rattle.parser.specs.Inner.Blocks.{letter_of}
 use Rattle.parser.proofs.letter_of.Goals as goal

@@ -1,5 +1,4 @@
 -- Width by width. Assumes nothing.
-use borrow.Author.Rules.{rules}
 use Rattle.parser.proofs.Blocks.{fill_at}
 use Rattle.parser.proofs.put_high.Goals as goal
 

@@ -1,5 +1,4 @@
 -- One of the six lowest letters is the same in every word. Assumes nothing.
-use borrow.Author.Rules.{rules}
 use Rattle.parser.proofs.Blocks.{low_filled}
 use Rattle.parser.proofs.put_letter.Goals as goal
 

@@ -1,5 +1,4 @@
 -- The letter's number, then its block. Assumes nothing.
-use borrow.Author.Rules.{rules}
 use Rattle.parser.proofs.put_symbol.Goals as goal
 
 pub returns : goal.returns

@@ -1,20 +1,8 @@
 -- A sum that ends where the symbols end is the whole, and its block is copied. Assumes nothing.
 use mathlib.Core.Path.{refl}
-use borrow.Author.Rules.{rules}
 use Rattle.parser.proofs.Readers.{missing, up_to}
-use Rattle.parser.proofs.WholeText.{missing_whole, read_whole, read_partly, copy_room, copy_size}
+use Rattle.parser.proofs.WholeText.{missing_whole, read_whole, read_partly}
 use Rattle.parser.proofs.read_with.Goals as goal
-
-pub slice_bounds-copy-end : goal.slice_bounds-copy-end
-slice_bounds-copy-end c = let pre = c.requires in
-    copy_room _ _ c.args.words.now _ _ _ _ (up_to c.in-UpTo.is c.sum.ensures) pre.1 pre.2
-
-pub slice_bounds-copy-end-then-n-s : goal.slice_bounds-copy-end-then-n-s
-slice_bounds-copy-end-then-n-s c = let pre = c.requires in
-    copy_size _ _ c.args.words.now _ _ _ _ (up_to c.in-UpTo.is c.sum.ensures) pre.1 pre.2
-
-pub copy-requires : goal.copy-requires
-copy-requires c = slice-aggregate-copy c
 
 pub returns-in-Missing : goal.returns-in-Missing
 returns-in-Missing c = let whole = missing_whole _ _ c.args.words.now

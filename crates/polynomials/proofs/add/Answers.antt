@@ -2,7 +2,6 @@
 -- Assumes nothing.
 use mathlib.Core.Path.{sym, ◌∙◌}
 use native.Mathlib.Omega.{arith}
-use borrow.Author.Rules.{rules}
 use Rattle.polynomials.proofs.Sums.{sum_made, whole_block, whole_blocks}
 use Rattle.polynomials.proofs.add.Goals as goal
 

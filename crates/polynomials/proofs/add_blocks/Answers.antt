@@ -4,13 +4,12 @@ use Prim.Native.Nat.{ℕ, ◌≤◌, ◌-◌, ◌*◌, ◌+◌}
 use native.Mathlib.Omega.{arith}
 use borrow.Author.Rules.{rules}
 use lib.ListN.{length, drop}
-use Rattle.ring.specs.Letters.{digit}
 use Rattle.ring.specs.Polynomial.{count, sum}
 use Rattle.ring.specs.Table.{present}
 use Rattle.ring.proofs.Lists.{listed-tabulate}
 use Rattle.ring.proofs.Parity.{count_most}
 use Rattle.tables.proofs.Bits.{bits_take, bits_drop}
-use Rattle.tables.proofs.Filled.{filled, filled-start}
+use Rattle.tables.proofs.Filled.{filled-start}
 use Rattle.words.proofs.Parts.{part_length_lem, parts_end}
 use Rattle.polynomials.proofs.Sums.{block_added, block_counted}
 use Rattle.polynomials.proofs.add_blocks.Goals as goal

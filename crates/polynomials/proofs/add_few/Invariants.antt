@@ -1,16 +1,11 @@
 -- `polynomials::add_few` meets its contract: the bytes below i are made, and counted. Assumes nothing.
-use mathlib.Core.Path.{◌≡◌, refl, ap, ◌∙◌}
-use Prim.Native.Nat.{ℕ, ◌≤◌, ◌-◌}
-use native.Mathlib.Omega.{arith}
-use borrow.Author.Rules.{rules}
+use mathlib.Core.Path.{◌≡◌}
+use Prim.Native.Nat.{◌≤◌, ◌-◌}
 use lib.ListN.{length}
 use Rattle.ring.specs.Letters.{digit}
 use Rattle.ring.specs.Polynomial.{count, sum}
 use Rattle.ring.specs.Table.{present}
-use Rattle.ring.proofs.Bool.{digit_lt}
-use Rattle.ring.proofs.Parity.{count_most, count_next}
-use Rattle.tables.proofs.Filled.{filled, filled-start, filled_more, filled_whole}
-use Rattle.polynomials.proofs.Sums.{sum_byte}
+use Rattle.tables.proofs.Filled.{filled}
 use Rattle.polynomials.proofs.add_few.Given as goal
 
 abbrev pub invariant-loop-i : goal.invariant-loop-i

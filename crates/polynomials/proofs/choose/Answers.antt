@@ -1,11 +1,8 @@
 -- `polynomials::choose` meets its contract. Assumes nothing.
-use mathlib.Core.Path.{◌≡◌, refl}
-use Prim.Native.Nat.{◌≤◌, ◌-◌, ◌+◌}
+use mathlib.Core.Path.{refl}
 use native.Mathlib.Omega.{arith}
 use borrow.Author.Rules.{rules}
-use lib.ListN.{length, get_or}
-use Rattle.tables.proofs.Filled.{filled, filled-start}
-use Rattle.polynomials.specs.Inner.LookUp.{chosen}
+use Rattle.tables.proofs.Filled.{filled-start}
 use Rattle.polynomials.proofs.LookUp.{choose_more, choose_end}
 use Rattle.polynomials.proofs.choose.Goals as goal
 

@@ -1,12 +1,9 @@
 -- `polynomials::choose` meets its contract. Assumes nothing.
-use mathlib.Core.Path.{◌≡◌, refl}
+use mathlib.Core.Path.{◌≡◌}
 use Prim.Native.Nat.{◌≤◌, ◌-◌, ◌+◌}
-use native.Mathlib.Omega.{arith}
-use borrow.Author.Rules.{rules}
 use lib.ListN.{length, get_or}
-use Rattle.tables.proofs.Filled.{filled, filled-start}
+use Rattle.tables.proofs.Filled.{filled}
 use Rattle.polynomials.specs.Inner.LookUp.{chosen}
-use Rattle.polynomials.proofs.LookUp.{choose_more, choose_end}
 use Rattle.polynomials.proofs.choose.Given as goal
 
 abbrev pub invariant-loop-p : goal.invariant-loop-p

@@ -1,6 +1,5 @@
 -- `polynomials::derive` meets its contract. Assumes nothing.
 use mathlib.Core.Path.{sym, ◌∙◌}
-use borrow.Author.Rules.{rules}
 use lib.Seq.{length-take-le}
 use Rattle.words.proofs.Letters.{count_small}
 use Rattle.polynomials.proofs.derive.Goals as goal

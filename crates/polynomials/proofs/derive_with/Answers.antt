@@ -1,7 +1,6 @@
 -- `polynomials::derive_with` meets its contract. Assumes nothing.
 use mathlib.Core.Path.{◌≡◌, sym, ap, ◌∙◌}
 use Prim.Native.Nat.{ℕ, ◌^◌}
-use borrow.Author.Rules.{rules}
 use Rattle.words.proofs.Words.{size_words}
 use Rattle.polynomials.proofs.Work.{mask_fits, derivative_done}
 use Rattle.polynomials.proofs.derive_with.Goals as goal

@@ -1,12 +1,11 @@
 -- `polynomials::each_four` meets its contract. Assumes nothing.
-use mathlib.Core.Path.{◌≡◌, refl, ap, ◌∙◌}
-use Prim.Native.Nat.{ℕ, ◌≤◌, ◌-◌}
+use mathlib.Core.Path.{refl, ap, ◌∙◌}
+use Prim.Native.Nat.{ℕ}
 use native.Mathlib.Omega.{arith}
 use borrow.Author.Rules.{rules}
-use lib.ListN.{length}
 use Rattle.ring.specs.Letters.{bit}
 use Rattle.ring.specs.Lists.{listed}
-use Rattle.tables.proofs.Filled.{filled, filled-start, filled_more, filled_end}
+use Rattle.tables.proofs.Filled.{filled-start, filled_more, filled_end}
 use Rattle.words.specs.Inner.Words.{word_of}
 use Rattle.polynomials.specs.Inner.LookUp.{place_of}
 use Rattle.polynomials.proofs.each_four.Goals as goal

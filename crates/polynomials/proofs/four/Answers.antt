@@ -1,6 +1,5 @@
 -- `polynomials::four` meets its contract. Assumes nothing.
 use native.Mathlib.Omega.{arith}
-use borrow.Author.Rules.{rules}
 use Rattle.polynomials.proofs.LookUp.{four_chosen}
 use Rattle.polynomials.proofs.four.Goals as goal
 

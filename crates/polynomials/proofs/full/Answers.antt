@@ -1,7 +1,6 @@
 -- `polynomials::full` meets its contract. Assumes nothing.
 use Prim.Native.Nat.{◌^◌, ◌/◌}
 use native.Mathlib.Omega.{arith}
-use borrow.Author.Rules.{rules}
 use lib.Bits.{and_le_r}
 use Rattle.polynomials.proofs.LookUp.{point_word}
 use Rattle.polynomials.proofs.full.Goals as goal

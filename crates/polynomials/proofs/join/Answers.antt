@@ -1,7 +1,6 @@
 -- `polynomials::join` meets its contract: the product, and both added to it.
 -- Assumes nothing.
 use mathlib.Core.Path.{sym, ◌∙◌}
-use borrow.Author.Rules.{rules}
 use Rattle.polynomials.proofs.Work.{made_table, added-table, join_done}
 use Rattle.polynomials.proofs.join.Goals as goal
 

@@ -1,14 +1,10 @@
 -- `polynomials::look_up` meets its contract. Assumes nothing.
-use mathlib.Core.Path.{◌≡◌, refl}
+use mathlib.Core.Path.{◌≡◌}
 use Prim.Native.Nat.{◌≤◌, ◌-◌, ◌+◌, ◌*◌, ◌/◌}
-use borrow.Author.Rules.{rules}
 use lib.ListN.{length}
 use Rattle.ring.specs.Letters.{point_where}
-use Rattle.tables.proofs.Filled.{filled-start, filled_more, filled_read}
 use Rattle.words.specs.Inner.Words.{bit_at}
-use Rattle.words.proofs.Words.{words_end}
 use Rattle.words.proofs.Holds.{words_to}
-use Rattle.polynomials.proofs.LookUp.{looked_up}
 use Rattle.polynomials.proofs.look_up.Given as goal
 
 abbrev pub invariant-loop-w : goal.invariant-loop-w

@@ -1,15 +1,12 @@
 -- `polynomials::look_up_word` meets its contract. The loop's invariant: once the two lowest letters and those from j on have chosen,
 -- word p of t holds the value at the point with the letters of p between them.
 -- Assumes nothing.
-use mathlib.Core.Path.{◌≡◌, refl, ap, ◌∙◌}
+use mathlib.Core.Path.{◌≡◌}
 use Prim.Native.Nat.{ℕ, ◌≤◌, ◌-◌, ◌+◌, ◌*◌, ◌<◌, ◌^◌}
-use native.Mathlib.Omega.{arith}
-use borrow.Author.Rules.{rules}
 use lib.ListN.{length, get_or}
 use Rattle.ring.specs.Letters.{bit}
-use Rattle.ring.proofs.Lists.{length-listed}
 use Rattle.polynomials.specs.Inner.LookUp.{place_of}
-use Rattle.polynomials.proofs.LookUp.{level, level_start, level_next, level_end, part_index, part_small, half_small, first_parts}
+use Rattle.polynomials.proofs.LookUp.{level}
 use Rattle.polynomials.proofs.look_up_word.Given as goal
 
 abbrev pub invariant-loop-j : goal.invariant-loop-j

@@ -1,6 +1,5 @@
 -- `polynomials::multiply` meets its contract. Assumes nothing.
 use mathlib.Core.Path.{sym, ◌∙◌}
-use borrow.Author.Rules.{rules}
 use lib.Seq.{length-take-le}
 use Rattle.words.proofs.Letters.{count_small}
 use Rattle.polynomials.proofs.multiply.Goals as goal

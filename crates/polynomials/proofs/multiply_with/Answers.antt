@@ -3,7 +3,6 @@ use mathlib.Core.Path.{◌≡◌, sym, ap, ◌∙◌}
 use mathlib.Core.Bool.{Bool, true, false, cond}
 use mathlib.Core.List.{List}
 use Prim.Native.Nat.{ℕ}
-use borrow.Author.Rules.{rules}
 use Rattle.ring.specs.Polynomial.{value, product}
 use Rattle.ring.specs.Table.{present, table}
 use Rattle.words.specs.Inner.Words.{bit_at}

@@ -1,5 +1,4 @@
 -- `polynomials::substitute_with` meets its contract: to values, the handed polynomials put in, and back. Assumes nothing.
-use borrow.Author.Rules.{rules}
 use Rattle.polynomials.proofs.LookUp.{substitute_done}
 use Rattle.polynomials.proofs.substitute_with.Goals as goal
 

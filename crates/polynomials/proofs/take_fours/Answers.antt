@@ -1,12 +1,12 @@
 -- `polynomials::take_fours` meets its contract. Assumes nothing.
-use mathlib.Core.Path.{◌≡◌, refl, ap, ◌∙◌}
-use Prim.Native.Nat.{ℕ, ◌≤◌, ◌-◌, ◌*◌, ◌/◌, ◌%◌, ◌^◌}
+use mathlib.Core.Path.{refl, ap, ◌∙◌}
+use Prim.Native.Nat.{ℕ, ◌*◌, ◌/◌, ◌%◌, ◌^◌}
 use native.Mathlib.Omega.{arith}
 use borrow.Author.Rules.{rules}
 use lib.Bits.{and_le_r, and_mask}
-use lib.ListN.{length, get_or}
+use lib.ListN.{get_or}
 use Rattle.ring.specs.Lists.{listed}
-use Rattle.tables.proofs.Filled.{filled, filled-start, filled_more, filled_end}
+use Rattle.tables.proofs.Filled.{filled-start, filled_more, filled_end}
 use Rattle.polynomials.proofs.take_fours.Goals as goal
 
 pub loop-q-init : goal.loop-q-init

@@ -1,12 +1,8 @@
 -- `polynomials::take_fours` meets its contract. Assumes nothing.
-use mathlib.Core.Path.{◌≡◌, refl, ap, ◌∙◌}
-use Prim.Native.Nat.{ℕ, ◌≤◌, ◌-◌, ◌*◌, ◌/◌, ◌%◌, ◌^◌}
-use native.Mathlib.Omega.{arith}
-use borrow.Author.Rules.{rules}
-use lib.Bits.{and_le_r, and_mask}
+use mathlib.Core.Path.{◌≡◌}
+use Prim.Native.Nat.{◌≤◌, ◌-◌, ◌*◌, ◌/◌, ◌%◌, ◌^◌}
 use lib.ListN.{length, get_or}
-use Rattle.ring.specs.Lists.{listed}
-use Rattle.tables.proofs.Filled.{filled, filled-start, filled_more, filled_end}
+use Rattle.tables.proofs.Filled.{filled}
 use Rattle.polynomials.proofs.take_fours.Given as goal
 
 abbrev pub invariant-loop-q : goal.invariant-loop-q

@@ -1,6 +1,5 @@
 -- `polynomials::take_part` meets its contract. Assumes nothing.
 use native.Mathlib.Omega.{arith}
-use borrow.Author.Rules.{rules}
 use Rattle.words.proofs.Parts.{part_fits}
 use Rattle.polynomials.proofs.Work.{handed_table_lem, unknown_part, given_part}
 use Rattle.polynomials.proofs.take_part.Goals as goal

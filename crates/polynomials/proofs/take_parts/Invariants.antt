@@ -1,15 +1,10 @@
 -- `polynomials::take_parts` meets its contract. Assumes nothing.
-use mathlib.Core.Path.{◌≡◌, ◌∙◌}
+use mathlib.Core.Path.{◌≡◌}
 use Prim.Native.Nat.{◌≤◌, ◌-◌, ◌*◌}
-use native.Mathlib.Omega.{arith}
-use native.Mathlib.Nat.{zero-mul}
-use borrow.Author.Rules.{rules}
 use lib.ListN.{length}
-use lib.Pow.{pow_pos}
-use Rattle.tables.proofs.Filled.{filled, filled-start}
-use Rattle.words.proofs.Parts.{parts_more, part_fits, part_length_lem}
+use Rattle.tables.proofs.Filled.{filled}
 use Rattle.polynomials.specs.Inner.LookUp.{put_for}
-use Rattle.polynomials.proofs.Work.{part_word, part_put, parts_taken}
+use Rattle.polynomials.proofs.Work.{part_word}
 use Rattle.polynomials.proofs.take_parts.Given as goal
 
 abbrev pub invariant-loop-j : goal.invariant-loop-j

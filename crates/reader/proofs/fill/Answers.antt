@@ -3,10 +3,9 @@
 -- Assumes nothing.
 use native.Mathlib.Omega.{arith}
 use mathlib.Core.Path.{refl, sym, ◌∙◌}
-use Prim.Native.Nat.{◌+◌, ◌-◌, ◌^◌, ◌≤◌}
+use Prim.Native.Nat.{◌+◌, ◌≤◌}
 use lib.ListN.{length}
 use Rattle.entry.proofs.Records.{fits_at}
-use Rattle.records.specs.Inner.Filling.{put_monomial, Filling}
 use Rattle.records.proofs.Filling.{put_long, fill_start, fill_then, fill_none, fill_broken, fill_end, fill_next}
 use Rattle.reader.proofs.Filling.{fill_lending}
 use Rattle.reader.proofs.fill.Goals as goal

@@ -1,14 +1,9 @@
 -- The invariant: each table is filled to the end as it is from here with the records that are left. The measure is what is left of the
 -- bytes.
 -- Assumes nothing.
-use native.Mathlib.Omega.{arith}
-use mathlib.Core.Path.{refl, sym, ◌∙◌}
-use Prim.Native.Nat.{◌+◌, ◌-◌, ◌^◌, ◌≤◌}
+use Prim.Native.Nat.{◌+◌, ◌-◌, ◌^◌}
 use lib.ListN.{length}
-use Rattle.entry.proofs.Records.{fits_at}
 use Rattle.records.specs.Inner.Filling.{put_monomial, Filling}
-use Rattle.records.proofs.Filling.{put_long, fill_start, fill_then, fill_none, fill_broken, fill_end, fill_next}
-use Rattle.reader.proofs.Filling.{fill_lending}
 use Rattle.reader.proofs.fill.Given as goal
 
 abbrev pub invariant-loop-at : goal.invariant-loop-at

@@ -1,5 +1,4 @@
 -- Cleared tables, and then the monomials. Assumes nothing.
-use borrow.Author.Rules.{rules}
 use Rattle.reader.proofs.Filling.{filled_condition, filled_answers}
 use Rattle.reader.proofs.fill_tables.Goals as goal
 

@@ -1,14 +1,10 @@
 -- The invariant: both tables are filled to the end as they are from here with the records that are left. The measure is what is left of
 -- the bytes.
 -- Assumes nothing.
-use mathlib.Core.Path.{◌≡◌}
-use mathlib.Core.List.{List}
-use Prim.Native.Nat.{ℕ, ◌+◌, ◌-◌, ◌*◌, ◌^◌, ◌≤◌, ◌<◌}
+use Prim.Native.Nat.{◌+◌, ◌*◌, ◌≤◌, ◌<◌}
 use native.Mathlib.Omega.{arith}
-use borrow.Author.Rules.{rules}
 use lib.ListN.{length}
 use Rattle.records.proofs.Runs.{size_answer, stands_inside}
-use Rattle.records.specs.Inner.Filling.{put_monomial, Filling}
 use Rattle.records.proofs.Filling.{fill_start}
 use Rattle.reader.proofs.Runs.{answer_small, answer_next, answer_left}
 use Rattle.reader.proofs.put_answers.Goals as goal

@@ -3,14 +3,9 @@
 -- Assumes nothing.
 use mathlib.Core.Path.{◌≡◌}
 use mathlib.Core.List.{List}
-use Prim.Native.Nat.{ℕ, ◌+◌, ◌-◌, ◌*◌, ◌^◌, ◌≤◌, ◌<◌}
-use native.Mathlib.Omega.{arith}
-use borrow.Author.Rules.{rules}
+use Prim.Native.Nat.{ℕ, ◌+◌, ◌-◌, ◌^◌}
 use lib.ListN.{length}
-use Rattle.records.proofs.Runs.{size_answer, stands_inside}
 use Rattle.records.specs.Inner.Filling.{put_monomial, Filling}
-use Rattle.records.proofs.Filling.{fill_start}
-use Rattle.reader.proofs.Runs.{answer_small, answer_next, answer_left}
 use Rattle.reader.proofs.put_answers.Given as goal
 
 abbrev pub invariant-loop-m : goal.invariant-loop-m

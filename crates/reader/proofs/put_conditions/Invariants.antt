@@ -2,14 +2,9 @@
 -- the bytes.
 -- Assumes nothing.
 use mathlib.Core.List.{List}
-use Prim.Native.Nat.{ℕ, ◌+◌, ◌-◌, ◌^◌, ◌≤◌}
-use native.Mathlib.Omega.{arith}
-use borrow.Author.Rules.{rules}
+use Prim.Native.Nat.{ℕ, ◌+◌, ◌-◌, ◌^◌}
 use lib.ListN.{length}
-use Rattle.records.proofs.Runs.{size_condition, stands_inside}
 use Rattle.records.specs.Inner.Filling.{put_monomial, Filling}
-use Rattle.records.proofs.Filling.{fill_start}
-use Rattle.reader.proofs.Runs.{condition_next, condition_left}
 use Rattle.reader.proofs.put_conditions.Given as goal
 
 abbrev pub invariant-loop-condition : goal.invariant-loop-condition

@@ -1,7 +1,6 @@
 -- Each arm is one case of the kind; the byte of a monomial lies within the tables, so that its index is small.
 -- Assumes nothing.
 use native.Mathlib.Omega.{arith}
-use borrow.Author.Rules.{rules}
 use Prim.Native.Nat.{◌*◌, ◌≤◌, ◌<◌}
 use Rattle.records.proofs.OneRecord.{long_2, long_3}
 use Rattle.reader.proofs.Filling.{put_other, put_condition, condition_apart, put_answer, answer_apart, put_small}
@@ -51,4 +50,7 @@ pub returns-in-3 : goal.returns-in-3
 returns-in-3 c = record { condition_after = search answer_apart; answers_after = search put_answer }
 
 pub returns-in_default : goal.returns-in_default
-returns-in_default c = let n = c.in_default.rest in record { condition_after = put_other _ _ _ 1 (omega arith) n.0.1 n.1; answers_after = put_other _ _ _ 2 (omega arith) n.0.1 n.1 }
+returns-in_default c = record {
+  condition_after = put_other _ _ _ 1 (omega arith) (omega arith) (omega arith);
+  answers_after = put_other _ _ _ 2 (omega arith) (omega arith) (omega arith);
+}

@@ -1,6 +1,5 @@
 -- Refused by a question before 4, or as `read_into` answers.
 -- Assumes nothing.
-use borrow.Author.Rules.{rules}
 use mathlib.Core.Path.{sym, ap, ◌∙◌}
 use Rattle.records.specs.declared.Survey.{Survey}
 use Rattle.reader.proofs.Buffers.{read_refused}

@@ -1,7 +1,6 @@
 -- Question 4, then the buffers filled in place: the fact's in one go, those of the condition and the answers cleared first.
 -- Assumes nothing.
 use native.Mathlib.Omega.{arith}
-use borrow.Author.Rules.{rules}
 use mathlib.Core.Path.{◌∙◌, sym}
 use Prim.Native.Nat.{◌*◌, ◌≤◌}
 use lib.ListN.{length}

@@ -1,6 +1,5 @@
 -- The three buffers one after another.
 -- Assumes nothing.
-use borrow.Author.Rules.{rules}
 use Rattle.reader.proofs.Buffers.{room_asked}
 use Rattle.reader.proofs.room_refusal.Goals as goal
 

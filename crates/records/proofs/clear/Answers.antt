@@ -1,10 +1,8 @@
 -- The loop fills the bytes from the front. Assumes nothing.
-use mathlib.Core.Path.{◌≡◌, refl, ◌∙◌}
-use Prim.Native.Nat.{◌≤◌, ◌-◌}
+use mathlib.Core.Path.{refl, ◌∙◌}
 use borrow.Author.Rules.{rules}
-use lib.ListN.{length}
 use Rattle.ring.proofs.Lists.{listed-tabulate}
-use Rattle.tables.proofs.Filled.{filled, filled-start, filled_more, filled_end}
+use Rattle.tables.proofs.Filled.{filled-start, filled_more, filled_end}
 use Rattle.records.proofs.clear.Goals as goal
 
 pub loop-i-init : goal.loop-i-init

@@ -1,10 +1,8 @@
 -- The loop fills the bytes from the front. Assumes nothing.
-use mathlib.Core.Path.{◌≡◌, refl, ◌∙◌}
+use mathlib.Core.Path.{◌≡◌}
 use Prim.Native.Nat.{◌≤◌, ◌-◌}
-use borrow.Author.Rules.{rules}
 use lib.ListN.{length}
-use Rattle.ring.proofs.Lists.{listed-tabulate}
-use Rattle.tables.proofs.Filled.{filled, filled-start, filled_more, filled_end}
+use Rattle.tables.proofs.Filled.{filled}
 use Rattle.records.proofs.clear.Given as goal
 
 abbrev pub invariant-loop-i : goal.invariant-loop-i

@@ -2,11 +2,9 @@
 -- is left of the bytes.
 -- Assumes nothing.
 use mathlib.Core.Path.{◌∙◌}
-use Prim.Native.Nat.{◌+◌, ◌-◌, ◌≤◌}
+use Prim.Native.Nat.{◌+◌, ◌≤◌}
 use native.Mathlib.Omega.{arith}
-use borrow.Author.Rules.{rules}
 use lib.ListN.{length}
-use Rattle.records.specs.Inner.Filling.{FactFilling}
 use Rattle.records.proofs.Runs.{size_fact, stands_inside}
 use Rattle.records.proofs.Filling.{cleared_length}
 use Rattle.records.proofs.Facts.{passed_kinds, passed_fits, fact_next, fact_filled}

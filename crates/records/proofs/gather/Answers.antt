@@ -1,13 +1,10 @@
 -- The invariant: all records give what those that are left give with what has been seen. The measure is what is left of the bytes.
 -- Assumes nothing.
 use native.Mathlib.Omega.{arith}
-use borrow.Author.Rules.{rules}
 use mathlib.Core.Path.{refl}
-use Prim.Native.Nat.{◌+◌, ◌-◌, ◌≤◌}
+use Prim.Native.Nat.{◌+◌, ◌≤◌}
 use lib.ListN.{length}
 use Rattle.entry.proofs.Records.{fits_at}
-use Rattle.order.specs.Inner.Place.{AreLetters}
-use Rattle.records.specs.Inner.Gathering.{nothing_seen, Further}
 use Rattle.records.proofs.Loops.{lent_whole, lent_some, further_start, further_then}
 use Rattle.records.proofs.Loops.{gather_out, gather_broken, gather_end, gather_next}
 use Rattle.records.proofs.gather.Goals as goal

@@ -1,7 +1,6 @@
 -- Only kind 1 says it.
 -- Assumes nothing.
 use native.Mathlib.Omega.{arith}
-use borrow.Author.Rules.{rules}
 use Rattle.records.proofs.OneRecord.{long_1, givens_empty, givens_start, givens_none}
 use Rattle.records.proofs.givens_in.Goals as goal
 

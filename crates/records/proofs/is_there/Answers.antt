@@ -1,5 +1,4 @@
 -- Too few bytes are left, or the first byte tells. Assumes nothing.
-use borrow.Author.Rules.{rules}
 use Rattle.records.proofs.Runs.{too_short, by_first_byte}
 use Rattle.records.proofs.is_there.Goals as goal
 

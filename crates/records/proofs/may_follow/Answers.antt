@@ -1,6 +1,5 @@
 -- Each arm is a row of the kinds that may follow.
 -- Assumes nothing.
-use borrow.Author.Rules.{rules}
 use Rattle.records.proofs.OneRecord.{follow_first, follow_start, follow_condition, follow_answer, follow_none, follow_order}
 use Rattle.records.proofs.OneRecord.{follow_end, follow_other}
 use Rattle.records.proofs.may_follow.Goals as goal

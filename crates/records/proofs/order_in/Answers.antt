@@ -1,6 +1,5 @@
 -- The bytes behind the kind, one by one.
 -- Assumes nothing.
-use borrow.Author.Rules.{rules}
 use Rattle.records.proofs.OneRecord.{six_of}
 use Rattle.records.proofs.order_in.Goals as goal
 

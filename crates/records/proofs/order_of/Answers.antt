@@ -1,7 +1,6 @@
 -- Without a first record that is no end, a second one, and kind 6 there, the order is 0, 1, 2, ..
 -- Assumes nothing.
 use native.Mathlib.Omega.{arith}
-use borrow.Author.Rules.{rules}
 use Prim.Native.Nat.{◌+◌, ◌≤◌}
 use lib.ListN.{length}
 use Rattle.records.proofs.Answers.{first_within, first_some, second-within, second_some, order_no_first, order_first_ends}

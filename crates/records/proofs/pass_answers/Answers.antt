@@ -3,12 +3,9 @@
 -- Assumes nothing.
 use mathlib.Core.Path.{◌≡◌}
 use mathlib.Core.Bool.{true}
-use Prim.Native.Nat.{◌+◌, ◌-◌, ◌≤◌, ◌<◌}
+use Prim.Native.Nat.{◌+◌, ◌≤◌, ◌<◌}
 use native.Mathlib.Omega.{arith}
-use borrow.Author.Rules.{rules}
-use borrow.Author.Tests.{not-false}
 use lib.ListN.{length}
-use Rattle.records.specs.Inner.Gathering.{Further, placed}
 use Rattle.records.proofs.OneRecord.{answer_below}
 use Rattle.records.proofs.Loops.{further_start}
 use Rattle.records.proofs.Runs.{size_answer, stands_inside, answer_next, pass_out}

@@ -1,11 +1,9 @@
 -- The invariant: the records from `from` on give what those that are left give with the place of the last one. The measure is what is left
 -- of the bytes.
 -- Assumes nothing.
-use Prim.Native.Nat.{◌+◌, ◌-◌, ◌≤◌}
+use Prim.Native.Nat.{◌+◌, ◌≤◌}
 use native.Mathlib.Omega.{arith}
-use borrow.Author.Rules.{rules}
 use lib.ListN.{length}
-use Rattle.records.specs.Inner.Gathering.{Further, placed}
 use Rattle.records.proofs.Loops.{further_start}
 use Rattle.records.proofs.Runs.{size_condition, stands_inside, condition_below, condition_next, pass_out}
 use Rattle.records.proofs.pass_conditions.Goals as goal

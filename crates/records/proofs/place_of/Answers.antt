@@ -1,6 +1,5 @@
 -- A mask of the ten-letter order has a small rank, so that its place is small. Assumes nothing.
 use native.Mathlib.Omega.{arith}
-use borrow.Author.Rules.{rules}
 use Rattle.records.proofs.OneRecord.{rank_fits, place_is}
 use Rattle.records.proofs.place_of.Goals as goal
 

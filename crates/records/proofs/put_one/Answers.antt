@@ -1,7 +1,6 @@
 -- Past the end nothing is set. Assumes nothing.
 use mathlib.Core.Path.{sym}
 use lib.Seq.{set_out}
-use borrow.Author.Rules.{rules}
 use Rattle.records.proofs.put_one.Goals as goal
 
 pub returns-else-p-t : goal.returns-else-p-t

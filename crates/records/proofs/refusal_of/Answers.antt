@@ -1,6 +1,5 @@
 -- The questions one after another.
 -- Assumes nothing.
-use borrow.Author.Rules.{rules}
 use Rattle.records.proofs.OneRecord.{chain}
 use Rattle.records.proofs.refusal_of.Goals as goal
 

@@ -1,7 +1,6 @@
 -- Kinds 1 and 4 say it.
 -- Assumes nothing.
 use native.Mathlib.Omega.{arith}
-use borrow.Author.Rules.{rules}
 use Rattle.records.proofs.OneRecord.{long_1, long_4, route_empty, route_start, route_end, route_none}
 use Rattle.records.proofs.route_in.Goals as goal
 

@@ -1,6 +1,5 @@
 -- The first state that is said stays.
 -- Assumes nothing.
-use borrow.Author.Rules.{rules}
 use Rattle.records.proofs.OneRecord.{said_now, said_before}
 use Rattle.records.proofs.said_first.Goals as goal
 

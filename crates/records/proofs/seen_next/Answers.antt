@@ -1,6 +1,5 @@
 -- What both conjunctions give.
 -- Assumes nothing.
-use borrow.Author.Rules.{rules}
 use Rattle.records.proofs.OneRecord.{seen_is}
 use Rattle.records.proofs.seen_next.Goals as goal
 

@@ -1,6 +1,5 @@
 -- The byte of kind fixes the size, and the bytes that are left tell whether the record is whole.
 -- Assumes nothing.
-use borrow.Author.Rules.{rules}
 use Rattle.entry.proofs.Records.{sized_out, sized_short, sized_whole}
 use Rattle.records.proofs.size_at.Goals as goal
 

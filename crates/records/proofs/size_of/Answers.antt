@@ -1,6 +1,5 @@
 -- The list of sizes is `layout`'s, and there are no further kinds.
 -- Assumes nothing.
-use borrow.Author.Rules.{rules}
 use Rattle.records.proofs.OneRecord.{sized, no_kind}
 use Rattle.records.proofs.size_of.Goals as goal
 

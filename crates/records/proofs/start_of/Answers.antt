@@ -1,6 +1,5 @@
 -- The first record, as far as it is whole.
 -- Assumes nothing.
-use borrow.Author.Rules.{rules}
 use Rattle.records.proofs.Answers.{start_long, start_whole, start_is}
 use Rattle.records.proofs.start_of.Goals as goal
 

@@ -1,7 +1,6 @@
 -- The bounds of question 12 are formed of letters that fit, so that they are small.
 -- Assumes nothing.
 use native.Mathlib.Omega.{arith}
-use borrow.Author.Rules.{rules}
 use Prim.Native.Nat.{◌+◌, ◌≤◌}
 use Rattle.records.proofs.Answers.{few_letters, survey_bounds, asked_before_facts, survey_is}
 use Rattle.records.proofs.survey_entry.Goals as goal

@@ -1,6 +1,4 @@
 -- Refused before, or without a fact, or asked. Assumes nothing.
-use borrow.Author.Rules.{rules}
-use borrow.Author.Tests.{not-true}
 use Rattle.records.proofs.Facts.{refused_before, facts_asked, nothing_asked}
 use Rattle.records.proofs.then_facts.Goals as goal
 

@@ -1,7 +1,6 @@
 -- Only kind 1 says it.
 -- Assumes nothing.
 use native.Mathlib.Omega.{arith}
-use borrow.Author.Rules.{rules}
 use Rattle.records.proofs.OneRecord.{long_1, unknowns_empty, unknowns_start, unknowns_none}
 use Rattle.records.proofs.unknowns_in.Goals as goal
 

@@ -2,7 +2,6 @@
 -- Assumes nothing.
 use mathlib.Core.Path.{sym, ◌∙◌}
 use native.Mathlib.Omega.{arith}
-use borrow.Author.Rules.{rules}
 use Rattle.tables.specs.Questions.{room_questions, bit_questions, buffer_questions}
 use Rattle.tables.proofs.FirstNo.{ask_then, ask_last}
 use Rattle.calls.specs.Questions.{add_questions}

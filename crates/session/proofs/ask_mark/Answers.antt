@@ -1,7 +1,6 @@
 -- `session::ask_mark` meets its contract.
 -- Assumes nothing.
 use mathlib.Core.Path.{refl}
-use borrow.Author.Rules.{rules}
 use Rattle.tables.proofs.Questions.{failed, passed}
 use Rattle.session.proofs.Asked.{mark_set, mark_unset}
 use Rattle.session.proofs.ask_mark.Goals as goal

@@ -1,13 +1,10 @@
 -- `session::ask_marks` meets its contract. The invariant: the names so far have been asked.
 -- Assumes nothing.
 use mathlib.Core.Path.{◌≡◌}
-use Prim.Native.Nat.{◌≤◌, ◌<◌, ◌-◌}
-use native.Mathlib.Omega.{arith}
-use lib.ListN.{take, length}
-use borrow.Author.Rules.{rules}
+use Prim.Native.Nat.{◌≤◌, ◌-◌}
+use lib.ListN.{take}
 use Rattle.tables.specs.Inner.Asking.{also}
 use Rattle.session.specs.Inner.Asking.{marked_questions}
-use Rattle.session.proofs.Asked.{marks_none, marks_more, marks_all}
 use Rattle.session.proofs.ask_marks.Given as goal
 
 abbrev pub invariant-loop-i : goal.invariant-loop-i

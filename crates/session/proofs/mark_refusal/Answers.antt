@@ -1,6 +1,5 @@
 -- `session::mark_refusal` meets its contract: the session's own questions, then 18.
 -- Assumes nothing.
-use borrow.Author.Rules.{rules}
 use Rattle.tables.proofs.FirstNo.{ask_last, first_also}
 use Rattle.calls.specs.Questions.{mark_questions}
 use Rattle.session.proofs.mark_refusal.Goals as goal

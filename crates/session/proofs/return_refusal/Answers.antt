@@ -2,7 +2,6 @@
 -- Assumes nothing.
 use mathlib.Core.Path.{sym, ◌∙◌}
 use native.Mathlib.Omega.{arith}
-use borrow.Author.Rules.{rules}
 use Rattle.tables.proofs.FirstNo.{also_kept}
 use Rattle.session.specs.Session.{under}
 use Rattle.session.proofs.Asked.{name_low, name_high, mark_named, return_also}

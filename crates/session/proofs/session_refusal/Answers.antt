@@ -3,7 +3,6 @@
 use mathlib.Core.Path.{◌≡◌}
 use mathlib.Core.Bool.{true}
 use native.Mathlib.Omega.{arith}
-use borrow.Author.Rules.{rules}
 use Rattle.tables.specs.Questions.{letters_fit, bit_questions}
 use Rattle.tables.proofs.FirstNo.{ask_then}
 use Rattle.tables.proofs.Questions.{failed, passed, letters_small}
@@ -29,6 +28,6 @@ pow2-k-requires c = let letters : letters_fit c.args.s.unknowns c.args.s.givens 
 pub returns : goal.returns
 unfolding session_questions bit_questions marked_questions
 returns c = let letters : letters_fit c.args.s.unknowns c.args.s.givens ≡ true = passed c.letters_fit.ensures (ap not c.if-not-letters_fit.false) in
-    rw (← c.pow2-k.ensures)
-    (letters_yes _ _ _ _ (letters)
-    (ask_then _ _ _ _ _ _ _ c.ask-q.ensures c.holds_bits.ensures c.ask_marks.ensures))
+    let bits = rw c.pow2-k.ensures at c.holds_bits.ensures in
+    let marks = rw c.pow2-k.ensures at c.ask_marks.ensures in
+    letters_yes _ _ _ _ letters (ask_then _ _ _ _ _ _ _ c.ask-q.ensures bits marks)

@@ -1,7 +1,6 @@
 -- `session_block::add` meets its contract.
 -- Assumes nothing.
 use mathlib.Core.Path.{ap, ◌∙◌}
-use borrow.Author.Rules.{rules}
 use Rattle.session.specs.Session.{add_step}
 use Rattle.session.specs.History.{adds}
 use Rattle.session_block.specs.Block.{step_on}

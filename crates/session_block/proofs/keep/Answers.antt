@@ -1,6 +1,5 @@
 -- `session_block::keep` meets its contract.
 -- Assumes nothing.
-use borrow.Author.Rules.{rules}
 use Rattle.session_block.proofs.keep.Goals as goal
 
 pub returns-in-Done : goal.returns-in-Done

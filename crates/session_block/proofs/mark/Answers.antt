@@ -1,7 +1,6 @@
 -- `session_block::mark` meets its contract.
 -- Assumes nothing.
 use mathlib.Core.Path.{ap, ◌∙◌}
-use borrow.Author.Rules.{rules}
 use Rattle.session.specs.Session.{mark_step}
 use Rattle.session.specs.History.{marks}
 use Rattle.session_block.specs.Block.{step_on}

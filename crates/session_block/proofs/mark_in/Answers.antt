@@ -1,6 +1,5 @@
 -- `session_block::mark_in` meets its contract.
 -- Assumes nothing.
-use borrow.Author.Rules.{rules}
 use Rattle.ring.specs.Table.{present}
 use Rattle.session_block.specs.Block.{mark_in}
 use Rattle.session_block.proofs.mark_in.Goals as goal

@@ -1,11 +1,11 @@
 -- `session_block::put_marks` meets its contract. The invariant: the names so far stand at the front, and the bytes behind them are as they were.
 -- Assumes nothing.
 use mathlib.Core.Path.{◌≡◌, refl}
-use Prim.Native.Nat.{◌≤◌, ◌<◌, ◌-◌}
+use Prim.Native.Nat.{◌<◌}
 use native.Mathlib.Omega.{arith}
 use lib.ListN.{length}
 use borrow.Author.Rules.{rules}
-use Rattle.session_block.proofs.Block.{NamesPut, names_none, names_put, names_all}
+use Rattle.session_block.proofs.Block.{names_none, names_put, names_all}
 use Rattle.session_block.proofs.put_marks.Goals as goal
 
 pub loop-i-init : goal.loop-i-init

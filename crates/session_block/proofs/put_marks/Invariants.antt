@@ -1,11 +1,9 @@
 -- `session_block::put_marks` meets its contract. The invariant: the names so far stand at the front, and the bytes behind them are as they were.
 -- Assumes nothing.
-use mathlib.Core.Path.{◌≡◌, refl}
-use Prim.Native.Nat.{◌≤◌, ◌<◌, ◌-◌}
-use native.Mathlib.Omega.{arith}
+use mathlib.Core.Path.{◌≡◌}
+use Prim.Native.Nat.{◌≤◌, ◌-◌}
 use lib.ListN.{length}
-use borrow.Author.Rules.{rules}
-use Rattle.session_block.proofs.Block.{NamesPut, names_none, names_put, names_all}
+use Rattle.session_block.proofs.Block.{NamesPut}
 use Rattle.session_block.proofs.put_marks.Given as goal
 
 abbrev pub invariant-loop-i : goal.invariant-loop-i

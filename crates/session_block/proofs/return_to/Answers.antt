@@ -1,7 +1,6 @@
 -- `session_block::return_to` meets its contract.
 -- Assumes nothing.
 use mathlib.Core.Path.{ap, ◌∙◌}
-use borrow.Author.Rules.{rules}
 use Rattle.session.specs.Session.{return_step}
 use Rattle.session.specs.History as history
 use Rattle.session_block.specs.Block.{step_on}

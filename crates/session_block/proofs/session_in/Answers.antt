@@ -1,6 +1,5 @@
 -- `session_block::session_in` meets its contract.
 -- Assumes nothing.
-use borrow.Author.Rules.{rules}
 use Rattle.session_block.proofs.Block.{session_taken}
 use Rattle.session_block.proofs.session_in.Goals as goal
 

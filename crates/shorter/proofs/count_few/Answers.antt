@@ -1,10 +1,8 @@
 -- `shorter::count_few` meets its contract. The loop's invariant: `few` is the count over the bytes passed, and so at most their number.
 -- Assumes nothing.
-use mathlib.Core.Path.{◌≡◌, refl}
-use Prim.Native.Nat.{◌≤◌, ◌-◌}
+use mathlib.Core.Path.{refl}
 use native.Mathlib.Omega.{arith}
 use borrow.Author.Rules.{rules}
-use lib.ListN.{length}
 use Rattle.ring.specs.Polynomial.{count}
 use Rattle.ring.specs.Table.{present}
 use Rattle.ring.proofs.Parity.{count_most}

@@ -1,14 +1,10 @@
 -- `shorter::count_few` meets its contract. The loop's invariant: `few` is the count over the bytes passed, and so at most their number.
 -- Assumes nothing.
-use mathlib.Core.Path.{◌≡◌, refl}
+use mathlib.Core.Path.{◌≡◌}
 use Prim.Native.Nat.{◌≤◌, ◌-◌}
-use native.Mathlib.Omega.{arith}
-use borrow.Author.Rules.{rules}
 use lib.ListN.{length}
 use Rattle.ring.specs.Polynomial.{count}
 use Rattle.ring.specs.Table.{present}
-use Rattle.ring.proofs.Parity.{count_most}
-use Rattle.shorter.proofs.Counting.{byte_more, all_counted}
 use Rattle.shorter.proofs.count_few.Given as goal
 
 abbrev pub invariant-loop-i : goal.invariant-loop-i

@@ -1,16 +1,10 @@
 -- `shorter::count_present` meets its contract. The loop's invariant: `found` is the count over the blocks passed.
 -- Assumes nothing.
-use mathlib.Core.Path.{◌≡◌, refl}
-use mathlib.Core.List.{List}
-use Prim.Native.Nat.{ℕ, ◌+◌, ◌≤◌, ◌-◌}
-use native.Mathlib.Omega.{arith}
-use borrow.Author.Rules.{rules}
-use lib.ListN.{length, drop, length-take}
+use mathlib.Core.Path.{◌≡◌}
+use Prim.Native.Nat.{◌≤◌, ◌-◌}
+use lib.ListN.{length}
 use Rattle.ring.specs.Polynomial.{count}
 use Rattle.ring.specs.Table.{present}
-use Rattle.ring.proofs.Parity.{count_most}
-use Rattle.tables.proofs.Bits.{bits_drop, bits_take}
-use Rattle.shorter.proofs.Counting.{block_more, all_counted}
 use Rattle.shorter.proofs.count_present.Given as goal
 
 abbrev pub invariant-loop-start : goal.invariant-loop-start

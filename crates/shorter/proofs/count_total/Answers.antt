@@ -1,6 +1,5 @@
 -- `shorter::count_total` meets its contract: the bytes of the part are those of all unknowns.
 -- Assumes nothing.
-use borrow.Author.Rules.{rules}
 use Rattle.shorter.proofs.Counting.{part_total}
 use Rattle.shorter.proofs.count_total.Goals as goal
 

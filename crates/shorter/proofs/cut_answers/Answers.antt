@@ -4,7 +4,6 @@ use mathlib.Core.Path.{refl, sym}
 use Prim.Native.Nat.{◌≤◌}
 use native.Mathlib.Nat.{add-mul, mul-le-mul}
 use native.Mathlib.Omega.{arith}
-use borrow.Author.Rules.{rules}
 use lib.Seq.{length-take-le}
 use Rattle.tables.proofs.Questions.{pow_small}
 use Rattle.shorter.proofs.cut_answers.Goals as goal

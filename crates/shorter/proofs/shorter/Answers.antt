@@ -2,7 +2,6 @@
 -- Assumes nothing.
 use mathlib.Core.Path.{◌∙◌}
 use mathlib.Core.Bool.{true, false}
-use borrow.Author.Rules.{rules}
 use Rattle.shorter.proofs.Calls.{Taken, taken, part_none}
 use Rattle.shorter.proofs.shorter.Goals as goal
 

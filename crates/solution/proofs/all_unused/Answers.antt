@@ -1,11 +1,7 @@
 -- `solution::all_unused` meets its contract: every byte so far is 255. Assumes nothing.
-use mathlib.Core.Path.{◌≡◌, refl}
-use mathlib.Core.Bool.{true}
-use Prim.Native.Nat.{◌-◌, ◌≤◌}
+use mathlib.Core.Path.{refl}
 use borrow.Author.Rules.{rules}
 use borrow.Author.Tests.{eq-eqb, ne_eqb}
-use lib.Dec.{eqb}
-use lib.ListN.{length, get_or}
 use Rattle.ring.specs.Polynomial.{every_below}
 use Rattle.solution.proofs.OrderAsked.{every_more, every_end, every_fails}
 use Rattle.solution.proofs.all_unused.Goals as goal

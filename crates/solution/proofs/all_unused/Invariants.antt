@@ -1,13 +1,10 @@
 -- `solution::all_unused` meets its contract: every byte so far is 255. Assumes nothing.
-use mathlib.Core.Path.{◌≡◌, refl}
+use mathlib.Core.Path.{◌≡◌}
 use mathlib.Core.Bool.{true}
 use Prim.Native.Nat.{◌-◌, ◌≤◌}
-use borrow.Author.Rules.{rules}
-use borrow.Author.Tests.{eq-eqb, ne_eqb}
 use lib.Dec.{eqb}
 use lib.ListN.{length, get_or}
 use Rattle.ring.specs.Polynomial.{every_below}
-use Rattle.solution.proofs.OrderAsked.{every_more, every_end, every_fails}
 use Rattle.solution.proofs.all_unused.Given as goal
 
 abbrev pub invariant-loop-i : goal.invariant-loop-i

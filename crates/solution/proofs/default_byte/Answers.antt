@@ -1,6 +1,5 @@
 -- `solution::default_byte` meets its contract. Assumes nothing.
 use native.Mathlib.Omega.{arith}
-use borrow.Author.Rules.{rules}
 use Rattle.solution.proofs.OrderAsked.{default_unknown, default_unused}
 use Rattle.solution.proofs.default_byte.Goals as goal
 

@@ -1,5 +1,4 @@
 -- `solution::default_order` meets its contract, byte by byte. Assumes nothing.
-use borrow.Author.Rules.{rules}
 use Rattle.ring.specs.Lists.{listed}
 use Rattle.solution.specs.Order.{order_bytes}
 use Rattle.solution.proofs.default_order.Goals as goal

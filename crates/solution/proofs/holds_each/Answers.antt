@@ -1,12 +1,9 @@
 -- `solution::holds_each` meets its contract: every number so far is there once. Assumes nothing.
 use mathlib.Core.Path.{◌≡◌, refl, sym, ◌∙◌}
-use mathlib.Core.Bool.{true}
-use Prim.Native.Nat.{ℕ, ◌-◌, ◌≤◌}
+use Prim.Native.Nat.{ℕ}
 use native.Mathlib.Omega.{arith}
 use borrow.Author.Rules.{rules}
 use borrow.Author.Tests.{eq-eqb, ne_eqb}
-use lib.Dec.{eqb}
-use Rattle.ring.specs.Lists.{times}
 use Rattle.ring.specs.Polynomial.{every_below}
 use Rattle.solution.proofs.OrderAsked.{every_more, every_end, every_fails}
 use Rattle.solution.proofs.holds_each.Goals as goal

@@ -1,8 +1,6 @@
 -- `solution::order_fits` meets its contract, test by test. Assumes nothing.
 use mathlib.Core.Path.{sym}
 use native.Mathlib.Omega.{arith}
-use borrow.Author.Rules.{rules}
-use borrow.Author.Tests.{not-true, not-false}
 use lib.Seq.{length-take-le}
 use Rattle.solution.proofs.OrderAsked.{many_refused, each_refused, rest_asked}
 use Rattle.solution.proofs.order_fits.Goals as goal

@@ -1,13 +1,9 @@
 -- `solution::times` meets its contract. The loop's invariant: the count so far and what the bytes from i on have make up the whole.
 -- Assumes nothing.
 use mathlib.Core.Path.{◌≡◌}
-use mathlib.Core.Logic.{⊎_elim}
 use Prim.Native.Nat.{◌+◌, ◌-◌, ◌≤◌}
-use native.Mathlib.Omega.{arith}
-use borrow.Author.Rules.{rules}
 use lib.ListN.{length, drop}
 use Rattle.ring.specs.Lists.{times}
-use Rattle.solution.proofs.OrderAsked.{counted_one, counted_none, counted}
 use Rattle.solution.proofs.times.Given as goal
 
 abbrev pub invariant-loop-i : goal.invariant-loop-i

@@ -3,7 +3,6 @@
 use mathlib.Core.Path.{refl, sym}
 use Prim.Native.Nat.{◌+◌, ◌≤◌}
 use native.Mathlib.Omega.{arith}
-use borrow.Author.Rules.{rules}
 use lib.Seq.{length-take-le}
 use Rattle.solver.proofs.Calls.{Passed, passed, all_small, solving_refused, solving_done}
 use Rattle.solver.proofs.ask_and_solve.Goals as goal

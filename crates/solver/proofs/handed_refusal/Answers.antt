@@ -1,7 +1,6 @@
 -- `solver::handed_refusal` meets its contract: 1, and then 4 and 8 in a chain.
 -- Assumes nothing.
 use native.Mathlib.Omega.{arith}
-use borrow.Author.Rules.{rules}
 use Rattle.solver.proofs.Calls.{small, all_fit}
 use Rattle.solver.proofs.Handed.{handed_letters_refused, handed_asked}
 use mathlib.Core.Path.{ap}

@@ -3,7 +3,6 @@
 use mathlib.Core.Path.{refl, sym}
 use Prim.Native.Nat.{◌+◌, ◌≤◌}
 use native.Mathlib.Omega.{arith}
-use borrow.Author.Rules.{rules}
 use lib.Seq.{length-take-le}
 use Rattle.solver.proofs.Calls.{all_small}
 use Rattle.solver.proofs.Handed.{HandedPassed, handed_passed, handed_refused, handed_done}

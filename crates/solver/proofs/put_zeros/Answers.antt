@@ -1,11 +1,7 @@
 -- `solver::put_zeros` meets its contract: the unknowns below x are at 0. Assumes nothing.
-use mathlib.Core.Path.{◌≡◌, refl, ◌∙◌}
-use Prim.Native.Nat.{◌≤◌, ◌-◌}
+use mathlib.Core.Path.{refl, ◌∙◌}
 use native.Mathlib.Omega.{arith}
 use borrow.Author.Rules.{rules}
-use lib.ListN.{length}
-use Rattle.solution.specs.Inner.ByPoints.{zero_choice}
-use Rattle.words.specs.Inner.Words.{words_of, bit_at}
 use Rattle.words.proofs.Words.{size_words}
 use Rattle.words.proofs.Turned.{machine_words}
 use Rattle.solver.proofs.Written.{zeros-start, zeros_more, zeros_end}

@@ -1,14 +1,9 @@
 -- `solver::put_zeros` meets its contract: the unknowns below x are at 0. Assumes nothing.
-use mathlib.Core.Path.{◌≡◌, refl, ◌∙◌}
+use mathlib.Core.Path.{◌≡◌}
 use Prim.Native.Nat.{◌≤◌, ◌-◌}
-use native.Mathlib.Omega.{arith}
-use borrow.Author.Rules.{rules}
 use lib.ListN.{length}
 use Rattle.solution.specs.Inner.ByPoints.{zero_choice}
 use Rattle.words.specs.Inner.Words.{words_of, bit_at}
-use Rattle.words.proofs.Words.{size_words}
-use Rattle.words.proofs.Turned.{machine_words}
-use Rattle.solver.proofs.Written.{zeros-start, zeros_more, zeros_end}
 use Rattle.solver.proofs.put_zeros.Given as goal
 
 abbrev pub invariant-loop-x : goal.invariant-loop-x

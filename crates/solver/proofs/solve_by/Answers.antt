@@ -1,9 +1,8 @@
 -- `solver::solve_by` meets its contract: the scratch has the length that the work needs.
 -- Assumes nothing.
 use mathlib.Core.Path.{sym, ap, ◌∙◌}
-use Prim.Native.Nat.{ℕ, ◌-◌, ◌*◌, ◌≤◌}
+use Prim.Native.Nat.{ℕ, ◌*◌, ◌≤◌}
 use native.Mathlib.Omega.{arith}
-use borrow.Author.Rules.{rules}
 use lib.Seq.{length-take-le}
 use Rattle.words.proofs.Letters.{count_small}
 use Rattle.solver.proofs.Tables.{words_fit}

@@ -1,7 +1,6 @@
 -- `solver::solving_refusal` meets its contract: 1, and then 17, 4 and 8 in a chain.
 -- Assumes nothing.
 use native.Mathlib.Omega.{arith}
-use borrow.Author.Rules.{rules}
 use Rattle.solver.proofs.Calls.{letters_refused, asked, small, all_fit}
 use mathlib.Core.Path.{ap}
 use mathlib.Core.Bool.{not}

@@ -1,7 +1,6 @@
 -- `solver::widened` meets its contract, byte by byte. Assumes nothing.
 use mathlib.Core.Path.{◌≡◌}
 use native.Mathlib.Omega.{arith}
-use borrow.Author.Rules.{rules}
 use lib.ListN.{length}
 use Rattle.solution.proofs.OrderAsked.{six_members}
 use Rattle.solver.proofs.widened.Goals as goal

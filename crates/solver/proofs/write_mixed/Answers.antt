@@ -1,18 +1,13 @@
 -- `solver::write_mixed` meets its contract: the tables of the unknowns below x are written, and counted. Assumes nothing.
-use mathlib.Core.Path.{◌≡◌, refl, sym, ◌∙◌}
-use Prim.Native.Nat.{◌≤◌, ◌-◌, ◌*◌, ◌^◌}
+use mathlib.Core.Path.{refl, sym, ◌∙◌}
 use native.Mathlib.Nat.{zero-mul}
 use native.Mathlib.Omega.{arith}
 use borrow.Author.Rules.{rules}
-use lib.ListN.{length}
-use Rattle.ring.specs.Polynomial.{value}
 use Rattle.ring.specs.Length.{total_count}
-use Rattle.tables.proofs.Filled.{filled, filled-start}
-use Rattle.words.specs.Inner.Words.{bit_at}
+use Rattle.tables.proofs.Filled.{filled-start}
 use Rattle.words.proofs.Words.{size_words}
 use Rattle.words.proofs.Parts.{part_fits, part_length_lem}
-use Rattle.solver.specs.Inner.Words.{part_value, mixed_value}
-use Rattle.solver.proofs.Tables.{answer_byte, tables_more, tables_done, total_more, total_small, total_done, mixed_table}
+use Rattle.solver.proofs.Tables.{tables_more, tables_done, total_more, total_small, total_done, mixed_table}
 use Rattle.solver.proofs.write_mixed.Goals as goal
 
 pub loop-x-init : goal.loop-x-init

@@ -1,16 +1,12 @@
 -- `solver::write_tables` meets its contract: the tables of the unknowns below x are written, and counted. Assumes nothing.
-use mathlib.Core.Path.{◌≡◌, refl, ◌∙◌}
-use Prim.Native.Nat.{◌≤◌, ◌-◌, ◌*◌, ◌^◌}
+use mathlib.Core.Path.{refl, ◌∙◌}
 use native.Mathlib.Nat.{zero-mul}
 use native.Mathlib.Omega.{arith}
 use borrow.Author.Rules.{rules}
-use lib.ListN.{length}
-use Rattle.ring.specs.Polynomial.{value}
 use Rattle.ring.specs.Length.{total_count}
-use Rattle.tables.proofs.Filled.{filled, filled-start}
+use Rattle.tables.proofs.Filled.{filled-start}
 use Rattle.words.proofs.Parts.{part_fits, part_length_lem}
-use Rattle.solver.specs.Inner.Words.{part_value}
-use Rattle.solver.proofs.Tables.{answer_byte, tables_more, tables_done, total_more, total_small, total_done, copied_table}
+use Rattle.solver.proofs.Tables.{tables_more, tables_done, total_more, total_small, total_done, copied_table}
 use Rattle.solver.proofs.write_tables.Goals as goal
 
 pub loop-x-init : goal.loop-x-init

@@ -1,14 +1,12 @@
 -- `tables::add_into` meets its contract. The loop answers from the front; on bytes that are 0 or 1 its operation is the sum.
 -- Assumes nothing.
-use mathlib.Core.Path.{◌≡◌, refl}
-use Prim.Native.Nat.{◌≤◌, ◌-◌}
+use mathlib.Core.Path.{refl}
 use borrow.Author.Rules.{rules}
 use lib.Bits.{bit_xor}
-use lib.ListN.{length}
 use Rattle.ring.specs.Polynomial.{sum}
 use Rattle.ring.specs.Table.{present}
 use Rattle.tables.proofs.Bits.{xor_bytes}
-use Rattle.tables.proofs.Filled.{filled, filled-start, combined, combined_more, combined_end}
+use Rattle.tables.proofs.Filled.{filled-start, combined_more, combined_end}
 use Rattle.tables.proofs.add_into.Goals as goal
 
 pub loop-i-init : goal.loop-i-init

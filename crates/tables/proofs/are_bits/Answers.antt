@@ -1,10 +1,7 @@
 -- `tables::are_bits` meets its contract. The loop's invariant: the union so far is at most 1 exactly if the bytes so far are.
 -- Assumes nothing.
-use mathlib.Core.Path.{◌≡◌, refl}
-use Prim.Native.Nat.{◌≤◌, ◌-◌}
+use mathlib.Core.Path.{refl}
 use borrow.Author.Rules.{rules}
-use lib.Dec.{leb}
-use lib.ListN.{length, take}
 use Rattle.tables.specs.Questions.{are_bits}
 use Rattle.tables.proofs.Bits.{bits_more, bits_end}
 use Rattle.tables.proofs.are_bits.Goals as goal

@@ -1,6 +1,5 @@
 -- `tables::ask` meets its contract: an earlier no is kept, and otherwise the answer decides.
 -- Assumes nothing.
-use borrow.Author.Rules.{rules}
 use Rattle.tables.specs.Questions.{first_no}
 use Rattle.tables.specs.Inner.Asking.{also}
 use Rattle.tables.proofs.FirstNo.{also_kept}

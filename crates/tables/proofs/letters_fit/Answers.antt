@@ -1,6 +1,5 @@
 -- `tables::letters_fit` meets its contract, test by test.
 -- Assumes nothing.
-use borrow.Author.Rules.{rules}
 use borrow.Author.Tests.{le-leb, lt-leb}
 use Rattle.tables.specs.Questions.{letters_fit}
 use Rattle.tables.proofs.letters_fit.Goals as goal

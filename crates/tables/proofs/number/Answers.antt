@@ -1,6 +1,5 @@
 -- `tables::number` meets its contract: what each arm knows of the question gives its number.
 -- Assumes nothing.
-use borrow.Author.Rules.{rules}
 use Rattle.tables.proofs.number.Goals as goal
 
 pub returns-in-Letters : goal.returns-in-Letters

@@ -2,7 +2,6 @@
 use mathlib.Core.Path.{◌≡◌, ap, ◌∙◌}
 use mathlib.Core.List.{[]}
 use lib.ListN.{drop}
-use borrow.Author.Rules.{rules}
 use Rattle.tables.proofs.Questions.{failed, passed}
 use Rattle.tables.proofs.Slices.{rest_of}
 use Rattle.tables.specs.Answered.{answered}

@@ -1,13 +1,10 @@
 -- The invariant: the walk's answer is what it is from `at` on, behind the entries passed, which are no more than the bytes passed; and `at`
 -- is not below the place.
 -- The measure is what is left of the volume. Assumes nothing.
-use mathlib.Core.Path.{◌≡◌, refl}
-use Prim.Native.Nat.{◌+◌, ◌-◌, ◌≤◌, ◌<◌}
-use native.Mathlib.Omega.{arith}
+use mathlib.Core.Path.{◌≡◌}
+use Prim.Native.Nat.{◌-◌, ◌≤◌}
 use lib.ListN.{length, drop}
-use borrow.Author.Rules.{rules}
 use Rattle.calls.specs.Walk.{walk_behind, walk_reply}
-use Rattle.volume.proofs.Turns.{walk_ends, walk_refused, walk_passed, some_used, used_within}
 use Rattle.volume.proofs.walk_at.Given as goal
 
 abbrev pub invariant-loop-at : goal.invariant-loop-at

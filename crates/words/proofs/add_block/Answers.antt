@@ -1,10 +1,8 @@
 -- `words::add_block` meets its contract. The loop's invariant is the run of stores itself.
 -- Assumes nothing.
 use mathlib.Core.Path.{◌≡◌, refl, ap, ◌∙◌}
-use Prim.Native.Nat.{◌≤◌, ◌-◌}
 use native.Mathlib.Omega.{arith}
 use borrow.Author.Rules.{rules}
-use lib.ListN.{length}
 use Rattle.words.specs.Inner.Words.{xor_run}
 use Rattle.words.proofs.Steps.{run_more}
 use Rattle.words.proofs.add_block.Goals as goal

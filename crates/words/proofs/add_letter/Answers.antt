@@ -1,15 +1,14 @@
 -- `words::add_letter` meets its contract. Assumes nothing.
 use mathlib.Core.Path.{◌≡◌, refl}
-use Prim.Native.Nat.{◌≤◌, ◌-◌, ◌<◌, ◌^◌}
-use native.Mathlib.Omega.{arith}
+use Prim.Native.Nat.{◌<◌, ◌^◌}
 use borrow.Author.Rules.{rules}
-use lib.ListN.{length, get_or}
+use lib.ListN.{get_or}
 use Rattle.tables.proofs.Filled.{filled-start, filled_read}
 use Rattle.words.proofs.Words.{words_end}
 use Rattle.ring.specs.Letters.{bit}
 use Rattle.ring.specs.Polynomial.{◌⊕◌}
 use Rattle.words.specs.Inner.Words.{bit_at}
-use Rattle.words.proofs.Holds.{words_to, read_holds, word_holds, xor_holds, words_more}
+use Rattle.words.proofs.Holds.{read_holds, word_holds, xor_holds, words_more}
 use Rattle.words.proofs.add_letter.Goals as goal
 
 pub loop-i-init : goal.loop-i-init

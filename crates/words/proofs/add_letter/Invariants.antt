@@ -1,15 +1,11 @@
 -- `words::add_letter` meets its contract. Assumes nothing.
-use mathlib.Core.Path.{◌≡◌, refl}
-use Prim.Native.Nat.{◌≤◌, ◌-◌, ◌<◌, ◌^◌}
-use native.Mathlib.Omega.{arith}
-use borrow.Author.Rules.{rules}
-use lib.ListN.{length, get_or}
-use Rattle.tables.proofs.Filled.{filled-start, filled_read}
-use Rattle.words.proofs.Words.{words_end}
+use mathlib.Core.Path.{◌≡◌}
+use Prim.Native.Nat.{◌≤◌, ◌-◌}
+use lib.ListN.{length}
 use Rattle.ring.specs.Letters.{bit}
 use Rattle.ring.specs.Polynomial.{◌⊕◌}
 use Rattle.words.specs.Inner.Words.{bit_at}
-use Rattle.words.proofs.Holds.{words_to, read_holds, word_holds, xor_holds, words_more}
+use Rattle.words.proofs.Holds.{words_to}
 use Rattle.words.proofs.add_letter.Given as goal
 
 abbrev pub invariant-loop-i : goal.invariant-loop-i

@@ -1,7 +1,6 @@
 -- `words::bit_of` meets its contract. Assumes nothing.
 use Prim.Native.Nat.{◌^◌, ◌/◌}
 use native.Mathlib.Omega.{arith}
-use borrow.Author.Rules.{rules}
 use lib.Bits.{and_le_r}
 use Rattle.words.proofs.Packing.{bit-code}
 use Rattle.words.proofs.bit_of.Goals as goal

@@ -1,6 +1,5 @@
 -- `words::both_cases` meets its contract. Assumes nothing.
 use native.Mathlib.Omega.{arith}
-use borrow.Author.Rules.{rules}
 use Rattle.words.proofs.Words.{size_words}
 use Rattle.words.proofs.Holds.{words_sized}
 use Rattle.words.proofs.Turned.{both_done}

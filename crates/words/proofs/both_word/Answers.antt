@@ -1,6 +1,5 @@
 -- `words::both_word` meets its contract. Assumes nothing.
 use native.Mathlib.Omega.{arith}
-use borrow.Author.Rules.{rules}
 use Rattle.words.proofs.Turned.{both_word}
 use Rattle.words.proofs.both_word.Goals as goal
 

@@ -1,11 +1,9 @@
 -- `words::copy` meets its contract. The loop fills the destination from the front.
 -- Assumes nothing.
-use mathlib.Core.Path.{◌≡◌, refl, ◌∙◌}
-use Prim.Native.Nat.{◌≤◌, ◌-◌}
+use mathlib.Core.Path.{refl, ◌∙◌}
 use borrow.Author.Rules.{rules}
-use lib.ListN.{length, get_or}
 use Rattle.ring.proofs.Lists.{listed_get_d}
-use Rattle.tables.proofs.Filled.{filled, filled-start, filled_more, filled_end}
+use Rattle.tables.proofs.Filled.{filled-start, filled_more, filled_end}
 use Rattle.words.proofs.copy.Goals as goal
 
 pub loop-i-init : goal.loop-i-init

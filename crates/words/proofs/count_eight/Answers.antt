@@ -1,6 +1,5 @@
 -- `words::count_eight` meets its contract. Assumes nothing.
 use native.Mathlib.Omega.{arith}
-use borrow.Author.Rules.{rules}
 use Rattle.words.proofs.Counts.{eight_words}
 use Rattle.words.proofs.count_eight.Goals as goal
 

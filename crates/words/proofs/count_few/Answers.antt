@@ -5,7 +5,6 @@ use native.Mathlib.Nat.{one-mul}
 use native.Mathlib.Omega.{arith}
 use lib.Dec.{lit<}
 use lib.Pow.{pow_pos, pow_mono, shl_exact}
-use borrow.Author.Rules.{rules}
 use Rattle.ring.specs.Letters.{bit}
 use Rattle.ring.specs.Polynomial.{count}
 use Rattle.words.proofs.Counts.{ones_front}

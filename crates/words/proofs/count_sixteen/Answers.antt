@@ -1,7 +1,6 @@
 -- `words::count_sixteen` meets its contract. Assumes nothing.
 use mathlib.Core.Path.{◌∙◌}
 use native.Mathlib.Omega.{arith}
-use borrow.Author.Rules.{rules}
 use lib.ListN.{set}
 use lib.Seq.{get_or-set_other}
 use Rattle.words.proofs.Counts.{sixteen_words}

@@ -1,13 +1,9 @@
 -- `words::cross_all` meets its contract. Assumes nothing.
-use mathlib.Core.Path.{◌≡◌, refl}
+use mathlib.Core.Path.{◌≡◌}
 use Prim.Native.Nat.{◌≤◌, ◌-◌}
-use borrow.Author.Rules.{rules}
 use lib.ListN.{length}
-use Rattle.tables.proofs.Filled.{filled-start}
 use Rattle.words.specs.Inner.Words.{bit_at, crossed}
-use Rattle.words.proofs.Words.{words_end}
 use Rattle.words.proofs.Holds.{words_to}
-use Rattle.words.proofs.Crossing.{cross_more}
 use Rattle.words.proofs.cross_all.Given as goal
 
 abbrev pub invariant-loop-i : goal.invariant-loop-i

@@ -1,5 +1,4 @@
 -- `words::eight` meets its contract. Assumes nothing.
-use borrow.Author.Rules.{rules}
 use Rattle.words.proofs.Crossing.{eight_read}
 use Rattle.words.proofs.eight.Goals as goal
 

@@ -1,12 +1,9 @@
 -- `words::first_one` meets its contract. Assumes nothing.
-use mathlib.Core.Path.{◌≡◌}
-use Prim.Native.Nat.{ℕ, ◌≤◌, ◌-◌, ◌*◌, ◌<◌, ◌^◌}
+use Prim.Native.Nat.{◌<◌, ◌^◌}
 use native.Mathlib.Omega.{arith}
 use borrow.Author.Rules.{rules}
-use lib.ListN.{length, get_or}
-use mathlib.Core.Bool.{false}
+use lib.ListN.{get_or}
 use lib.Count.{trailing_le}
-use Rattle.words.specs.Inner.Words.{bit_at}
 use Rattle.words.proofs.Counts.{trailing_first, none_more, first_found, first_none}
 use Rattle.words.proofs.first_one.Goals as goal
 

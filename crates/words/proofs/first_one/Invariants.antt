@@ -1,13 +1,9 @@
 -- `words::first_one` meets its contract. Assumes nothing.
 use mathlib.Core.Path.{◌≡◌}
-use Prim.Native.Nat.{ℕ, ◌≤◌, ◌-◌, ◌*◌, ◌<◌, ◌^◌}
-use native.Mathlib.Omega.{arith}
-use borrow.Author.Rules.{rules}
-use lib.ListN.{length, get_or}
+use Prim.Native.Nat.{ℕ, ◌≤◌, ◌-◌, ◌*◌, ◌<◌}
+use lib.ListN.{length}
 use mathlib.Core.Bool.{false}
-use lib.Count.{trailing_le}
 use Rattle.words.specs.Inner.Words.{bit_at}
-use Rattle.words.proofs.Counts.{trailing_first, none_more, first_found, first_none}
 use Rattle.words.proofs.first_one.Given as goal
 
 abbrev pub invariant-loop-i : goal.invariant-loop-i

@@ -1,13 +1,9 @@
 -- `words::flip` meets its contract: the higher letters at once, and the others one by one.
 -- Assumes nothing.
-use mathlib.Core.Path.{◌≡◌, refl, sym, ◌∙◌}
-use mathlib.Core.Logic.{⊎_elim}
+use mathlib.Core.Path.{◌≡◌}
 use Prim.Native.Nat.{◌≤◌, ◌-◌, ◌+◌, ◌^◌}
-use borrow.Author.Rules.{rules}
 use Rattle.words.specs.Inner.Words.{words_of, bit_at}
-use Rattle.words.proofs.Words.{size_words}
-use Rattle.words.proofs.Holds.{words_sized}
-use Rattle.words.proofs.Flipped.{mask_high, flipped_to, flip_start, flip_more, flip_skip, flip_end}
+use Rattle.words.proofs.Flipped.{flipped_to}
 use Rattle.words.proofs.flip.Given as goal
 
 abbrev pub invariant-loop-x : goal.invariant-loop-x

@@ -1,15 +1,15 @@
 -- `words::flip_high` meets its contract. Assumes nothing.
-use mathlib.Core.Path.{◌≡◌, refl}
-use Prim.Native.Nat.{◌≤◌, ◌-◌, ◌+◌, ◌*◌, ◌<◌, ◌^◌}
+use mathlib.Core.Path.{refl}
+use Prim.Native.Nat.{◌+◌, ◌*◌, ◌<◌, ◌^◌}
 use native.Mathlib.Omega.{arith}
 use borrow.Author.Rules.{rules}
 use lib.Bits.{bit_xor}
-use lib.ListN.{length, get_or}
+use lib.ListN.{get_or}
 use Rattle.ring.specs.Derivative.{flipped}
 use Rattle.tables.proofs.Filled.{filled-start}
 use Rattle.words.specs.Inner.Words.{bit_at}
 use Rattle.words.proofs.Words.{words_filled}
-use Rattle.words.proofs.Holds.{words_to, words_more}
+use Rattle.words.proofs.Holds.{words_more}
 use Rattle.words.proofs.Flipped.{flip_room, flip_high_holds}
 use Rattle.words.proofs.flip_high.Goals as goal
 

@@ -1,16 +1,10 @@
 -- `words::flip_high` meets its contract. Assumes nothing.
-use mathlib.Core.Path.{◌≡◌, refl}
-use Prim.Native.Nat.{◌≤◌, ◌-◌, ◌+◌, ◌*◌, ◌<◌, ◌^◌}
-use native.Mathlib.Omega.{arith}
-use borrow.Author.Rules.{rules}
-use lib.Bits.{bit_xor}
-use lib.ListN.{length, get_or}
+use mathlib.Core.Path.{◌≡◌}
+use Prim.Native.Nat.{◌≤◌, ◌-◌, ◌+◌, ◌*◌}
+use lib.ListN.{length}
 use Rattle.ring.specs.Derivative.{flipped}
-use Rattle.tables.proofs.Filled.{filled-start}
 use Rattle.words.specs.Inner.Words.{bit_at}
-use Rattle.words.proofs.Words.{words_filled}
-use Rattle.words.proofs.Holds.{words_to, words_more}
-use Rattle.words.proofs.Flipped.{flip_room, flip_high_holds}
+use Rattle.words.proofs.Holds.{words_to}
 use Rattle.words.proofs.flip_high.Given as goal
 
 abbrev pub invariant-loop-i : goal.invariant-loop-i

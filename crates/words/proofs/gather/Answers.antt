@@ -1,5 +1,4 @@
 -- `words::gather` meets its contract. Assumes nothing.
-use borrow.Author.Rules.{rules}
 use Rattle.ring.specs.Table.{present}
 use Rattle.words.proofs.Crossing.{rows_word}
 use Rattle.words.proofs.gather.Goals as goal

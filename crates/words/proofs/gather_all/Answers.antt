@@ -1,13 +1,13 @@
 -- `words::gather_all` meets its contract. Assumes nothing.
 use mathlib.Core.Path.{◌≡◌, refl}
-use Prim.Native.Nat.{◌≤◌, ◌-◌, ◌+◌, ◌*◌}
+use Prim.Native.Nat.{◌-◌, ◌+◌, ◌*◌}
 use native.Mathlib.Nat.{mul_comm}
 use native.Mathlib.Omega.{arith}
 use borrow.Author.Rules.{rules}
-use lib.ListN.{length, drop, length-take, length-drop}
+use lib.ListN.{drop, length-take, length-drop}
 use Rattle.ring.specs.Table.{present}
-use Rattle.tables.proofs.Filled.{filled, filled-start, filled_more}
-use Rattle.words.specs.Inner.Words.{word_of, crossed}
+use Rattle.tables.proofs.Filled.{filled-start, filled_more}
+use Rattle.words.specs.Inner.Words.{crossed}
 use Rattle.words.proofs.Words.{words_end}
 use Rattle.words.proofs.Packing.{part_bits}
 use Rattle.words.proofs.Crossing.{part_crossed}

@@ -1,16 +1,10 @@
 -- `words::gather_all` meets its contract. Assumes nothing.
-use mathlib.Core.Path.{◌≡◌, refl}
+use mathlib.Core.Path.{◌≡◌}
 use Prim.Native.Nat.{◌≤◌, ◌-◌, ◌+◌, ◌*◌}
-use native.Mathlib.Nat.{mul_comm}
-use native.Mathlib.Omega.{arith}
-use borrow.Author.Rules.{rules}
-use lib.ListN.{length, drop, length-take, length-drop}
+use lib.ListN.{length}
 use Rattle.ring.specs.Table.{present}
-use Rattle.tables.proofs.Filled.{filled, filled-start, filled_more}
+use Rattle.tables.proofs.Filled.{filled}
 use Rattle.words.specs.Inner.Words.{word_of, crossed}
-use Rattle.words.proofs.Words.{words_end}
-use Rattle.words.proofs.Packing.{part_bits}
-use Rattle.words.proofs.Crossing.{part_crossed}
 use Rattle.words.proofs.gather_all.Given as goal
 
 abbrev pub invariant-loop-w : goal.invariant-loop-w

@@ -1,10 +1,9 @@
 -- `words::gather_few` meets its contract. The invariant: the rows from row j on are gathered. Assumes nothing.
-use mathlib.Core.Path.{◌≡◌, refl}
-use Prim.Native.Nat.{◌-◌, ◌≤◌}
+use mathlib.Core.Path.{refl}
 use native.Mathlib.Omega.{arith}
 use borrow.Author.Rules.{rules}
 use Rattle.ring.specs.Table.{present}
-use Rattle.words.proofs.Crossing.{rows_from, rows_start, rows_bound, rows_next, rows_end}
+use Rattle.words.proofs.Crossing.{rows_start, rows_bound, rows_next, rows_end}
 use Rattle.words.proofs.gather_few.Goals as goal
 
 pub loop-j-init : goal.loop-j-init

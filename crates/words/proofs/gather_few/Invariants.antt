@@ -1,10 +1,8 @@
 -- `words::gather_few` meets its contract. The invariant: the rows from row j on are gathered. Assumes nothing.
-use mathlib.Core.Path.{◌≡◌, refl}
+use mathlib.Core.Path.{◌≡◌}
 use Prim.Native.Nat.{◌-◌, ◌≤◌}
-use native.Mathlib.Omega.{arith}
-use borrow.Author.Rules.{rules}
 use Rattle.ring.specs.Table.{present}
-use Rattle.words.proofs.Crossing.{rows_from, rows_start, rows_bound, rows_next, rows_end}
+use Rattle.words.proofs.Crossing.{rows_from}
 use Rattle.words.proofs.gather_few.Given as goal
 
 abbrev pub invariant-loop-j : goal.invariant-loop-j

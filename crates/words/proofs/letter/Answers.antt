@@ -1,12 +1,10 @@
 -- `words::letter` meets its contract. Assumes nothing.
-use mathlib.Core.Path.{◌≡◌, refl}
-use Prim.Native.Nat.{◌≤◌, ◌-◌}
+use mathlib.Core.Path.{refl}
 use borrow.Author.Rules.{rules}
-use lib.ListN.{length}
 use Rattle.tables.proofs.Filled.{filled-start}
 use Rattle.words.proofs.Words.{words_end}
 use Rattle.ring.specs.Letters.{bit}
-use Rattle.words.proofs.Holds.{words_to, word_holds, words_more}
+use Rattle.words.proofs.Holds.{word_holds, words_more}
 use Rattle.words.proofs.letter.Goals as goal
 
 pub loop-i-init : goal.loop-i-init

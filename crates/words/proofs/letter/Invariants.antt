@@ -1,12 +1,9 @@
 -- `words::letter` meets its contract. Assumes nothing.
-use mathlib.Core.Path.{◌≡◌, refl}
+use mathlib.Core.Path.{◌≡◌}
 use Prim.Native.Nat.{◌≤◌, ◌-◌}
-use borrow.Author.Rules.{rules}
 use lib.ListN.{length}
-use Rattle.tables.proofs.Filled.{filled-start}
-use Rattle.words.proofs.Words.{words_end}
 use Rattle.ring.specs.Letters.{bit}
-use Rattle.words.proofs.Holds.{words_to, word_holds, words_more}
+use Rattle.words.proofs.Holds.{words_to}
 use Rattle.words.proofs.letter.Given as goal
 
 abbrev pub invariant-loop-i : goal.invariant-loop-i

@@ -1,6 +1,5 @@
 -- `words::letter_word` meets its contract. Assumes nothing.
 use mathlib.Core.Path.{refl, ◌∙◌}
-use borrow.Author.Rules.{rules}
 use Rattle.words.proofs.Turned.{low_letter, high_letter}
 use Rattle.words.proofs.letter_word.Goals as goal
 

@@ -1,6 +1,5 @@
 -- `words::low_letter` meets its contract. Assumes nothing.
 use native.Mathlib.Omega.{arith}
-use borrow.Author.Rules.{rules}
 use Rattle.words.proofs.Turned.{no_letter}
 use Rattle.words.proofs.low_letter.Goals as goal
 

@@ -1,10 +1,8 @@
 -- `words::low_values` meets its contract. Assumes nothing.
-use mathlib.Core.Path.{◌≡◌, refl}
-use Prim.Native.Nat.{◌≤◌, ◌-◌, ◌+◌, ◌*◌}
+use mathlib.Core.Path.{refl}
 use borrow.Author.Rules.{rules}
-use lib.ListN.{length}
-use Rattle.tables.proofs.Filled.{filled, filled-start, filled_more, filled_read}
-use Rattle.words.specs.Inner.Words.{word_of, bit_at, stepped_below}
+use Rattle.tables.proofs.Filled.{filled-start, filled_more, filled_read}
+use Rattle.words.specs.Inner.Words.{bit_at, stepped_below}
 use Rattle.words.proofs.Words.{words_end}
 use Rattle.words.proofs.Transform.{low_word}
 use Rattle.words.proofs.low_values.Goals as goal

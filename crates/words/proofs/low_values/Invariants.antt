@@ -1,12 +1,9 @@
 -- `words::low_values` meets its contract. Assumes nothing.
-use mathlib.Core.Path.{◌≡◌, refl}
+use mathlib.Core.Path.{◌≡◌}
 use Prim.Native.Nat.{◌≤◌, ◌-◌, ◌+◌, ◌*◌}
-use borrow.Author.Rules.{rules}
 use lib.ListN.{length}
-use Rattle.tables.proofs.Filled.{filled, filled-start, filled_more, filled_read}
+use Rattle.tables.proofs.Filled.{filled}
 use Rattle.words.specs.Inner.Words.{word_of, bit_at, stepped_below}
-use Rattle.words.proofs.Words.{words_end}
-use Rattle.words.proofs.Transform.{low_word}
 use Rattle.words.proofs.low_values.Given as goal
 
 abbrev pub invariant-loop-i : goal.invariant-loop-i

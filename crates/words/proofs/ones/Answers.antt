@@ -1,7 +1,6 @@
 -- `words::ones` meets its contract. Assumes nothing.
-use Prim.Native.Nat.{◌≤◌}
 use native.Mathlib.Omega.{arith}
-use lib.Count.{ones, ones-le}
+use lib.Count.{ones-le}
 use Rattle.words.proofs.Counts.{ones-count}
 use Rattle.words.proofs.ones.Goals as goal
 

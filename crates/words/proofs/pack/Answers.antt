@@ -2,7 +2,6 @@
 use native.Mathlib.Omega.{arith}
 use Prim.Native.Nat.{◌-◌}
 use lib.Pow.{pow_pos}
-use borrow.Author.Rules.{rules}
 use Rattle.ring.specs.Table.{present}
 use Rattle.words.proofs.Packing.{small_word, small_size, large_size}
 use Rattle.words.proofs.Crossing.{crossed_back, word_back, eights}

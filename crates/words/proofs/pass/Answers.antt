@@ -1,10 +1,6 @@
 -- `words::pass` meets its contract. Assumes nothing.
-use mathlib.Core.Path.{◌≡◌}
-use Prim.Native.Nat.{◌≤◌, ◌+◌, ◌^◌}
 use native.Mathlib.Omega.{arith}
 use borrow.Author.Rules.{rules}
-use Rattle.ring.proofs.Transform.{stage}
-use Rattle.words.specs.Inner.Words.{words_of, bit_at}
 use Rattle.words.proofs.Words.{size_words}
 use Rattle.words.proofs.Transform.{stages_start, stages_next, stages_end}
 use Rattle.words.proofs.Turned.{machine_words}

@@ -1,7 +1,6 @@
 -- `words::put_copy` meets its contract. Assumes nothing.
 use mathlib.Core.Path.{sym, ◌∙◌}
 use Prim.Native.Nat.{◌≤◌}
-use borrow.Author.Rules.{rules}
 use lib.Seq.{length-take-le}
 use Rattle.words.proofs.Letters.{count_small}
 use Rattle.words.proofs.put_copy.Goals as goal

@@ -1,6 +1,5 @@
 -- `words::put_copy_with` meets its contract. Assumes nothing.
 use mathlib.Core.Path.{ap, ◌∙◌}
-use borrow.Author.Rules.{rules}
 use lib.ListN.{length}
 use Rattle.words.proofs.Letters.{put_copied}
 use Rattle.words.proofs.put_copy_with.Goals as goal

@@ -5,7 +5,6 @@ use Prim.Native.Nat.{ℕ, ◌-◌, ◌*◌, ◌^◌}
 use native.Mathlib.Omega.{arith}
 use lib.ListN.{length}
 use lib.Pow.{pow_pos}
-use borrow.Author.Rules.{rules}
 use Rattle.ring.specs.Polynomial.{count, value}
 use Rattle.ring.specs.Table.{present, tabulate, table}
 use Rattle.ring.specs.Length.{monomial_count}

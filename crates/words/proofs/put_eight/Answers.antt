@@ -1,6 +1,5 @@
 -- `words::put_eight` meets its contract. Assumes nothing.
 use native.Mathlib.Omega.{arith}
-use borrow.Author.Rules.{rules}
 use lib.ListN.{length-set}
 use Rattle.words.proofs.Crossing.{eight_put}
 use Rattle.words.proofs.put_eight.Goals as goal

@@ -1,14 +1,14 @@
 -- `words::put_zero` meets its contract. Assumes nothing.
 use mathlib.Core.Path.{◌≡◌, refl}
 use mathlib.Core.Bool.{false}
-use Prim.Native.Nat.{◌≤◌, ◌-◌, ◌<◌, ◌^◌}
+use Prim.Native.Nat.{◌<◌, ◌^◌}
 use native.Mathlib.Omega.{arith}
 use borrow.Author.Rules.{rules}
-use lib.ListN.{length, get_or}
+use lib.ListN.{get_or}
 use Rattle.ring.specs.Letters.{assign}
 use Rattle.tables.proofs.Filled.{filled-start, filled_read}
 use Rattle.words.specs.Inner.Words.{bit_at}
-use Rattle.words.proofs.Holds.{words_to, words_more}
+use Rattle.words.proofs.Holds.{words_more}
 use Rattle.words.proofs.Turned.{zero_holds}
 use Rattle.words.proofs.Bits.{width_small}
 use Rattle.words.proofs.Words.{words_end}

@@ -1,17 +1,11 @@
 -- `words::put_zero` meets its contract. Assumes nothing.
-use mathlib.Core.Path.{◌≡◌, refl}
+use mathlib.Core.Path.{◌≡◌}
 use mathlib.Core.Bool.{false}
-use Prim.Native.Nat.{◌≤◌, ◌-◌, ◌<◌, ◌^◌}
-use native.Mathlib.Omega.{arith}
-use borrow.Author.Rules.{rules}
-use lib.ListN.{length, get_or}
+use Prim.Native.Nat.{◌≤◌, ◌-◌}
+use lib.ListN.{length}
 use Rattle.ring.specs.Letters.{assign}
-use Rattle.tables.proofs.Filled.{filled-start, filled_read}
 use Rattle.words.specs.Inner.Words.{bit_at}
-use Rattle.words.proofs.Holds.{words_to, words_more}
-use Rattle.words.proofs.Turned.{zero_holds}
-use Rattle.words.proofs.Bits.{width_small}
-use Rattle.words.proofs.Words.{words_end}
+use Rattle.words.proofs.Holds.{words_to}
 use Rattle.words.proofs.put_zero.Given as goal
 
 abbrev pub invariant-loop-i : goal.invariant-loop-i

@@ -1,6 +1,6 @@
 -- `words::replace` meets its contract. Assumes nothing.
 use mathlib.Core.Path.{◌≡◌, refl}
-use Prim.Native.Nat.{◌≤◌, ◌-◌, ◌<◌, ◌^◌}
+use Prim.Native.Nat.{◌<◌, ◌^◌}
 use native.Mathlib.Omega.{arith}
 use borrow.Author.Rules.{rules}
 use lib.ListN.{length, get_or}
@@ -8,7 +8,7 @@ use Rattle.tables.proofs.Filled.{filled-start, filled_read}
 use Rattle.words.proofs.Words.{words_filled, size_words}
 use Rattle.ring.specs.Letters.{assign}
 use Rattle.words.specs.Inner.Words.{bit_at}
-use Rattle.words.proofs.Holds.{words_to, read_holds, word_holds, words_more}
+use Rattle.words.proofs.Holds.{read_holds, word_holds, words_more}
 use Rattle.words.proofs.Turned.{replace_holds}
 use Rattle.words.proofs.replace.Goals as goal
 

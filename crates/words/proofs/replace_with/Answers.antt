@@ -1,5 +1,4 @@
 -- `words::replace_with` meets its contract. Assumes nothing.
-use borrow.Author.Rules.{rules}
 use Rattle.words.proofs.Turned.{replace_copied}
 use Rattle.words.proofs.replace_with.Goals as goal
 

@@ -1,6 +1,5 @@
 -- `words::replace_word` meets its contract. Assumes nothing.
 use native.Mathlib.Omega.{arith}
-use borrow.Author.Rules.{rules}
 use Rattle.words.proofs.Turned.{replace_word}
 use Rattle.words.proofs.replace_word.Goals as goal
 

@@ -1,13 +1,12 @@
 -- `words::step_words` meets its contract. Assumes nothing.
-use mathlib.Core.Path.{◌≡◌}
-use Prim.Native.Nat.{◌≤◌, ◌-◌, ◌+◌, ◌*◌}
+use Prim.Native.Nat.{◌≤◌, ◌+◌, ◌*◌}
 use native.Mathlib.Omega.{arith}
 use native.Mathlib.Nat.{zero-mul}
 use Rattle.tables.proofs.Questions.{pow_small}
-use Rattle.words.proofs.Steps.{step_word, room_at, block_more}
+use Rattle.words.proofs.Steps.{room_at, block_more}
 use borrow.Author.Rules.{rules}
 use lib.ListN.{length}
-use Rattle.tables.proofs.Filled.{filled, filled-start}
+use Rattle.tables.proofs.Filled.{filled-start}
 use Rattle.words.proofs.Transform.{over_done}
 use Rattle.words.proofs.Turned.{machine_words}
 use Rattle.words.proofs.step_words.Goals as goal

@@ -1,15 +1,9 @@
 -- `words::step_words` meets its contract. Assumes nothing.
 use mathlib.Core.Path.{◌≡◌}
-use Prim.Native.Nat.{◌≤◌, ◌-◌, ◌+◌, ◌*◌}
-use native.Mathlib.Omega.{arith}
-use native.Mathlib.Nat.{zero-mul}
-use Rattle.tables.proofs.Questions.{pow_small}
-use Rattle.words.proofs.Steps.{step_word, room_at, block_more}
-use borrow.Author.Rules.{rules}
+use Prim.Native.Nat.{◌≤◌, ◌-◌, ◌*◌}
+use Rattle.words.proofs.Steps.{step_word}
 use lib.ListN.{length}
-use Rattle.tables.proofs.Filled.{filled, filled-start}
-use Rattle.words.proofs.Transform.{over_done}
-use Rattle.words.proofs.Turned.{machine_words}
+use Rattle.tables.proofs.Filled.{filled}
 use Rattle.words.proofs.step_words.Given as goal
 
 abbrev pub invariant-loop-b : goal.invariant-loop-b

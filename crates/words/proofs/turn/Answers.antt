@@ -1,5 +1,4 @@
 -- `words::turn` meets its contract. Assumes nothing.
-use borrow.Author.Rules.{rules}
 use Rattle.words.proofs.Holds.{words_sized}
 use Rattle.words.proofs.Flipped.{high_small, turned_high}
 use Rattle.words.proofs.turn.Goals as goal

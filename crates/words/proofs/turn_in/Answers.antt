@@ -1,14 +1,13 @@
 -- `words::turn_in` meets its contract. Assumes nothing.
 use mathlib.Core.Path.{◌≡◌, refl}
-use Prim.Native.Nat.{◌≤◌, ◌-◌, ◌<◌, ◌^◌}
-use native.Mathlib.Omega.{arith}
+use Prim.Native.Nat.{◌<◌, ◌^◌}
 use borrow.Author.Rules.{rules}
-use lib.ListN.{length, get_or}
+use lib.ListN.{get_or}
 use Rattle.tables.proofs.Filled.{filled-start, filled_read}
 use Rattle.words.specs.Inner.Words.{bit_at, turned}
 use Rattle.words.proofs.Bits.{width_small}
 use Rattle.words.proofs.Words.{words_end}
-use Rattle.words.proofs.Holds.{words_to, words_more}
+use Rattle.words.proofs.Holds.{words_more}
 use Rattle.words.proofs.Turned.{turn_low_holds}
 use Rattle.words.proofs.turn_in.Goals as goal
 

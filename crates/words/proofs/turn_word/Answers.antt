@@ -1,6 +1,5 @@
 -- `words::turn_word` meets its contract. Assumes nothing.
 use native.Mathlib.Omega.{arith}
-use borrow.Author.Rules.{rules}
 use Rattle.words.proofs.Bits.{width_small}
 use Rattle.words.proofs.Turned.{word_turned}
 use Rattle.words.proofs.turn_word.Goals as goal

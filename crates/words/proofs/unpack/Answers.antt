@@ -4,7 +4,6 @@ use Prim.Native.Nat.{ℕ, ◌-◌, ◌^◌}
 use native.Mathlib.Omega.{arith}
 use lib.ListN.{length}
 use lib.Pow.{pow_pos}
-use borrow.Author.Rules.{rules}
 use Rattle.ring.specs.Table.{tabulate, table}
 use Rattle.words.specs.Inner.Words.{bit_at}
 use Rattle.words.proofs.Words.{size_words}

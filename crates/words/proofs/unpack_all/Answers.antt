@@ -2,7 +2,6 @@
 use mathlib.Core.Path.{refl}
 use Prim.Native.Nat.{◌*◌}
 use native.Mathlib.Omega.{arith}
-use borrow.Author.Rules.{rules}
 use Rattle.tables.proofs.Filled.{filled, filled-start, filled_whole}
 use Rattle.words.specs.Inner.Words.{bit_at, crossed}
 use Rattle.words.proofs.unpack_all.Goals as goal

@@ -1,12 +1,9 @@
 -- `words::unpack_each` meets its contract. Assumes nothing.
-use mathlib.Core.Path.{◌≡◌, refl}
-use Prim.Native.Nat.{◌≤◌, ◌-◌}
+use mathlib.Core.Path.{refl}
 use native.Mathlib.Omega.{arith}
 use borrow.Author.Rules.{rules}
 use lib.Bits.{and_mask}
-use lib.ListN.{length}
-use Rattle.ring.specs.Letters.{digit}
-use Rattle.tables.proofs.Filled.{filled, filled-start, filled_more, filled_whole}
+use Rattle.tables.proofs.Filled.{filled-start, filled_more, filled_whole}
 use Rattle.words.specs.Inner.Words.{bit_at}
 use Rattle.words.proofs.Packing.{byte_at}
 use Rattle.words.proofs.unpack_each.Goals as goal

@@ -1,14 +1,10 @@
 -- `words::unpack_each` meets its contract. Assumes nothing.
-use mathlib.Core.Path.{◌≡◌, refl}
+use mathlib.Core.Path.{◌≡◌}
 use Prim.Native.Nat.{◌≤◌, ◌-◌}
-use native.Mathlib.Omega.{arith}
-use borrow.Author.Rules.{rules}
-use lib.Bits.{and_mask}
 use lib.ListN.{length}
 use Rattle.ring.specs.Letters.{digit}
-use Rattle.tables.proofs.Filled.{filled, filled-start, filled_more, filled_whole}
+use Rattle.tables.proofs.Filled.{filled}
 use Rattle.words.specs.Inner.Words.{bit_at}
-use Rattle.words.proofs.Packing.{byte_at}
 use Rattle.words.proofs.unpack_each.Given as goal
 
 abbrev pub invariant-loop-p : goal.invariant-loop-p

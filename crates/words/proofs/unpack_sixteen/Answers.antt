@@ -1,10 +1,8 @@
 -- `words::unpack_sixteen` meets its contract: the words behind the first two, which are gone, are as they were.
 -- Assumes nothing.
-use mathlib.Core.Path.{◌≡◌, refl, sym, ap, ◌∙◌}
+use mathlib.Core.Path.{refl, sym, ap, ◌∙◌}
 use Prim.Native.Nat.{ℕ, ◌*◌}
 use native.Mathlib.Omega.{arith}
-use borrow.Author.Rules.{rules}
-use lib.ListN.{length}
 use Rattle.ring.specs.Polynomial.{count}
 use Rattle.tables.proofs.Filled.{filled, filled-start, filled_whole}
 use Rattle.words.specs.Inner.Words.{bit_at, crossed}

@@ -1,16 +1,12 @@
 -- `words::unpack_some` meets its contract: each word's bytes follow those before it, whatever stands behind them.
 -- Assumes nothing.
-use mathlib.Core.Path.{◌≡◌, refl, ap, ◌∙◌}
+use mathlib.Core.Path.{◌≡◌}
 use mathlib.Core.List.{List}
-use Prim.Native.Nat.{ℕ, ◌≤◌, ◌<◌, ◌+◌, ◌-◌, ◌*◌}
-use native.Mathlib.Omega.{arith}
-use borrow.Author.Rules.{rules}
-use lib.ListN.{length, get_or, take, drop}
+use Prim.Native.Nat.{ℕ, ◌≤◌, ◌<◌, ◌-◌, ◌*◌}
+use lib.ListN.{length, get_or}
 use Rattle.ring.specs.Letters.{digit}
 use Rattle.tables.proofs.Filled.{filled}
 use Rattle.words.specs.Inner.Words.{bit_at, crossed}
-use Rattle.words.proofs.Parts.{parts_more, part_length_lem}
-use Rattle.words.proofs.Crossing.{word_listed}
 use Rattle.words.proofs.unpack_some.Given as goal
 
 -- the bytes of the words below w

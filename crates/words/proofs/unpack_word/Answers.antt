@@ -1,11 +1,10 @@
 -- `words::unpack_word` meets its contract. Assumes nothing.
-use mathlib.Core.Path.{◌≡◌, refl}
-use Prim.Native.Nat.{◌<◌, ◌≤◌, ◌-◌, ◌*◌}
+use mathlib.Core.Path.{refl}
+use Prim.Native.Nat.{◌<◌}
 use native.Mathlib.Omega.{arith}
 use borrow.Author.Rules.{rules}
-use lib.ListN.{length}
-use Rattle.ring.specs.Letters.{digit, bit}
-use Rattle.tables.proofs.Filled.{filled, filled-start, filled_whole}
+use Rattle.ring.specs.Letters.{bit}
+use Rattle.tables.proofs.Filled.{filled-start, filled_whole}
 use Rattle.words.specs.Inner.Words.{crossed}
 use Rattle.words.proofs.Parts.{parts_more, part_length_lem}
 use Rattle.words.proofs.Crossing.{row_listed}

@@ -1,14 +1,10 @@
 -- `words::unpack_word` meets its contract. Assumes nothing.
-use mathlib.Core.Path.{◌≡◌, refl}
-use Prim.Native.Nat.{◌<◌, ◌≤◌, ◌-◌, ◌*◌}
-use native.Mathlib.Omega.{arith}
-use borrow.Author.Rules.{rules}
+use mathlib.Core.Path.{◌≡◌}
+use Prim.Native.Nat.{◌≤◌, ◌-◌, ◌*◌}
 use lib.ListN.{length}
 use Rattle.ring.specs.Letters.{digit, bit}
-use Rattle.tables.proofs.Filled.{filled, filled-start, filled_whole}
+use Rattle.tables.proofs.Filled.{filled}
 use Rattle.words.specs.Inner.Words.{crossed}
-use Rattle.words.proofs.Parts.{parts_more, part_length_lem}
-use Rattle.words.proofs.Crossing.{row_listed}
 use Rattle.words.proofs.unpack_word.Given as goal
 
 abbrev pub invariant-loop-j : goal.invariant-loop-j

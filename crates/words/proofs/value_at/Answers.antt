@@ -1,7 +1,6 @@
 -- `words::value_at` meets its contract. Assumes nothing.
 use mathlib.Core.Path.{refl, ap, ◌∙◌}
 use native.Mathlib.Omega.{arith}
-use borrow.Author.Rules.{rules}
 use lib.Dec.{eqb}
 use lib.Bits.{and_mask}
 use Rattle.ring.proofs.Bool.{bit-digit}

@@ -1,11 +1,7 @@
 -- `words::word_values` meets its contract: the steps that are left of the word so far are those of the word as it was.
 -- Assumes nothing.
-use mathlib.Core.Path.{◌≡◌, refl, sym, ap, ◌∙◌}
-use Prim.Native.Nat.{ℕ, ◌-◌, ◌^◌, ◌≤◌, ◌<◌}
+use mathlib.Core.Path.{refl}
 use native.Mathlib.Omega.{arith}
-use borrow.Author.Rules.{rules}
-use Rattle.ring.specs.Letters.{bit}
-use Rattle.words.specs.Inner.Words.{word_of, stepped_below}
 use Rattle.words.proofs.Words.{word_lt}
 use Rattle.words.proofs.Transform.{word_step, word_last}
 use Rattle.words.proofs.word_values.Goals as goal

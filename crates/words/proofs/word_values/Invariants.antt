@@ -1,13 +1,9 @@
 -- `words::word_values` meets its contract: the steps that are left of the word so far are those of the word as it was.
 -- Assumes nothing.
-use mathlib.Core.Path.{◌≡◌, refl, sym, ap, ◌∙◌}
-use Prim.Native.Nat.{ℕ, ◌-◌, ◌^◌, ◌≤◌, ◌<◌}
-use native.Mathlib.Omega.{arith}
-use borrow.Author.Rules.{rules}
+use mathlib.Core.Path.{◌≡◌}
+use Prim.Native.Nat.{◌^◌, ◌≤◌, ◌<◌}
 use Rattle.ring.specs.Letters.{bit}
 use Rattle.words.specs.Inner.Words.{word_of, stepped_below}
-use Rattle.words.proofs.Words.{word_lt}
-use Rattle.words.proofs.Transform.{word_step, word_last}
 use Rattle.words.proofs.word_values.Given as goal
 
 abbrev pub invariant-loop-j : goal.invariant-loop-j

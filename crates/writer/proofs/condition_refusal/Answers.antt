@@ -2,7 +2,6 @@
 use mathlib.Core.Path.{◌≡◌}
 use mathlib.Core.Bool.{true}
 use native.Mathlib.Omega.{arith}
-use borrow.Author.Rules.{rules}
 use Rattle.tables.specs.Questions.{letters_fit}
 use Rattle.tables.proofs.Questions.{passed, letters_small}
 use Rattle.writer.proofs.Asked.{letters_refused, asked}

@@ -1,10 +1,7 @@
 -- The invariant: so many of the first m monomials are present. Assumes nothing.
-use mathlib.Core.Path.{◌≡◌, ap₂, ◌∙◌}
-use Prim.Native.Nat.{◌+◌, ◌-◌, ◌≤◌}
+use mathlib.Core.Path.{ap₂, ◌∙◌}
+use Prim.Native.Nat.{◌+◌}
 use native.Mathlib.Omega.{arith}
-use lib.ListN.{length}
-use borrow.Author.Rules.{rules}
-use Rattle.ring.specs.Polynomial.{count}
 use Rattle.ring.specs.Table.{present}
 use Rattle.ring.proofs.Parity.{count_most}
 use Rattle.writer.proofs.Parts.{counted_none, counted_more, counted_all}

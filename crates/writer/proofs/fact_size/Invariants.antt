@@ -1,13 +1,9 @@
 -- The invariant: so many of the first m monomials are present. Assumes nothing.
-use mathlib.Core.Path.{◌≡◌, ap₂, ◌∙◌}
-use Prim.Native.Nat.{◌+◌, ◌-◌, ◌≤◌}
-use native.Mathlib.Omega.{arith}
+use mathlib.Core.Path.{◌≡◌}
+use Prim.Native.Nat.{◌-◌, ◌≤◌}
 use lib.ListN.{length}
-use borrow.Author.Rules.{rules}
 use Rattle.ring.specs.Polynomial.{count}
 use Rattle.ring.specs.Table.{present}
-use Rattle.ring.proofs.Parity.{count_most}
-use Rattle.writer.proofs.Parts.{counted_none, counted_more, counted_all}
 use Rattle.writer.proofs.fact_size.Given as goal
 
 abbrev pub invariant-loop-m : goal.invariant-loop-m

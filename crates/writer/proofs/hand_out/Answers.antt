@@ -1,6 +1,5 @@
 -- Refused before anything is written. Assumes nothing.
 use native.Mathlib.Omega.{arith}
-use borrow.Author.Rules.{rules}
 use Rattle.tables.proofs.Questions.{pow_small}
 use Rattle.writer.proofs.Parts.{heads_size}
 use Rattle.writer.proofs.Asked.{output_short, output_done}

@@ -1,11 +1,9 @@
 -- The invariant: the first j answers are listed. The measure is the number of unknowns that are left. Assumes nothing.
-use mathlib.Core.Path.{◌≡◌, ◌∙◌}
-use Prim.Native.Nat.{◌-◌, ◌^◌}
+use mathlib.Core.Path.{◌∙◌}
 use native.Mathlib.Omega.{arith}
 use borrow.Author.Rules.{rules}
-use lib.ListN.{length}
 use Rattle.words.proofs.Parts.{part_fits, part_length_lem}
-use Rattle.writer.proofs.Monomials.{Answering, answering_start, answer_room_lem, answering_more, answering_end}
+use Rattle.writer.proofs.Monomials.{answering_start, answer_room_lem, answering_more, answering_end}
 use Rattle.writer.proofs.list_answers.Goals as goal
 
 pub loop-j-init : goal.loop-j-init

@@ -1,11 +1,8 @@
 -- The invariant: the first j answers are listed. The measure is the number of unknowns that are left. Assumes nothing.
-use mathlib.Core.Path.{◌≡◌, ◌∙◌}
+use mathlib.Core.Path.{◌≡◌}
 use Prim.Native.Nat.{◌-◌, ◌^◌}
-use native.Mathlib.Omega.{arith}
-use borrow.Author.Rules.{rules}
 use lib.ListN.{length}
-use Rattle.words.proofs.Parts.{part_fits, part_length_lem}
-use Rattle.writer.proofs.Monomials.{Answering, answering_start, answer_room_lem, answering_more, answering_end}
+use Rattle.writer.proofs.Monomials.{Answering}
 use Rattle.writer.proofs.list_answers.Given as goal
 
 abbrev pub invariant-loop-j : goal.invariant-loop-j

@@ -1,5 +1,4 @@
 -- The coefficients, listed. Assumes nothing.
-use borrow.Author.Rules.{rules}
 use Rattle.writer.proofs.Monomials.{listed-values}
 use Rattle.writer.proofs.list_values.Goals as goal
 

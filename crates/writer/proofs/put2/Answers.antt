@@ -1,7 +1,6 @@
 -- Two stores, one behind the other. Assumes nothing.
 use native.Mathlib.Omega.{arith}
 use lib.ListN.{length-set}
-use borrow.Author.Rules.{rules}
 use Rattle.tables.proofs.Put.{put_two}
 use Rattle.writer.proofs.put2.Goals as goal
 

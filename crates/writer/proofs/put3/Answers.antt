@@ -1,7 +1,6 @@
 -- Three stores, one behind another. Assumes nothing.
 use native.Mathlib.Omega.{arith}
 use lib.ListN.{length-set}
-use borrow.Author.Rules.{rules}
 use Rattle.tables.proofs.Put.{put_three}
 use Rattle.writer.proofs.put3.Goals as goal
 

@@ -1,7 +1,6 @@
 -- Four stores, one behind another. Assumes nothing.
 use native.Mathlib.Omega.{arith}
 use lib.ListN.{length-set}
-use borrow.Author.Rules.{rules}
 use Rattle.tables.proofs.Put.{put_four}
 use Rattle.writer.proofs.put4.Goals as goal
 

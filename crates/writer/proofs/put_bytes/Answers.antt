@@ -1,6 +1,5 @@
 -- Four bytes of a number. Assumes nothing.
 use mathlib.Core.Path.{refl}
-use borrow.Author.Rules.{rules}
 use Rattle.tables.proofs.Put.{put_same}
 use Rattle.writer.proofs.put_bytes.Goals as goal
 

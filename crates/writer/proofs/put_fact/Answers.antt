@@ -1,10 +1,7 @@
 -- The invariant: the records of the first p masks are put. As long as bytes are missing there are masks left, and the measure is how many.
 -- Assumes nothing.
-use Prim.Native.Nat.{◌-◌}
 use native.Mathlib.Omega.{arith}
-use lib.ListN.{length}
-use borrow.Author.Rules.{rules}
-use Rattle.writer.proofs.Parts.{Facts, facts_start, masks_left, few_masks, mask_inside, part_fits_there, facts_more, facts_end}
+use Rattle.writer.proofs.Parts.{facts_start, masks_left, few_masks, mask_inside, part_fits_there, facts_more, facts_end}
 use Rattle.writer.proofs.put_fact.Goals as goal
 
 pub loop-at-init : goal.loop-at-init

@@ -1,7 +1,6 @@
 -- Three parts. Assumes nothing.
 use mathlib.Core.List.{map}
 use native.Mathlib.Omega.{arith}
-use borrow.Author.Rules.{rules}
 use Rattle.entry.specs.Record.{bytes}
 use Rattle.entry.specs.Inner.Codes.{listed_record}
 use Rattle.writer.proofs.Parts.{start_fits, fact_fits, codes_fit, front_put}

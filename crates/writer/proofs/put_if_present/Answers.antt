@@ -1,5 +1,4 @@
 -- A record of three bytes, or none. Assumes nothing.
-use borrow.Author.Rules.{rules}
 use Rattle.writer.proofs.Parts.{fact_room_lem, fact_put, fact_none}
 use Rattle.writer.proofs.put_if_present.Goals as goal
 

@@ -1,6 +1,5 @@
 -- A monomial of the condition, or of an answer. Assumes nothing.
 use mathlib.Core.Path.{refl}
-use borrow.Author.Rules.{rules}
 use Rattle.writer.proofs.Parts.{condition_room, answer_room_lem, condition_put, answer_bytes}
 use Rattle.writer.proofs.put_monomial.Goals as goal
 

@@ -1,9 +1,7 @@
 -- The invariant: the records of the first p numbers are put. The measure is how many are left. Assumes nothing.
 use Prim.Native.Nat.{◌-◌}
-use native.Mathlib.Omega.{arith}
-use borrow.Author.Rules.{rules}
 use lib.ListN.{length}
-use Rattle.writer.proofs.Parts.{Writing, writing_start, record_fits, writing_more, writing_end}
+use Rattle.writer.proofs.Parts.{Writing}
 use Rattle.writer.proofs.put_monomials.Given as goal
 
 abbrev pub invariant-loop-p : goal.invariant-loop-p

@@ -1,6 +1,5 @@
 -- Two parts. Assumes nothing.
 use native.Mathlib.Omega.{arith}
-use borrow.Author.Rules.{rules}
 use Rattle.writer.proofs.Parts.{order_put}
 use Rattle.writer.proofs.put_order.Goals as goal
 

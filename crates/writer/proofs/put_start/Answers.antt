@@ -1,6 +1,5 @@
 -- The first record, and a second one unless the order is 0, 1, 2, .. Assumes nothing.
 use native.Mathlib.Omega.{arith}
-use borrow.Author.Rules.{rules}
 use Rattle.writer.proofs.Parts.{start_left, start_room, start_kept}
 use Rattle.writer.proofs.put_start.Goals as goal
 

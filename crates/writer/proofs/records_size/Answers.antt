@@ -1,6 +1,5 @@
 -- The two cases of a listing. Assumes nothing.
 use native.Mathlib.Omega.{arith}
-use borrow.Author.Rules.{rules}
 use Rattle.writer.proofs.Parts.{solved_size, none_size}
 use Rattle.writer.proofs.records_size.Goals as goal
 

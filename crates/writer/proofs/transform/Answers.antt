@@ -1,6 +1,5 @@
 -- A copy, and the passage on it. Assumes nothing.
 use native.Mathlib.Omega.{arith}
-use borrow.Author.Rules.{rules}
 use Rattle.writer.proofs.Monomials.{turned_over, same_size}
 use Rattle.writer.proofs.transform.Goals as goal
 

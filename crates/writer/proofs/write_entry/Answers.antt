@@ -1,7 +1,6 @@
 -- The call asks the questions on the tables, and lends them on with room for the values of 1 + g. Assumes nothing.
 use mathlib.Core.Path.{refl}
 use native.Mathlib.Omega.{arith}
-use borrow.Author.Rules.{rules}
 use Rattle.words.proofs.Letters.{count_small}
 use Rattle.writer.proofs.Monomials.{words_part, words_size}
 use Rattle.writer.proofs.Asked.{fine_small, fine_route, fact_part_lem, fine_part, fine_tables, write_refused, write_done}

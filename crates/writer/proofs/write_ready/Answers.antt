@@ -1,7 +1,6 @@
 -- What was listed is the entry. Assumes nothing.
 use mathlib.Core.Path.{sym}
 use native.Mathlib.Omega.{arith}
-use borrow.Author.Rules.{rules}
 use lib.Seq.{length-take-le}
 use Rattle.writer.proofs.Entries.{lists_sized, lists_out, ready_headed}
 use Rattle.writer.proofs.write_ready.Goals as goal

@@ -1,6 +1,5 @@
 -- Questions 22 and 23, and then the entry, with room for up to six letters or for ten. Assumes nothing.
 use lib.Pow.{pow_mono}
-use borrow.Author.Rules.{rules}
 use Rattle.writer.proofs.Asked.{fact_refused, fact_done, fact_ready, room_for}
 use Rattle.writer.proofs.write_tables.Goals as goal
 

@@ -2,7 +2,6 @@
 -- Assumes nothing.
 use mathlib.Core.Path.{sym, ◌∙◌}
 use native.Mathlib.Omega.{arith}
-use borrow.Author.Rules.{rules}
 use Rattle.session.specs.Session.{added}
 use Rattle.session.proofs.Asked.{addable, step_refused, step_done}
 use Rattle.session.proofs.Session.add.Goals as goal

@@ -2,7 +2,6 @@
 -- Assumes nothing.
 use mathlib.Core.Path.{sym, ◌∙◌}
 use native.Mathlib.Omega.{arith}
-use borrow.Author.Rules.{rules}
 use Rattle.session.specs.Session.{marked}
 use Rattle.session.proofs.Asked.{name_low, name_high, mark_named, step_refused, step_done}
 use Rattle.session.proofs.Session.mark.Goals as goal

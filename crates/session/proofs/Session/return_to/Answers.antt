@@ -2,7 +2,6 @@
 -- Assumes nothing.
 use mathlib.Core.Path.{sym, ◌∙◌}
 use native.Mathlib.Omega.{arith}
-use borrow.Author.Rules.{rules}
 use Rattle.session.specs.Session.{returned, under}
 use Rattle.session.proofs.Asked.{name_low, name_high, return_named, step_refused, step_done}
 use Rattle.session.proofs.Session.return_to.Goals as goal

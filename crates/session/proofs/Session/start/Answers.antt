@@ -1,7 +1,6 @@
 -- `session::Session::start` meets its contract: question 1, then a new session.
 -- Assumes nothing.
 use mathlib.Core.Path.{refl, sym, ◌∙◌}
-use borrow.Author.Rules.{rules}
 use Rattle.calls.specs.Questions.{start_questions}
 use Rattle.calls.proofs.Buffers.{letters_no, letters_yes}
 use Rattle.tables.specs.declared.Question.TheVariants.{Letters}
