@@ -92,7 +92,7 @@ fn programs(folder: &Path) -> [PathBuf; SIDES] {
     let root = folder.join("..");
     let reference = root.join("reference");
     eprintln!("building the programs `sheet`; the engine's is proved first, if it is not yet");
-    run(Command::new("rt").args(["check", "sheet"]).current_dir(&root));
+    run(Command::new(root.join("scripts/build")).arg("sheet"));
     let cargo = std::env::var_os("CARGO").unwrap_or_else(|| "cargo".into());
     run(Command::new(cargo)
         .args(["build", "--quiet", "--offline", "--release"])

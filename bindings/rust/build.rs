@@ -1,4 +1,4 @@
-//! Links the archive of the proved library. `rt staticlib layodegi` proves the
+//! Links the archive of the proved library. `scripts/build layodegi` proves the
 //! library and writes the archive; it runs here where the archive is missing or
 //! older than a source that it is made from.
 
@@ -28,7 +28,7 @@ fn main() {
 fn sources(root: &Path) -> Vec<PathBuf> {
     let list = root.join("crates.txt");
     let lines = fs::read_to_string(&list).unwrap_or_default();
-    let below = lines.lines().find_map(|line| line.strip_prefix("layodegi:")).unwrap_or_default();
+    let below = lines.lines().find_map(|line| line.strip_prefix("layodegi staticlib:")).unwrap_or_default();
     let names = below.split_whitespace().chain(["layodegi"]);
     let folders = names.flat_map(|name| {
         ["src", "specs", "proofs"].map(|part| root.join("crates").join(name).join(part))
@@ -47,13 +47,13 @@ fn changed(path: &Path) -> Option<SystemTime> {
 }
 
 fn build(root: &Path) {
-    let run = Command::new("rt").args(["staticlib", "layodegi"]).current_dir(root).output();
+    let run = Command::new(root.join("scripts/build")).arg("layodegi").output();
     let problem = match run {
         Ok(said) if said.status.success() => return,
         Ok(said) => String::from_utf8_lossy(&[said.stdout, said.stderr].concat()).into_owned(),
-        Err(error) => format!("rt: {error}"),
+        Err(error) => format!("scripts/build: {error}"),
     };
     eprintln!("{problem}");
-    eprintln!("{ARCHIVE} is missing or old, and `rt staticlib layodegi` could not build it");
+    eprintln!("{ARCHIVE} is missing or old, and `scripts/build layodegi` could not build it");
     exit(1);
 }
