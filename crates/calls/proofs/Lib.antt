@@ -1,4 +1,3 @@
-pub mod Buffers
 pub mod Injective
 pub mod Derivative
 pub mod Questions

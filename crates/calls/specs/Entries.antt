@@ -1,6 +1,8 @@
 -- What writing, reading and auditing an entry do (`writer`, `reader`, `audit`; document 01, 'The archive entry' and 'Audit and volume').
 -- Assumes nothing.
-use Rattle.std.specs.Prelude.{◌≡◌, List, [], ◌∷◌, ◌++◌, ℕ, length}
+use Rattle.std.specs.Prelude.{◌≡◌, List, [], ◌∷◌, ◌++◌, ℕ, length, Result, Ok, Err}
+use Rattle.tables.specs.declared.Question.{Question}
+use Rattle.tables.specs.Questions.{number}
 use Rattle.tables.specs.Answered.{Reply, accepted, refused, Answered, call, ◌into◌}
 use Rattle.solution.specs.Condition.{Condition}
 use Rattle.solution.specs.Order.{lent_condition}
@@ -10,10 +12,7 @@ use Rattle.entry.specs.Held.{records, route_of, unknowns_of, givens_of, order_in
 use Rattle.entry.specs.Entry.{entry, Archivable}
 use Rattle.calls.specs.declared.Verdict.{Verdict}
 use Rattle.calls.specs.declared.Verdict.TheVariants.{Solved, None}
-use Rattle.calls.specs.declared.Written.{Written}
-use Rattle.calls.specs.declared.Written.TheVariants as written-variants
-use Rattle.calls.specs.declared.Read.{Read}
-use Rattle.calls.specs.declared.Read.TheVariants.{Entry, Refused}
+use Rattle.calls.specs.declared.Entry.{Entry as Held}
 use Rattle.calls.specs.Questions.{write_questions, read_questions, audit_questions}
 
 -- ---- writing: 'the writer is lent the condition table and the output only, solves the condition itself and gives the entry's length'.
@@ -26,11 +25,6 @@ abbrev pub write_call : ℕ → ℕ → ℕ → List ℕ → List ℕ → List �
 write_call route U G order fact condition out =
     call (write_questions route U G order fact condition (length out)) (length (lent_entry route U G order fact condition) ∷ [])
     (lent_entry route U G order fact condition into out ∷ [])
-
--- this paper's number and values for each case of `Written`: the entry's length
-abbrev pub written : Written → Reply
-written (written-variants.Done size) = accepted (size ∷ [])
-written (written-variants.Refused number) = refused number []
 
 -- ---- reading: it 'stops after kind 4 and gives the route, U, G, whether the entry is solved or 'none' and in which state, and the length used;
 -- it fills the condition table and, if solved, the answer tables; a 'none' entry leaves the answer buffer untouched'. 'Reading gives' the
@@ -63,10 +57,11 @@ abbrev pub state_said : Verdict → List ℕ
 state_said Solved = []
 state_said (None state) = state.0 ∷ []
 
--- this paper's number and values for each case of `Read`: the route, U, G, the length used, and the state if the entry says 'none'
-abbrev pub reading : Read → Reply
-reading (Entry heading verdict) = accepted (heading.route ∷ heading.unknowns ∷ heading.givens ∷ heading.used ∷ state_said verdict)
-reading (Refused number) = refused number []
+-- this paper's number and values for an entry that was read or audited: the route, U, G, the length used, and the state if it says 'none'
+abbrev pub reading : Result Held Question → Reply
+reading (Ok held) =
+    accepted (held.heading.route ∷ held.heading.unknowns ∷ held.heading.givens ∷ held.heading.used ∷ state_said held.verdict)
+reading (Err question) = refused (number question) []
 
 -- ---- audit: it 'reads an entry, solves its condition afresh and compares. Like reading it stops after kind 4 and gives the length used; the
 -- bytes that pass are those up to there, and later ones play no part'

@@ -1,29 +1,22 @@
 -- What the calls on tables do (`operations`). Tables are lists of bytes over U unknowns and G givens; n = U + G.
 -- Assumes nothing.
-use Rattle.std.specs.Prelude.{List, [], ◌∷◌, ℕ, ◌+◌, length}
+use Rattle.std.specs.Prelude.{List, [], ◌∷◌, ℕ, ◌+◌, length, Result, Ok, Err}
 use Rattle.ring.specs.declared.State.{State}
 use Rattle.ring.specs.declared.Choice.{Choice}
 use Rattle.ring.specs.Letters.{digit, point}
 use Rattle.ring.specs.Polynomial.{value, sum, product, substitute}
 use Rattle.ring.specs.Derivative.{derivative}
 use Rattle.ring.specs.Table.{present, table, held, for_unknowns}
+use Rattle.tables.specs.declared.Question.{Question}
+use Rattle.tables.specs.Questions.{number}
 use Rattle.tables.specs.Answered.{Reply, accepted, refused, Answered, call, ◌into◌}
-use Rattle.calls.specs.declared.Outcome.{Outcome}
-use Rattle.calls.specs.declared.Outcome.TheVariants as outcome-variants
-use Rattle.calls.specs.declared.Valued.{Valued}
-use Rattle.calls.specs.declared.Valued.TheVariants.{Value, Refused}
 use Rattle.calls.specs.Counted.{counted_call}
 use Rattle.calls.specs.Questions.{value_questions, pair_questions, substitute_questions, derivative_questions}
 
--- this paper's number and values for each case of `Outcome`
-abbrev pub outcome : Outcome → Reply
-outcome outcome-variants.Done = accepted []
-outcome (outcome-variants.Refused number) = refused number []
-
--- of `Valued`
-abbrev pub valued : Valued → Reply
-valued (Value v) = accepted (v ∷ [])
-valued (Refused number) = refused number []
+-- this paper's number for an answer that gives nothing of its own
+abbrev pub outcome : Result Unit Question → Reply
+outcome (Ok done) = accepted []
+outcome (Err question) = refused (number question) []
 
 -- the value of a table at a state and a choice, 0 or 1
 unfoldable pub value_at : ℕ → ℕ → List ℕ → State → Choice → ℕ

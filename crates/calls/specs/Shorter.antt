@@ -1,14 +1,15 @@
 -- The shorter of two answer tables (document 02, C-17; `shorter`): 'A further call is lent Boole's and Löwenheim's answer tables and hands
 -- back the shorter of them, as the lent table itself, cut to U times 2^n bytes; Boole's if the totals tie.' n = U + G.
 -- Assumes nothing.
-use Rattle.std.specs.Prelude.{Bool, cond, ◌&&◌, List, [], ◌∷◌, ℕ, ◌+◌, ◌*◌, ◌^◌, eqb, ltb, take}
+use Rattle.std.specs.Prelude.{Bool, cond, ◌&&◌, List, [], ◌∷◌, ℕ, ◌+◌, ◌*◌, ◌^◌, eqb, ltb, take, Result, Ok, Err}
 use Rattle.ring.specs.Letters.{digit}
 use Rattle.ring.specs.Table.{held}
 use Rattle.ring.specs.Length.{total_count}
-use Rattle.tables.specs.Questions.{first_no}
+use Rattle.tables.specs.declared.Question.{Question}
+use Rattle.tables.specs.Questions.{number, first_no}
 use Rattle.tables.specs.Answered.{Reply, accepted, refused, Answered, call}
-use Rattle.calls.specs.declared.Shorter.{Shorter}
-use Rattle.calls.specs.declared.Shorter.TheVariants.{Boole, Lowenheim, Refused}
+use Rattle.calls.specs.declared.Formula.{Formula}
+use Rattle.calls.specs.declared.Formula.TheVariants as formulas
 use Rattle.calls.specs.Questions.{shorter_questions}
 
 -- 'a companion call on the same buffers gives the number of the first no, or 0'
@@ -34,11 +35,11 @@ shorter_part U G boole lowenheim =
     take (part_length U G boole lowenheim) (cond (takes_lowenheim U G boole lowenheim) lowenheim boole)
 
 -- ---- for callers outside the language, who cannot be handed a part: which table it is
--- this paper's number and values for each case of `Shorter`: 0 for Boole's, 1 for Löwenheim's
-abbrev pub shorter_said : Shorter → Reply
-shorter_said Boole = accepted (0 ∷ [])
-shorter_said Lowenheim = accepted (1 ∷ [])
-shorter_said (Refused number) = refused number []
+-- this paper's number and value for whose table it is: 0 for Boole's, 1 for Löwenheim's
+abbrev pub shorter_said : Result Formula Question → Reply
+shorter_said (Ok formulas.Boole) = accepted (0 ∷ [])
+shorter_said (Ok formulas.Lowenheim) = accepted (1 ∷ [])
+shorter_said (Err question) = refused (number question) []
 
 abbrev pub which_shorter_call : ℕ → ℕ → List ℕ → List ℕ → Answered Reply
 which_shorter_call U G boole lowenheim =

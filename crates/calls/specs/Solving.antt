@@ -1,21 +1,22 @@
 -- What the solving calls do (`solver`). Tables are lists of bytes over U unknowns and G givens; n = U + G.
 -- Assumes nothing.
-use Rattle.std.specs.Prelude.{List, [], ◌∷◌, ℕ, ◌+◌, length}
+use Rattle.std.specs.Prelude.{List, [], ◌∷◌, ℕ, ◌+◌, length, Result, Ok, Err}
 use Rattle.ring.specs.Table.{present, held, answer_table}
+use Rattle.tables.specs.Questions.{number}
 use Rattle.tables.specs.Answered.{Reply, accepted, refused, Answered}
 use Rattle.solution.specs.Condition.{Condition, table_where_zero}
 use Rattle.solution.specs.Order.{lent_condition}
 use Rattle.solution.specs.Elimination.{lowenheim, boole_table, particular_table, lowenheim_table}
-use Rattle.calls.specs.declared.Solving.{Solving}
-use Rattle.calls.specs.declared.Solving.TheVariants.{Solved, None, Refused}
+use Rattle.calls.specs.declared.Unsolved.{Unsolved}
+use Rattle.calls.specs.declared.Unsolved.TheVariants as unsolved-variants
 use Rattle.calls.specs.Counted.{answers_call}
 use Rattle.calls.specs.Questions.{solving_questions, handed_questions}
 
--- this paper's number and values for each case of `Solving`: the total of monomials, and question 9 'also gives the state'
-abbrev pub solving : Solving → Reply
-solving (Solved total) = accepted (total ∷ [])
-solving (None state) = refused 9 (state.0 ∷ [])
-solving (Refused number) = refused number []
+-- this paper's number and values for what a solving call says: the total of monomials; question 9 'also gives the state'
+abbrev pub solving : Result ℕ Unsolved → Reply
+solving (Ok total) = accepted (total ∷ [])
+solving (Err (unsolved-variants.None state)) = refused 9 (state.0 ∷ [])
+solving (Err (unsolved-variants.Refused question)) = refused (number question) []
 
 -- a call that solves a condition and fills the answer buffer with one of its answer tables
 abbrev pub solving_call : (Condition → List ℕ) → ℕ → ℕ → List ℕ → List ℕ → List ℕ → List ℕ → Answered Reply

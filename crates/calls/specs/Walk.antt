@@ -1,13 +1,12 @@
 -- What the walk over a volume does (`volume`; document 01, 'Audit and volume'): it 'is made from a lent volume and a place in it, and answers the count of entries from there to
 -- the end, or the refusal with the count passed before it. A place at or past the end gives 0. The first entry walked always passes 15.'
 -- Assumes nothing.
-use Rattle.std.specs.Prelude.{◌≡◌, List, [], ◌∷◌, ◌++◌, ℕ, zero, suc, ◌<◌, length, drop}
-use Rattle.tables.specs.Questions.{first_no}
+use Rattle.std.specs.Prelude.{◌≡◌, List, [], ◌∷◌, ◌++◌, ℕ, zero, suc, ◌<◌, length, drop, Result, Ok, Err}
+use Rattle.tables.specs.Questions.{number, first_no}
 use Rattle.tables.specs.Answered.{Reply, accepted, refused, Answered, answered}
 use Rattle.entry.specs.Record.{Record, bytes}
 use Rattle.entry.specs.Held.{records, route_of}
-use Rattle.calls.specs.declared.Walked.{Walked}
-use Rattle.calls.specs.declared.Walked.TheVariants.{Count, Refused}
+use Rattle.calls.specs.declared.Stopped.{Stopped}
 use Rattle.calls.specs.Questions.{walk_questions}
 use Rattle.calls.specs.Volume.{Entries}
 
@@ -39,10 +38,10 @@ walk_reply volume place = walk_behind 0 0 (drop place volume)
 abbrev pub walk_call : List ℕ → ℕ → Answered Reply
 walk_call volume place = answered (walk_reply volume place) []
 
--- this paper's number and values for each case of `Walked`
-abbrev pub walked : Walked → Reply
-walked (Count count) = accepted (count ∷ [])
-walked (Refused number passed) = refused number (passed ∷ [])
+-- this paper's number and values for a walk: the count, or the refusal with the count passed before it
+abbrev pub walked : Result ℕ Stopped → Reply
+walked (Ok count) = accepted (count ∷ [])
+walked (Err stopped) = refused (number stopped.question) (stopped.passed ∷ [])
 
 -- the same told by the entries that are passed, which are those that the writer makes: behind so many of them, 'the count of entries from there
 -- to the end, or the refusal with the count passed before it'

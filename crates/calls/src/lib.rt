@@ -4,61 +4,21 @@
 
 #![tactic(auto)]
 
+ghost use Rattle.std.specs.Prelude.{◌≡◌};
+
 use ring::State;
+use tables::Question;
 
-// Of a call that gives no value of its own: done, or the number of the first no.
-#[derive(Clone, Copy)]
-pub enum Outcome {
-    Done,
-    Refused(u8),
-}
-
-// The number of monomials in what a call has made, in an answer the total over its unknowns, or the number of the first no.
-#[derive(Clone, Copy)]
-pub enum Counted {
-    Monomials(usize),
-    Refused(u8),
-}
-
-// The value of a table, or the number of the first no.
-#[derive(Clone, Copy)]
-pub enum Valued {
-    Value(u8),
-    Refused(u8),
-}
-
-// What is said of a condition: it is solved, or there is no solution and every choice fails in this state.
-#[derive(Clone, Copy)]
+// What is said of a condition: it is solved, or there is no solution and every choice fails in this state. By names and not as a `Result`:
+// that there is no solution is what an entry says, and no failure of reading or auditing it.
+#[derive(Clone, Copy, Debug, PartialEq, Eq)]
 pub enum Verdict {
     Solved,
     None(State),
 }
 
-// What a solving call says, or the number of the first no: the total of monomials in the answers, or the state of question 9.
-#[derive(Clone, Copy)]
-pub enum Solving {
-    Solved(usize),
-    None(State),
-    Refused(u8),
-}
-
-// Which of two answer tables is the shorter, or the number of the first no.
-#[derive(Clone, Copy)]
-pub enum Shorter {
-    Boole,
-    Lowenheim,
-    Refused(u8),
-}
-
-// The length of an entry that was written, or the number of the first no.
-#[derive(Clone, Copy)]
-pub enum Written {
-    Done(usize),
-    Refused(u8),
-}
-
 // What the start of an entry says, and the length used.
-#[derive(Clone, Copy)]
+#[derive(Clone, Copy, Debug, PartialEq, Eq)]
 pub struct Heading {
     pub route: u8,
     pub unknowns: usize,
@@ -66,16 +26,40 @@ pub struct Heading {
     pub used: usize,
 }
 
-// What an entry says that was read or audited, or the number of the first no.
-#[derive(Clone, Copy)]
-pub enum Read {
-    Entry(Heading, Verdict),
-    Refused(u8),
+// Why a condition was not solved: there is no solution, and every choice fails in this state; or a question was answered no before.
+#[derive(Clone, Copy, Debug, PartialEq, Eq)]
+pub enum Unsolved {
+    None(State),
+    Refused(Question),
 }
 
-// How many entries were passed, or the number of the first no with the count passed before it.
-#[derive(Clone, Copy)]
-pub enum Walked {
-    Count(usize),
-    Refused(u8, usize),
+impl From<Question> for Unsolved {
+    ghost use Rattle.calls.specs.declared.Unsolved.{Unsolved};
+
+    ghost from_gives = { λ question e. e ≡ Unsolved.Refused question };
+
+    fn from(question: Question) -> Self {
+        Unsolved::Refused(question)
+    }
+}
+
+// Whose answers they are.
+#[derive(Clone, Copy, Debug, PartialEq, Eq)]
+pub enum Formula {
+    Boole,
+    Lowenheim,
+}
+
+// What an entry says that was read or audited.
+#[derive(Clone, Copy, Debug, PartialEq, Eq)]
+pub struct Entry {
+    pub heading: Heading,
+    pub verdict: Verdict,
+}
+
+// Why a walk stopped: the first no at an entry, and how many were passed before it.
+#[derive(Clone, Copy, Debug, PartialEq, Eq)]
+pub struct Stopped {
+    pub question: Question,
+    pub passed: usize,
 }

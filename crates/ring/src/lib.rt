@@ -5,9 +5,9 @@
 #![tactic(auto)]
 
 // A state: bit i is the value of given i. It says nothing about unknowns.
-#[derive(Clone, Copy)]
+#[derive(Clone, Copy, Debug, PartialEq, Eq)]
 pub struct State(pub usize);
 
 // A choice: bit j is the value of unknown j. It says nothing about givens.
-#[derive(Clone, Copy)]
+#[derive(Clone, Copy, Debug, PartialEq, Eq)]
 pub struct Choice(pub usize);

@@ -193,3 +193,8 @@ call_front questions values answer lent front k e h done =
       call_first questions values answer (take k lent) [] done,
       after_front (first_no questions) k answer lent e h,
     )
+
+-- the same as the code has it: the question that is answered no first
+pub call_no : (questions : List Asked) (values : List ℕ) (buffers : List Buffer) (question : Question) → gives_nothing questions ≡ true
+    → number question ≡ first_no questions → answered (refused (number question) []) (as_lent buffers) ≡ call questions values buffers
+call_no questions values buffers question p e = call_refused questions values buffers (number question) p e (number_some question)

@@ -11,11 +11,11 @@ use Rattle.ring.proofs.Bool.{and_left, and_right, never}
 use Rattle.tables.specs.declared.Question.{Question}
 use Rattle.tables.specs.declared.Question.TheVariants.{Letters, Route, TextLength, Room, Signs, Declared, Grammar, Bits, Solution}
 use Rattle.tables.specs.declared.Question.TheVariants.{Records, Kinds, Numbers, Afresh, Output, Rising, Range, Order, Name, Marked, Mask, Handed, FactGivens, FactState}
-use Rattle.tables.specs.Questions.{Asked, asks, asks_giving, number, first_no}
+use Rattle.tables.specs.Questions.{Asked, asks_giving, number, first_no}
 use Rattle.tables.specs.Inner.Asking.{also}
 
 -- every number is above 0, which stands for 'no no', and is a byte
-number_within : (question : Question) → (0 < number question) × (number question < 256)
+pub number_within : (question : Question) → (0 < number question) × (number question < 256)
 number_within Letters = (omega arith, omega arith)
 number_within Route = (omega arith, omega arith)
 number_within TextLength = (omega arith, omega arith)
@@ -88,34 +88,11 @@ unfolding also
 also_kept zero questions n = absurd (n refl)
 also_kept (suc found) questions n = refl
 
-pub also_none : (questions : List Asked) → first_no questions ≡ also 0 questions
-unfolding also
-also_none questions = refl
-
-pub also_nothing : (found : ℕ) → found ≡ also found []
-unfolding also first_no
-also_nothing zero = refl
-also_nothing (suc found) = refl
-
 pub first_also : (questions further : List Asked) → first_no (questions ++ further) ≡ also (first_no questions) further
 unfolding first_no also
 first_also [] further = refl
 first_also (asks_giving question true given ∷ rest) further = first_also rest further
 first_also (asks_giving question false given ∷ rest) further = also_kept (number question) further (number_some question)
-
-pub also-also : (found : ℕ) (questions further : List Asked) → also (also found questions) further ≡ also found (questions ++ further)
-unfolding also
-also-also zero questions further = sym (first_also questions further)
-also-also (suc found) questions further = refl
-
--- the chain of a refusal function: each question in turn, with the answer that the code has for it
-pub ask_then : (found q r : ℕ) (question : Question) (answer truth : Bool) (rest : List Asked) → q ≡ also found (asks question answer ∷ [])
-    → answer ≡ truth → r ≡ also q rest → r ≡ also found (asks question truth ∷ rest)
-ask_then found q r question answer truth rest e a f = f ∙ rw (e, a) (also-also found (asks question truth ∷ []) rest)
-
-pub ask_last : (found r : ℕ) (question : Question) (answer truth : Bool) → r ≡ also found (asks question answer ∷ []) → answer ≡ truth
-    → r ≡ also found (asks question truth ∷ [])
-ask_last found r question answer truth e a = e ∙ rw a
 
 pub first_counts : (questions further : List Asked) → (first_no questions ≡ 0 → ⊥) → first_no (questions ++ further) ≡ first_no questions
 first_counts questions further n = first_also questions further ∙ sym (also_kept (first_no questions) further n)

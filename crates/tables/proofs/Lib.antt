@@ -6,3 +6,5 @@ pub mod Questions
 pub mod Answered
 pub mod Put
 pub mod Slices
+pub mod Numbered
+pub mod Passed

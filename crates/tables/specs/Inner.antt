@@ -1,3 +1,4 @@
 -- Inner work: what only proofs and inner functions cite.
 pub mod Asking
 pub mod Put
+pub mod Passed

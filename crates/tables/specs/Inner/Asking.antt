@@ -1,4 +1,4 @@
--- Questions as the code asks them, one after another.
+-- Questions that are asked behind others.
 -- Assumes nothing.
 use Rattle.std.specs.Prelude.{List, ℕ, zero, suc}
 use Rattle.tables.specs.Questions.{Asked, first_no}
