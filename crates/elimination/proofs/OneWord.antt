@@ -156,16 +156,21 @@ pub put_start : (answers o : List ℕ) (v i : ℕ) → i ≡ length o → v < 2 
 unfolding put_placed
 put_start answers o v i e l = rw (drop_of_length-le o {i = i} (omega arith)) (word_is v (bit v) l (λ i _. refl))
 
-pub put_next : (answers o : List ℕ) (v w r i : ℕ) → InLetters (length answers) o → length answers ≤ 6 → 0 < i → i ≤ length o
-    → w ≡ word_of (put_placed answers (drop i o) (bit v))
-    → r ≡ word_of (λ p. bit w (assign p (get_or o (i - 1) 0) (bit (get_or answers (get_or o (i - 1) 0) 0) p)))
-    → r ≡ word_of (put_placed answers (drop (i - 1) o) (bit v))
+-- the letter of a turn has an answer
+pub letter_placed : (order : List ℕ) {n : ℕ} (k x : ℕ) → InLetters n order → (k < length order) × (x ≡ get_or order (length order - 1 - k) 0) → x < n
+letter_placed order {n} k x b h = b x (ap (λ (y : ℕ). has y order) h.1 ∙ has_place order (length order - 1 - k) (omega (arith, h.0)))
+
+pub put_next : (answers o : List ℕ) (v w r k x : ℕ) → InLetters (length answers) o → length answers ≤ 6
+    → (k < length o) × (x ≡ get_or o (length o - 1 - k) 0) → w ≡ word_of (put_placed answers (drop (length o - k) o) (bit v))
+    → r ≡ word_of (λ p. bit w (assign p x (bit (get_or answers x 0) p)))
+    → r ≡ word_of (put_placed answers (drop (length o - (k + 1)) o) (bit v))
 unfolding put_placed
-put_next answers o v w r i b few pos inside ew er =
-    let j : suc (i - 1) ≡ i = omega arith in
-    let x : ℕ = get_or o (i - 1) 0 in
-    let x_lt : x < 6 = omega (arith, b x (has_place o (i - 1) (omega arith))) in
-    rw (drop-cons o (i - 1) 0 (omega arith), j) (er
+put_next answers o v w r k x b few at ew er =
+    let i : ℕ = length o - 1 - k in
+    let next : length o - (k + 1) ≡ i = omega arith in
+    let last : length o - k ≡ suc i = omega (arith, at.0) in
+    let x_lt : x < 6 = omega (arith, letter_placed o k x b at) in
+    rw (next, drop-cons o i 0 (omega (arith, at.0)), ← at.1, ← last) (er
     ∙ word_cong _ _ (λ p l.
     ap (λ (y : ℕ). bit y (assign p x (bit (get_or answers x 0) p))) ew
     ∙ word_bit _ (assign p x (bit (get_or answers x 0) p)) (assign_lt 6 p x (bit (get_or answers x 0) p) l x_lt)))

@@ -1,8 +1,8 @@
 -- The lists that the code makes: stages, slots and answers, part by part.
 -- Assumes nothing.
 use mathlib.Core.Path.{◌≡◌, refl, sym, ap, ap₂, ◌∙◌}
-use mathlib.Core.Logic.{◌≢◌, ◌⊎◌, inl, inr}
-use mathlib.Core.Bool.{Bool, true, false, ◌&&◌, true≢false}
+use mathlib.Core.Logic.{◌≢◌}
+use mathlib.Core.Bool.{Bool, true, false, ◌&&◌, ◌||◌, cond, true≢false}
 use mathlib.Core.List.{List, [], ◌∷◌, ◌++◌, append-nil}
 use Prim.Native.Nat.{ℕ, suc, ◌+◌, ◌-◌, ◌*◌, ◌/◌, ◌%◌, ◌^◌, ◌≤◌, ◌<◌}
 use native.Mathlib.Omega.{arith}
@@ -11,10 +11,14 @@ use lib.Pow.{pow-add}
 use lib.ListN.{length, get_or, take, drop, length-append, length-drop, drop_of_length-le}
 use lib.Seq.{take_at, drop_at, get_or-take, length-take-le}
 use borrow.Rule.Slice.PartMut.{put_mid, same_len_mid}
+use Rattle.std.proofs.Common.{Option, None, Some}
+use Rattle.std.specs.Option.{MatchOption, unwrap_or}
+use Rattle.std.specs.List.{AllWithin, HoldsAt}
+use Rattle.std.proofs.lemmas.Iterator.{index_from_first}
+use lib.Dec.{eqb}
 use Rattle.ring.specs.Letters.{bit, assign}
 use Rattle.ring.specs.Lists.{has}
 use Rattle.ring.specs.Polynomial.{◌⊕◌}
-use Rattle.ring.proofs.Lists.{has_cases}
 use borrow.Author.Tests.{eq-eqb, ne_eqb}
 use Rattle.ring.proofs.Points.{assign_lt}
 use Rattle.tables.proofs.Slices.{rest_of}
@@ -312,32 +316,33 @@ answered-size c k h o s ys ek l e ey =
     same_len_mid k (length s - k) s ys (ap length ey ∙ length_slots c h _ ∙ sym (slots_rest k c o s ek size l)) ∙ size
 
 -- ---- places
-pub place_here : (o : List ℕ) (x : ℕ) → has x o ≡ true → get_or o 0 0 ≡ x → 0 ≡ place_of o x
-unfolding place_of
-place_here [] x h e = refl
-place_here (y ∷ o) x h e = rw (eq-eqb x y (sym e))
-
-pub some_place : (o : List ℕ) (x : ℕ) → has x o ≡ true → 1 ≤ length o
-unfolding has
-some_place [] x h = absurd (true≢false (sym h))
-some_place (y ∷ o) x h = omega arith
-
-pub place_rest : (o : List ℕ) (x : ℕ) → has x o ≡ true → get_or o 0 0 ≢ x → has x (take (length o - 1) (drop 1 o)) ≡ true
-place_rest o x h n = rw (rest_of 1 o) (go o h n)
+place_lt : (o : List ℕ) (x : ℕ) → has x o ≡ true → place_of o x < length o
+unfolding place_of has
+place_lt [] x h = absurd (true≢false (sym h))
+place_lt (y ∷ o) x h = go (eqb x y) h (place_lt o x)
   where
-    go : (o : List ℕ) → has x o ≡ true → get_or o 0 0 ≢ x → has x (drop 1 o) ≡ true
-    go [] h n = h
-    go (y ∷ o) h n = pick (has_cases x y o h)
-      where
-        pick : (x ≡ y) ⊎ (has x o ≡ true) → has x o ≡ true
-        pick (inl e) = absurd (n (sym e))
-        pick (inr e) = e
+    go : (b : Bool) → (b || has x o) ≡ true → (has x o ≡ true → place_of o x < length o) → cond b 0 (suc (place_of o x)) < suc (length o)
+    go true h ih = omega arith
+    go false h ih = omega (arith, ih h)
 
-pub place_later : (o : List ℕ) (x r : ℕ) → has x o ≡ true → get_or o 0 0 ≢ x → r ≡ place_of (take (length o - 1) (drop 1 o)) x
-    → 1 + r ≡ place_of o x
+-- what `position` tells of a letter that stands in the order
+pub place_found : (o : List ℕ) (x : ℕ) (r : Option ℕ) → has x o ≡ true
+    → MatchOption r (AllWithin (λ y. y ≢ x) o 0 (length o)) (λ i. (i < length o) × HoldsAt (λ y. y ≡ x) o i × AllWithin (λ y. y ≢ x) o 0 i)
+    → (r ≡ Some (place_of o x)) × (place_of o x < length o)
 unfolding place_of
-place_later [] x r h n e = absurd (omega (arith, some_place [] x h))
-place_later (y ∷ o) x r h n e = rw (ne_eqb x y (λ q. n (sym q))) (one r ∙ ap suc (e ∙ ap (λ (t : List ℕ). place_of t x) (rest_of 1 (y ∷ o))))
+place_found o x r h m =
+    let l : place_of o x < length o = place_lt o x h in
+    (go r (index_from_first (λ t. place_of t x) (λ y. y ≡ x) (λ y. y ≢ x) none hit miss o r m) l, l)
   where
-    one : (r : ℕ) → 1 + r ≡ suc r
-    one r = omega arith
+    none : place_of [] x ≡ 0
+    none = refl
+
+    hit : (y : ℕ) (t : List ℕ) → y ≡ x → place_of (y ∷ t) x ≡ 0
+    hit y t e = rw (eq-eqb x y (sym e))
+
+    miss : (y : ℕ) (t : List ℕ) → y ≢ x → place_of (y ∷ t) x ≡ place_of t x + 1
+    miss y t n = rw (ne_eqb x y (λ q. n (sym q))) (omega arith)
+
+    go : (r : Option ℕ) → place_of o x ≡ unwrap_or r (length o) → place_of o x < length o → r ≡ Some (place_of o x)
+    go None e l = absurd (omega arith)
+    go (Some i) e l = ap Some (sym e)

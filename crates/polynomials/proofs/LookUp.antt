@@ -6,13 +6,13 @@ use mathlib.Core.Path.{◌≡◌, refl, sym, ap, ap₂, ◌∙◌}
 use mathlib.Core.Bool.{Bool, true, false, ◌&&◌, cond}
 use mathlib.Core.List.{List, ◌++◌}
 use Prim.Native.Nat.{ℕ, zero, suc, ◌+◌, ◌-◌, ◌*◌, ◌/◌, ◌%◌, ◌^◌, ◌≤◌, ◌<◌}
-use native.Mathlib.Nat.{pow-suc, add-mul, one-mul, mul-one, add-zero, sub-zero, mul_assoc, mul_comm, mul-le-mul, mod-lt}
+use native.Mathlib.Nat.{pow-suc, add-mul, one-mul, mul-one, add-zero, sub-zero, mul_assoc, mul_comm, mod-lt}
 use native.Mathlib.Decide.{dec_lt}
 use native.Mathlib.Omega.{arith}
-use lib.Arith.{digits_lt}
-use lib.Bits.{bit_and, bit_xor, and_mask}
+use lib.Bits.{bit_and, and_mask}
 use lib.Dec.{eqb}
-use lib.ListN.{length, get_or, set, drop}
+use lib.ListN.{length, get_or, take, drop}
+use lib.Seq.{get_or-take, get_or-drop}
 use lib.Pow.{pow_mono, pow-add, pow_pos}
 use borrow.Author.Tests.{le-ltb}
 use Rattle.ring.specs.Letters.{digit, bit, point_where}
@@ -20,10 +20,10 @@ use Rattle.ring.specs.Lists.{listed}
 use Rattle.ring.specs.Polynomial.{Polynomial, ◌⊕◌, value, substitute}
 use Rattle.ring.specs.Table.{present, table, held, for_unknowns}
 use Rattle.ring.proofs.Bool.{xor_false, digit_lt}
-use Rattle.ring.proofs.Lists.{get_d_listed}
+use Rattle.ring.proofs.Lists.{get_d_listed, listed_cong}
 use Rattle.ring.proofs.Points.{bit-point_where, point_where_lt, point_where_cong, same_letters, bit_none}
 use Rattle.ring.proofs.Substitute.{value-for_unknowns}
-use Rattle.tables.proofs.Filled.{filled, filled_low, filled_high, filled_more, filled_read}
+use Rattle.tables.proofs.Filled.{filled, filled_low, filled_all}
 use Rattle.words.specs.Inner.Words.{word_of, words_of, bit_at, answer_words}
 use Rattle.words.proofs.Bits.{bit_in, bit_over, shr_bit, shl_bit}
 use Rattle.words.proofs.Words.{word_cong, bit_at_lem, at_known}
@@ -178,13 +178,7 @@ four_chosen x a b c₀ c₁ c₂ c₃ low high r la lb e₀ e₁ e₂ e₃ el eh
         pair false true = refl
         pair false false = refl
 
--- a part's word lies within
-pub part_index : (j k w m : ℕ) → 2 < j → j ≤ 6 → w < k → m ≡ 6 * k → (j - 1) * k + w < m
-part_index j k w m h l hw e = let i : j - 1 < 6 = omega arith in rw e (digits_lt i hw)
-
-pub part_small : (j k : ℕ) → j ≤ 6 → k ≤ 16 → (j - 1) * k ≤ 96
-part_small j k h l = let i : j - 1 ≤ 6 = omega arith in mul-le-mul i l
-
+-- half of the words that are left
 pub half_small : (j half : ℕ) → 2 < j → j ≤ 6 → half ≡ 2 ^ (j - 1 - 2) → half + half ≤ 16
 half_small j half h l e =
     let i : j - 1 - 2 ≤ 3 = omega arith in
@@ -287,19 +281,19 @@ pub substitute_done : (u n : ℕ) (condition handed f f' out : List ℕ)
 substitute_done u n condition handed f f' out put ef eo =
     eo ∙ table_back n (substitute n n (present condition) (for_unknowns u (held n handed))) f' (put (present condition) ef)
 
--- ---- the loops
-pub choose_more : (b half p : ℕ) (t₀ t : List ℕ) → t ≡ filled p (λ p. chosen b (get_or t₀ p 0) (get_or t₀ (p + half) 0)) t₀ → p < half
-    → half + half ≤ length t₀
-    → set t p (bit_xor (get_or t p 0) (bit_and b (bit_xor (get_or t p 0) (get_or t (p + half) 0))))
-    ≡ filled (p + 1) (λ p. chosen b (get_or t₀ p 0) (get_or t₀ (p + half) 0)) t₀
-unfolding chosen
-choose_more b half p t₀ t e h l =
-    let F : ℕ → ℕ = λ p. chosen b (get_or t₀ p 0) (get_or t₀ (p + half) 0) in
-    filled_more p F t₀ t e _ (omega arith)
-    (ap₂ (λ (x y : ℕ). bit_xor x (bit_and b (bit_xor x y))) (filled_read p F t₀ t e (omega arith))
-    (ap (λ (l : List ℕ). get_or l (p + half) 0) e ∙ filled_high p F t₀ (p + half) (omega arith) (omega arith)))
+-- ---- the first half of some words after each has been chosen or that of the second in its place
+pub choose_end : (b half p : ℕ) (t low top low' : List ℕ) → low ≡ take half t → top ≡ drop half t → length low ≡ half → p ≡ half
+    → low' ≡ filled p (λ p. chosen b (get_or low p 0) (get_or top p 0)) low
+    → low' ++ top ≡ listed half (λ p. chosen b (get_or t p 0) (get_or t (p + half) 0)) ++ drop half t
+choose_end b half p t low top low' el et size ep e =
+    ap₂ (λ (x y : List ℕ). x ++ y)
+    (e ∙ ap (λ (k : ℕ). filled k F low) (ep ∙ sym size) ∙ filled_all F low ∙ ap (λ (k : ℕ). listed k F) size
+    ∙ listed_cong half _ _ (λ i h. ap₂ (chosen b)
+    (ap (λ (x : List ℕ). get_or x i 0) el ∙ get_or-take half t i 0 h)
+    (ap (λ (x : List ℕ). get_or x i 0) et ∙ get_or-drop half t i 0 ∙ ap (λ (k : ℕ). get_or t k 0) (flip half i)))) et
+  where
+    F : ℕ → ℕ
+    F p = chosen b (get_or low p 0) (get_or top p 0)
 
-pub choose_end : (b half p : ℕ) (t₀ t : List ℕ) → t ≡ filled p (λ p. chosen b (get_or t₀ p 0) (get_or t₀ (p + half) 0)) t₀ → p ≡ half
-    → t ≡ listed half (λ p. chosen b (get_or t₀ p 0) (get_or t₀ (p + half) 0)) ++ drop half t₀
-unfolding filled
-choose_end b half p t₀ t e ep = e ∙ ap (λ (x : ℕ). listed x (λ p. chosen b (get_or t₀ p 0) (get_or t₀ (p + half) 0)) ++ drop x t₀) ep
+    flip : (x y : ℕ) → x + y ≡ y + x
+    flip x y = omega arith

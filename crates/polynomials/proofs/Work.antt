@@ -28,11 +28,6 @@ use Rattle.words.proofs.Letters.{points, room, table_back}
 use Rattle.words.proofs.Parts.{part_length_lem, parts_end, words_parts}
 use Rattle.polynomials.specs.Inner.LookUp.{put_for}
 
-pub sum_done : (n : ℕ) (a b o₁ o₂ : List ℕ) → IsTable n a → o₁ ≡ a → o₂ ≡ tabulate (length o₁) (sum (present o₁) (present b))
-    → o₂ ≡ table n (sum (present a) (present b))
-unfolding table
-sum_done n a b o₁ o₂ t e₁ e₂ = e₂ ∙ rw (e₁, t.size)
-
 -- a table that is made, and one with another added to it
 pub made_table : (n : ℕ) (f : Polynomial) (o : List ℕ) → o ≡ table n f → IsTable n o
 unfolding table

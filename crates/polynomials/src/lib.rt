@@ -2,7 +2,8 @@
 // unknowns of a condition.
 // Nothing here is a public call of the library: the functions are for the crates above, which ask the questions first
 // and then lend slices of exactly the length that is needed. All but the sum go to values in words, and come back; `put_handed` stays there.
-// What a product, a sum or a substitution comes to is counted where its table is made: the number of monomials present.
+// What a product, a sum or a substitution comes to is counted where its table is made: the number of monomials present. The letters come as
+// their number n, at most 10, as in `words`, but where unknowns are replaced.
 
 #![tactic(auto)]
 
@@ -17,6 +18,8 @@ ghost use Rattle.ring.specs.Table.{AreBits, IsTable, present, tabulate, table, h
 ghost use Rattle.words.specs.Inner.Words.{word_of, words_of, bit_at, answer_words};
 ghost use Rattle.polynomials.specs.Inner.LookUp.{chosen, place_of, put_for};
 
+use tables::Letters;
+
 // The sum of at most 128 bytes of each, and how many bytes of it are 1. That is a byte too, so that the loop is one of whole vectors.
 fn add_few(a: &[u8], b: &[u8], out: &mut [u8]) -> u8
     requires { (length out.old ≤ 128) × (length a.now ≡ length out.old) × (length b.now ≡ length out.old)
@@ -25,23 +28,22 @@ fn add_few(a: &[u8], b: &[u8], out: &mut [u8]) -> u8
         × (result ≡ count (length out.old) (sum (present a.now) (present b.now))) }
 {
     let mut ones = 0u8;
-    for i in 0..out.len() {
-        let byte = a[i] ^ b[i];
-        out[i] = byte;
-        ones += byte;
+    for (i, byte) in out.iter_mut().enumerate() {
+        *byte = a[i] ^ b[i];
+        ones += *byte;
     }
     ones
 }
 
-// The same of any number of blocks of 128 bytes.
-fn add_blocks(a: &[u8], b: &[u8], out: &mut [u8], blocks: usize) -> usize
-    requires { (blocks ≤ 8) × (length out.old ≡ blocks * 128) × (length a.now ≡ blocks * 128) × (length b.now ≡ blocks * 128)
+// The same of any number of blocks of 128 bytes. By the number of the block, since after `chunks_exact_mut` a proof knows nothing of the bytes.
+fn add_blocks(a: &[u8], b: &[u8], out: &mut [u8]) -> usize
+    requires { (length out.old ≤ 1024) × (length out.old % 128 ≡ 0) × (length a.now ≡ length out.old) × (length b.now ≡ length out.old)
         × AreBits a.now × AreBits b.now }
-    ensures { (out.new ≡ tabulate (blocks * 128) (sum (present a.now) (present b.now)))
-        × (result ≡ count (blocks * 128) (sum (present a.now) (present b.now))) }
+    ensures { (out.new ≡ tabulate (length out.old) (sum (present a.now) (present b.now)))
+        × (result ≡ count (length out.old) (sum (present a.now) (present b.now))) }
 {
     let mut ones = 0;
-    for w in 0..blocks {
+    for w in 0..out.len() / 128 {
         let start = w * 128;
         let end = start + 128;
         ones += add_few(&a[start..end], &b[start..end], &mut out[start..end]) as usize;
@@ -58,23 +60,21 @@ pub fn add(n: usize, a: &[u8], b: &[u8], out: &mut [u8]) -> usize
     if n < 7 {
         return add_few(a, b, out) as usize;
     }
-    add_blocks(a, b, out, tables::pow2(n - 7))
+    add_blocks(a, b, out)
 }
 
-fn multiply_with(
-    n: usize,
-    a: &[u8],
-    b: &[u8],
-    out: &mut [u8],
-    counts: bool,
-    first: &mut [u64],
-    second: &mut [u64],
-) -> usize
-    requires { (n ≤ 10) × IsTable n a.now × IsTable n b.now × (length out.old ≡ 2 ^ n) × (length first.old ≡ 2 ^ (n - 6))
-        × (length second.old ≡ 2 ^ (n - 6)) }
+// The product of two tables, into a third, and the number of its monomials, 0 unless it counts them. The scratch words live here.
+#[tactic(auto, using(words::proofs::Letters::count_small, words::proofs::Words::size_words))]
+pub fn multiply(n: usize, a: &[u8], b: &[u8], out: &mut [u8], counts: bool) -> usize
+    requires { (n ≤ 10) × IsTable n a.now × IsTable n b.now × (length out.old ≡ 2 ^ n) }
     ensures { (out.new ≡ table n (product n (present a.now) (present b.now)))
         × (result ≡ cond counts (monomial_count n (present out.new)) 0) }
 {
+    let k = words::word_count(n);
+    let mut first_room = [0u64; 16];
+    let mut second_room = [0u64; 16];
+    let first = &mut first_room[..k];
+    let second = &mut second_room[..k];
     words::take_values(n, a, first);
     words::take_values(n, b, second);
     words::multiply_into(first, second);
@@ -83,18 +83,6 @@ fn multiply_with(
     }
     words::put_table(n, first, out);
     0
-}
-
-// The product of two tables, into a third, and the number of its monomials, 0 unless it counts them. The scratch words live here.
-pub fn multiply(n: usize, a: &[u8], b: &[u8], out: &mut [u8], counts: bool) -> usize
-    requires { (n ≤ 10) × IsTable n a.now × IsTable n b.now × (length out.old ≡ 2 ^ n) }
-    ensures { (out.new ≡ table n (product n (present a.now) (present b.now)))
-        × (result ≡ cond counts (monomial_count n (present out.new)) 0) }
-{
-    let k = words::word_count(n);
-    let mut first = [0u64; 16];
-    let mut second = [0u64; 16];
-    multiply_with(n, a, b, out, counts, &mut first[..k], &mut second[..k])
 }
 
 // Two tables joined, into a third: f + h + f*h.
@@ -107,33 +95,21 @@ pub fn join(n: usize, a: &[u8], b: &[u8], out: &mut [u8])
     tables::add_into(out, b);
 }
 
-fn derive_with(
-    n: usize,
-    t: &[u8],
-    s: usize,
-    out: &mut [u8],
-    values: &mut [u64],
-    flipped: &mut [u64],
-)
-    requires { (n ≤ 10) × IsTable n t.now × (s < 2 ^ n) × (length out.old ≡ 2 ^ n) × (length values.old ≡ 2 ^ (n - 6))
-        × (length flipped.old ≡ 2 ^ (n - 6)) }
-    ensures { out.new ≡ table n (derivative n s (present t.now)) }
-{
-    words::take_values(n, t, values);
-    words::flip(values, s, words::further(n), flipped);
-    words::add_into(values, flipped);
-    words::put_table(n, values, out);
-}
-
 // The derivative of a table by the letters of the mask s: at each point its value plus that at the flipped point. The scratch words live here.
+#[tactic(auto, using(words::proofs::Letters::count_small, words::proofs::Words::size_words))]
 pub fn derive(n: usize, t: &[u8], s: usize, out: &mut [u8])
     requires { (n ≤ 10) × IsTable n t.now × (s < 2 ^ n) × (length out.old ≡ 2 ^ n) }
     ensures { out.new ≡ table n (derivative n s (present t.now)) }
 {
     let k = words::word_count(n);
-    let mut values = [0u64; 16];
-    let mut flipped = [0u64; 16];
-    derive_with(n, t, s, out, &mut values[..k], &mut flipped[..k]);
+    let mut values_room = [0u64; 16];
+    let mut flipped_room = [0u64; 16];
+    let values = &mut values_room[..k];
+    let flipped = &mut flipped_room[..k];
+    words::take_values(n, t, values);
+    words::flip(values, s, words::further(n), flipped);
+    words::add_into(values, flipped);
+    words::put_table(n, values, out);
 }
 
 // One bit of a word at all points.
@@ -144,20 +120,13 @@ fn full(word: u64, p: usize) -> u64
     ((word >> p) & 1) * 0xffff_ffff_ffff_ffff
 }
 
-// Of two words, point by point the one that b chooses.
-fn pick(b: u64, clear: u64, set: u64) -> u64
-    ensures { result ≡ chosen b clear set }
-{
-    clear ^ (b & (clear ^ set))
-}
-
 // Of four bits, point by point the one at the place that a and b make.
 fn four(bits: u64, a: u64, b: u64) -> u64
     ensures { result ≡ word_of (λ i. bit bits (place_of a b i)) }
 {
-    let clear = pick(a, full(bits, 0), full(bits, 1));
-    let set = pick(a, full(bits, 2), full(bits, 3));
-    pick(b, clear, set)
+    let clear = words::pick(a, full(bits, 0), full(bits, 1));
+    let set = words::pick(a, full(bits, 2), full(bits, 3));
+    words::pick(b, clear, set)
 }
 
 // The same for all four bits that there are.
@@ -165,8 +134,8 @@ fn each_four(a: u64, b: u64, s: &mut [u64])
     requires { length s.old ≡ 16 }
     ensures { s.new ≡ listed 16 (λ x. word_of (λ i. bit x (place_of a b i))) }
 {
-    for x in 0..16 {
-        s[x] = four(x as u64, a, b);
+    for (x, word) in s.iter_mut().enumerate() {
+        *word = four(x as u64, a, b);
     }
 }
 
@@ -175,8 +144,8 @@ fn take_fours(word: u64, s: &[u64], t: &mut [u64])
     requires { (length s.now ≡ 16) × (length t.old ≡ 16) }
     ensures { t.new ≡ listed 16 (λ q. get_or s.now (word / 2 ^ (4 * q) % 16) 0) }
 {
-    for q in 0..16 {
-        t[q] = s[((word >> (4 * q)) & 15) as usize];
+    for (q, chosen) in t.iter_mut().enumerate() {
+        *chosen = s[((word >> (4 * q)) & 15) as usize];
     }
 }
 
@@ -186,9 +155,9 @@ fn choose(t: &mut [u64], b: u64, half: usize)
     ensures { t.new
         ≡ listed half (λ p. chosen b (get_or t.old p 0) (get_or t.old (p + half) 0)) ++ drop half t.old }
 {
-    for p in 0..half {
-        let clear = t[p];
-        t[p] = clear ^ (b & (clear ^ t[p + half]));
+    let (clear, set) = t.split_at_mut(half);
+    for (p, word) in clear.iter_mut().enumerate() {
+        *word = words::pick(b, *word, set[p]);
     }
 }
 
@@ -200,9 +169,8 @@ fn look_up_word(word: u64, parts: &[u64], k: usize, w: usize, t: &mut [u64], s: 
 {
     each_four(parts[w], parts[k + w], s);
     take_fours(word, s, t);
-    let mut j = 6;
-    while 2 < j {
-        j -= 1;
+    // By the letter's number.
+    for j in (2..6).rev() {
         choose(t, parts[j * k + w], tables::pow2(j - 2));
     }
     t[0]
@@ -215,8 +183,8 @@ fn look_up(f: &mut [u64], parts: &[u64], t: &mut [u64], s: &mut [u64])
         ≡ words_of (length f.old) (λ p. bit_at f.old (64 * (p / 64) + point_where 6 (λ j. bit_at parts.now (j * (64 * length f.old) + p)))) }
 {
     let k = f.len();
-    for w in 0..k {
-        f[w] = look_up_word(f[w], parts, k, w, t, s);
+    for (w, word) in f.iter_mut().enumerate() {
+        *word = look_up_word(*word, parts, k, w, t, s);
     }
 }
 
@@ -235,7 +203,7 @@ fn take_part(u: usize, n: usize, j: usize, handed: &[u8], part: &mut [u64])
     }
 }
 
-// The same for each of the six lowest letters.
+// The same for each of the six lowest letters. By the number of the letter, since after `chunks_exact_mut` a proof knows nothing of the words.
 fn take_parts(u: usize, n: usize, handed: &[u8], parts: &mut [u64])
     requires { (n ≤ 10) × (u ≤ 6) × (length handed.now ≡ u * 2 ^ n) × AreBits handed.now × (length parts.old ≡ 6 * 2 ^ (n - 6)) }
     ensures { parts.new ≡ answer_words 6 (2 ^ (n - 6)) (put_for u n handed.now) }
@@ -264,39 +232,22 @@ pub fn put_handed(u: usize, n: usize, handed: &[u8], f: &mut [u64], parts: &mut 
     look_up(f, parts, &mut t, &mut s);
 }
 
-fn substitute_with(
-    u: usize,
-    g: usize,
-    condition: &[u8],
-    handed: &[u8],
-    out: &mut [u8],
-    f: &mut [u64],
-    parts: &mut [u64],
-) -> usize
-    requires u_bound { (u ≤ 6) × (u + g ≤ 10) × IsTable (u + g) condition.now × (length handed.now ≡ u * 2 ^ (u + g)) × AreBits handed.now
-        × (length out.old ≡ 2 ^ (u + g)) }
-    requires f_len { (length f.old ≡ 2 ^ (u + g - 6)) × (length parts.old ≡ 6 * 2 ^ (u + g - 6)) }
-    ensures { (out.new
-        ≡ table (u + g) (substitute (u + g) (u + g) (present condition.now) (for_unknowns u (held (u + g) handed.now))))
-        × (result ≡ monomial_count (u + g) (present out.new)) }
-{
-    words::take_values(u + g, condition, f);
-    put_handed(u, u + g, handed, f, parts);
-    words::put_counted(u + g, f, out)
-}
-
 // Handed polynomials put for the unknowns of a condition, all at once, and the number of monomials of what comes out; the givens stay. The
 // scratch words live here.
-pub fn substitute(u: usize, g: usize, condition: &[u8], handed: &[u8], out: &mut [u8]) -> usize
-    requires { (u ≤ 6) × (u + g ≤ 10) × IsTable (u + g) condition.now × (length handed.now ≡ u * 2 ^ (u + g)) × AreBits handed.now
-        × (length out.old ≡ 2 ^ (u + g)) }
+#[tactic(auto, using(words::proofs::Letters::count_small, words::proofs::Words::size_words))]
+pub fn substitute(letters: Letters, condition: &[u8], handed: &[u8], out: &mut [u8]) -> usize
+    requires { IsTable letters.n condition.now × (length handed.now ≡ letters.unknowns * 2 ^ letters.n) × AreBits handed.now
+        × (length out.old ≡ 2 ^ letters.n) }
     ensures { (out.new
-        ≡ table (u + g) (substitute (u + g) (u + g) (present condition.now) (for_unknowns u (held (u + g) handed.now))))
-        × (result ≡ monomial_count (u + g) (present out.new)) }
+        ≡ table letters.n (substitute letters.n letters.n (present condition.now) (for_unknowns letters.unknowns (held letters.n handed.now))))
+        × (result ≡ monomial_count letters.n (present out.new)) }
 {
-    let k = words::word_count(u + g);
-    let all = 6 * k;
-    let mut f = [0u64; 16];
-    let mut parts = [0u64; 96];
-    substitute_with(u, g, condition, handed, out, &mut f[..k], &mut parts[..all])
+    let k = words::word_count(letters.n);
+    let mut f_room = [0u64; 16];
+    let mut parts_room = [0u64; 96];
+    let f = &mut f_room[..k];
+    let parts = &mut parts_room[..6 * k];
+    words::take_values(letters.n, condition, f);
+    put_handed(letters.unknowns, letters.n, handed, f, parts);
+    words::put_counted(letters.n, f, out)
 }

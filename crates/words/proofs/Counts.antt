@@ -11,9 +11,13 @@ use native.Mathlib.Omega.{arith}
 use lib.Arith.{lt-one}
 use lib.Bits.{bit_and, bit_or, bit_xor, and_mask}
 use lib.Count.{ones, ones_step, under, count_trailing_zeros}
-use lib.ListN.{length, get_or}
+use lib.ListN.{length, get_or, take}
 use lib.Pow.{pow_mono, pow_pos}
 use borrow.Author.Tests.{eq-eqb, ne_eqb}
+use mathlib.Core.Logic.{◌≢◌}
+use lib.Seq.{take-length}
+use Rattle.std.specs.List.{sum_by}
+use Rattle.std.proofs.lemmas.List.Sums.{sum_by_more}
 use Rattle.ring.specs.Letters.{digit, bit}
 use Rattle.ring.specs.Polynomial.{◌⊕◌, count}
 use Rattle.ring.specs.Table.{present, table}
@@ -96,15 +100,24 @@ pub eight_words : (a b c d e f g h first second third fours p q r s : ℕ)
 eight_words a b c d e f g h first second third fours p q r s e1 e2 e3 e4 ep eq er es = omega arith
 
 -- ---- several words
-pub count-start : (test : ℕ → Bool) (k : ℕ) → k ≡ 0 → 0 ≡ count (64 * k) test
+count-start : (test : ℕ → Bool) (k : ℕ) → k ≡ 0 → 0 ≡ count (64 * k) test
 unfolding count
 count-start test k e = rw e
 
-pub count_word : (ws : List ℕ) (i : ℕ) → count (64 * (i + 1)) (bit_at ws) ≡ count (64 * i) (bit_at ws) + ones_of (get_or ws i 0)
+count_word : (ws : List ℕ) (i : ℕ) → count (64 * (i + 1)) (bit_at ws) ≡ count (64 * i) (bit_at ws) + ones_of (get_or ws i 0)
 count_word ws i =
     let n : 64 * (i + 1) ≡ 64 * i + 64 = omega arith in
     ap (λ (x : ℕ). count x (bit_at ws)) n ∙ count_add (64 * i) 64 (bit_at ws)
     ∙ ap (λ (x : ℕ). count (64 * i) (bit_at ws) + x) (count_cong 64 _ _ (λ j m. bit_at_lem ws i j m))
+
+count_to : (ws : List ℕ) (i : ℕ) → i ≤ length ws → sum_by ones_of (take i ws) ≡ count (64 * i) (bit_at ws)
+count_to ws zero l = count-start (bit_at ws) 0 refl
+count_to ws (suc i) l =
+    let e : suc i ≡ i + 1 = omega arith in
+    rw e (sum_by_more ones_of ws i 0 (omega arith) ∙ ap (λ (x : ℕ). x + ones_of (get_or ws i 0)) (count_to ws i (omega arith)) ∙ sym (count_word ws i))
+
+pub count_all : (ws : List ℕ) → sum_by ones_of ws ≡ count (64 * length ws) (bit_at ws)
+count_all ws = ap (sum_by ones_of) (sym (take-length ws)) ∙ count_to ws (length ws) (omega arith)
 
 -- every second of sixteen, and the others
 pub sixteen_words : (ws : List ℕ) (r s : ℕ)
@@ -176,7 +189,7 @@ counted-crossed n r ws ws' out size e eo er el =
     ∙ count-crossed (length ws) (bit_at ws) ∙ ap (λ (k : ℕ). count k (bit_at ws)) size)
 
 -- ---- the first one
-pub trailing_first : (k n : ℕ) → n < 2 ^ k → 0 < n → (count_trailing_zeros k n < k) × First k (bit n) (count_trailing_zeros k n)
+trailing_first : (k n : ℕ) → n < 2 ^ k → 0 < n → (count_trailing_zeros k n < k) × First k (bit n) (count_trailing_zeros k n)
 unfolding count_trailing_zeros low
 trailing_first zero n l p = absurd (omega arith)
 trailing_first (suc k) n l p = go (n % 2) refl (trailing_first k (n / 2) (omega (arith, pow-suc 2 k)))
@@ -208,19 +221,13 @@ zero_bit : (j : ℕ) → bit 0 j ≡ false
 unfolding bit
 zero_bit j = rw (zero-div (2 ^ j))
 
--- a word without ones
-pub none_more : (ws : List ℕ) (i : ℕ) → ((p : ℕ) → p < 64 * i → bit_at ws p ≡ false) → get_or ws i 0 ≡ 0 → (p : ℕ) → p < 64 * (i + 1)
-    → bit_at ws p ≡ false
-none_more ws i before z p l = go (dec_lt p (64 * i))
-  where
-    go : Dec (p < 64 * i) → bit_at ws p ≡ false
-    go (yes h) = before p h
-    go (no h) =
-        let e : 64 * i + (p - 64 * i) ≡ p = omega (arith, h) in
-        ap (bit_at ws) (sym e) ∙ bit_at_lem ws i (p - 64 * i) (omega (arith, h)) ∙ ap (λ (x : ℕ). bit x (p - 64 * i)) z ∙ zero_bit (p - 64 * i)
+-- words without ones
+none_below : (ws : List ℕ) (i : ℕ) → ((k : ℕ) → k < i → get_or ws k 0 ≡ 0) → (p : ℕ) → p < 64 * i → bit_at ws p ≡ false
+unfolding bit_at
+none_below ws i none p l = ap (λ (x : ℕ). bit x (p % 64)) (none (p / 64) (omega arith)) ∙ zero_bit (p % 64)
 
 -- the first word that has one
-pub first_found : (ws : List ℕ) (i t : ℕ) → i < length ws → ((p : ℕ) → p < 64 * i → bit_at ws p ≡ false) → t < 64
+first_found : (ws : List ℕ) (i t : ℕ) → i < length ws → ((p : ℕ) → p < 64 * i → bit_at ws p ≡ false) → t < 64
     → First 64 (bit (get_or ws i 0)) t
     → First (64 * length ws) (bit_at ws) (64 * i + t)
 first_found ws i t l before h f =
@@ -232,6 +239,11 @@ first_found ws i t l before h f =
         let e : 64 * i + (p - 64 * i) ≡ p = omega (arith, k) in
         ap (bit_at ws) (sym e) ∙ bit_at_lem ws i (p - 64 * i) (omega (arith, k)) ∙ f.zeros (p - 64 * i) (omega (arith, k))
 
-pub first_none : (ws : List ℕ) (i : ℕ) → length ws ≤ i → ((p : ℕ) → p < 64 * i → bit_at ws p ≡ false)
-    → First (64 * length ws) (bit_at ws) (64 * length ws)
-first_none ws i l before = record { inside = omega arith; zeros = λ p m. before p (omega arith); one = λ m. absurd (omega arith) }
+pub first_at : (ws : List ℕ) (i : ℕ) → i < length ws → get_or ws i 0 < 2 ^ 64 → get_or ws i 0 ≢ 0 → ((k : ℕ) → k < i → get_or ws k 0 ≡ 0)
+    → First (64 * length ws) (bit_at ws) (64 * i + count_trailing_zeros 64 (get_or ws i 0))
+first_at ws i l small some none =
+    let first = trailing_first 64 (get_or ws i 0) small (omega (arith, some)) in
+    first_found ws i _ l (none_below ws i none) first.0 first.1
+
+pub first_none : (ws : List ℕ) → ((k : ℕ) → k < length ws → get_or ws k 0 ≡ 0) → First (64 * length ws) (bit_at ws) (64 * length ws)
+first_none ws none = record { inside = omega arith; zeros = none_below ws (length ws) none; one = λ m. absurd (omega arith) }

@@ -2,14 +2,14 @@
 -- Assumes nothing.
 use mathlib.Core.Path.{◌≡◌, refl, sym, ap, ap₂, ◌∙◌}
 use mathlib.Core.Bool.{Bool, true, false, not, ◌&&◌, cond, and_comm, and-false, beq, true≢false}
-use mathlib.Core.List.{List, [], ◌∷◌}
+use mathlib.Core.List.{List}
 use Prim.Native.Nat.{ℕ, zero, suc, ◌+◌, ◌-◌, ◌*◌, ◌/◌, ◌%◌, ◌^◌, ◌≤◌, ◌<◌}
 use native.Mathlib.Decide.{dec_lt}
-use native.Mathlib.Nat.{mod-lt, mul_comm, mul-one, zero-add, sub-zero, div-one, pow-suc}
+use native.Mathlib.Nat.{mod-lt, mul_comm, mul-one, zero-add, sub-zero, pow-suc, add-zero}
 use native.Mathlib.Omega.{arith}
 use lib.Dec.{eqb, ltb, leb}
 use lib.Bits.{bit_and, bit_xor, and_le_r, xor_lt}
-use lib.ListN.{length, get_or, set, take, drop, get_or-eq_default}
+use lib.ListN.{length, get_or, take, drop, get_or-eq_default}
 use lib.Pow.{pow_pos, pow_mono, pow-add}
 use lib.Seq.{get_or-take, get_or-drop}
 use borrow.Author.Tests.{eqb-true, ltb-true, le-leb, lt-leb}
@@ -20,17 +20,17 @@ use Rattle.ring.specs.Table.{present, AreBits, tabulate, table}
 use Rattle.ring.proofs.Bool.{same_bool, digit_lt}
 use Rattle.ring.proofs.Bitwise.{and_bit, xor_bit}
 use Rattle.ring.proofs.Every.{every_all}
+use Rattle.std.specs.Int.{w64, from_le_bytes}
 use Rattle.ring.proofs.Lists.{tabulate-listed, listed_cong}
 use Rattle.ring.proofs.Points.{bit_none, same_letters}
 use Rattle.ring.proofs.Table.{tabulate_cong}
 use Rattle.tables.proofs.Bits.{byte_digit}
-use Rattle.tables.proofs.Filled.{filled_read}
 use Rattle.words.specs.Inner.Words.{word_of, words_of, bit_at, crossed, eight_of}
 use Rattle.words.proofs.Bits.{shl_bit, shr_bit, shl_none}
 use Rattle.words.proofs.Words.{word_bit, word_is, word_cong, words_cong, size_words, bit_at_lem, at_known}
 use Rattle.words.proofs.Packing.{small_size}
 use Rattle.words.proofs.Letters.{room}
-use Rattle.words.proofs.Holds.{word_holds, also_holds, words_to, words_more}
+use Rattle.words.proofs.Holds.{Holds, word_holds, also_holds}
 
 -- ---- points
 crossed_digits : (w a b : ℕ) → a < 8 → b < 8 → crossed (w * 64 + a * 8 + b) ≡ w * 64 + b * 8 + a
@@ -69,20 +69,24 @@ all_rows : (x : ℕ → Bool)
 unfolding word_of point_where crossed eight_of
 all_rows x = omega arith
 
--- the bytes as they are read, the last first
-pub eight_read : (t : List ℕ) (p a b c d e f g h : ℕ) → AreBits t → a ≡ get_or t (p + 7) 0 → b ≡ get_or t (p + 6) 0 → c ≡ get_or t (p + 5) 0
-    → d ≡ get_or t (p + 4) 0
-    → e ≡ get_or t (p + 3) 0 → f ≡ get_or t (p + 2) 0 → g ≡ get_or t (p + 1) 0 → h ≡ get_or t p 0
-    → ((((((((a * 256 + b) * 256 + c) * 256 + d) * 256 + e) * 256 + f) * 256 + g) * 256 + h) ≡ eight_of (present t) p)
-    × (((((((a * 256 + b) * 256 + c) * 256 + d) * 256 + e) * 256 + f) * 256 + g) * 256 + h ≤ 0x0101_0101_0101_0101)
+-- the bytes as they are read
+pub eight_read : (t bytes : List ℕ) (p : ℕ) → AreBits t → p + 8 ≤ length t → bytes ≡ take (p + 8 - p) (drop p t)
+    → (from_le_bytes w64 bytes ≡ eight_of (present t) p) × (from_le_bytes w64 bytes ≤ 0x0101_0101_0101_0101)
 unfolding eight_of present
-eight_read t p a b c d e f g h bits ea eb ec ed ee ef eg eh = (
-  omega (arith, at p, at (p + 1), at (p + 2), at (p + 3), at (p + 4), at (p + 5), at (p + 6), at (p + 7)),
-  omega (arith, bits p, bits (p + 1), bits (p + 2), bits (p + 3), bits (p + 4), bits (p + 5), bits (p + 6), bits (p + 7)),
-)
+eight_read t bytes p bits fits e =
+    let sum : from_le_bytes w64 bytes
+    ≡ get_or bytes 0 0 + get_or bytes 1 0 * 0x100 + get_or bytes 2 0 * 0x1_0000 + get_or bytes 3 0 * 0x100_0000 + get_or bytes 4 0 * 0x1_0000_0000
+    + get_or bytes 5 0 * 0x100_0000_0000 + get_or bytes 6 0 * 0x1_0000_0000_0000 + get_or bytes 7 0 * 0x100_0000_0000_0000 = refl in
+    rw sum (rw (read 0 (omega arith), read 1 (omega arith), read 2 (omega arith), read 3 (omega arith), read 4 (omega arith), read 5 (omega arith), read 6 (omega arith), read 7 (omega arith), add-zero) (
+      omega (arith, at p, at (p + 1), at (p + 2), at (p + 3), at (p + 4), at (p + 5), at (p + 6), at (p + 7)),
+      omega (arith, bits p, bits (p + 1), bits (p + 2), bits (p + 3), bits (p + 4), bits (p + 5), bits (p + 6), bits (p + 7)),
+    ))
   where
     at : (i : ℕ) → get_or t i 0 ≡ digit (eqb (get_or t i 0) 1)
     at i = byte_digit (get_or t i 0) (bits i)
+
+    read : (i : ℕ) → i < 8 → get_or bytes i 0 ≡ get_or t (p + i) 0
+    read i l = ap (λ (x : List ℕ). get_or x i 0) e ∙ get_or-take (p + 8 - p) (drop p t) i 0 (omega arith) ∙ get_or-drop p t i 0
 
 -- eight rows of eight bytes, the last first
 pub rows_word : (x : ℕ → Bool) (a b c d e f g h : ℕ) → a ≡ eight_of x 56 → b ≡ eight_of x 48 → c ≡ eight_of x 40 → d ≡ eight_of x 32
@@ -144,9 +148,9 @@ unfolding word_of point_where crossed eight_of rows_from
 rows_whole x = omega arith
 
 -- one row after another, from the last on
-pub rows_start : (x : ℕ → Bool) (j k : ℕ) → j ≡ k → 0 ≡ rows_from x j (k - j)
+pub rows_start : (x : ℕ → Bool) (k : ℕ) → 0 ≡ rows_from x k (k - k)
 unfolding rows_from
-rows_start x j k e = let z : k - j ≡ 0 = omega arith in rw z refl
+rows_start x k = let z : k - k ≡ 0 = omega arith in rw z refl
 
 module _ (x : ℕ → Bool) (k j v : ℕ) (e : v ≡ rows_from x j (k - j)) (pos : 0 < j) (few : k ≤ 8) where
   -- a further row fits into the word
@@ -276,14 +280,10 @@ cross_word v l =
     (crossed i)) refl i k)))
 
 -- ---- words
-pub cross_more : (xs t : List ℕ) (i v : ℕ) → t ≡ words_to i (λ p. bit_at xs (crossed p)) xs → i < length xs
-    → v ≡ word_of (λ b. bit (get_or t i 0) (crossed b))
-    → set t i v ≡ words_to (i + 1) (λ p. bit_at xs (crossed p)) xs
-cross_more xs t i v e l ev =
-    words_more (λ p. bit_at xs (crossed p)) xs t i v e l
-    (also_holds (word_holds v _ ev) (λ b k.
-    ap (λ (x : ℕ). bit x (crossed b)) (filled_read i _ xs t e l) ∙ sym (bit_at_lem xs i (crossed b) (crossed_lt 1 b k))
-    ∙ ap (bit_at xs) (sym (crossed_in i b k))))
+pub cross_holds : (xs : List ℕ) (w v : ℕ) → v ≡ word_of (λ b. bit (get_or xs w 0) (crossed b)) → Holds v (λ b. bit_at xs (crossed (64 * w + b)))
+cross_holds xs w v ev =
+    also_holds (word_holds v _ ev) (λ b k.
+    sym (bit_at_lem xs w (crossed b) (crossed_lt 1 b k)) ∙ ap (bit_at xs) (sym (crossed_in w b k)))
 
 -- words gathered crossed, and crossed again
 pub crossed_back : (k m : ℕ) (h : ℕ → Bool) (ws ws' : List ℕ) → m ≡ k → ws ≡ words_of m (λ p. h (crossed p))
@@ -294,27 +294,6 @@ crossed_back k m h ws ws' em e e' =
     ∙ words_cong k _ _ (λ p l. at_known m (λ p. h (crossed p)) ws e (crossed p) (rw em (crossed_lt k p l)) ∙ ap h (crossed_twice p))
 
 -- ---- a crossed word into bytes
-pub eight_put : (v : ℕ) (xs : List ℕ) (a b c d e f g h : ℕ) → length xs ≡ 8 → a ≡ v % 256 → b ≡ v / 2 ^ 8 % 256 → c ≡ v / 2 ^ 16 % 256
-    → d ≡ v / 2 ^ 24 % 256
-    → e ≡ v / 2 ^ 32 % 256 → f ≡ v / 2 ^ 40 % 256 → g ≡ v / 2 ^ 48 % 256 → h ≡ v / 2 ^ 56 % 256
-    → set (set (set (set (set (set (set (set xs 0 a) 1 b) 2 c) 3 d) 4 e) 5 f) 6 g) 7 h ≡ listed 8 (λ i. v / 2 ^ (8 * i) % 256)
-unfolding listed
-eight_put v xs a b c d e f g h l ea eb ec ed ee ef eg eh =
-    all_set xs a b c d e f g h l ∙ rw (ea, eb, ec, ed, ee, ef, eg, eh, div-one)
-  where
-    all_set : (xs : List ℕ) (a b c d e f g h : ℕ) → length xs ≡ 8
-        → set (set (set (set (set (set (set (set xs 0 a) 1 b) 2 c) 3 d) 4 e) 5 f) 6 g) 7 h ≡ a ∷ b ∷ c ∷ d ∷ e ∷ f ∷ g ∷ h ∷ []
-    all_set [] a b c d e f g h l = absurd (omega arith)
-    all_set (x0 ∷ []) a b c d e f g h l = absurd (omega arith)
-    all_set (x0 ∷ x1 ∷ []) a b c d e f g h l = absurd (omega arith)
-    all_set (x0 ∷ x1 ∷ x2 ∷ []) a b c d e f g h l = absurd (omega arith)
-    all_set (x0 ∷ x1 ∷ x2 ∷ x3 ∷ []) a b c d e f g h l = absurd (omega arith)
-    all_set (x0 ∷ x1 ∷ x2 ∷ x3 ∷ x4 ∷ []) a b c d e f g h l = absurd (omega arith)
-    all_set (x0 ∷ x1 ∷ x2 ∷ x3 ∷ x4 ∷ x5 ∷ []) a b c d e f g h l = absurd (omega arith)
-    all_set (x0 ∷ x1 ∷ x2 ∷ x3 ∷ x4 ∷ x5 ∷ x6 ∷ []) a b c d e f g h l = absurd (omega arith)
-    all_set (x0 ∷ x1 ∷ x2 ∷ x3 ∷ x4 ∷ x5 ∷ x6 ∷ x7 ∷ []) a b c d e f g h l = refl
-    all_set (x0 ∷ x1 ∷ x2 ∷ x3 ∷ x4 ∷ x5 ∷ x6 ∷ x7 ∷ x8 ∷ xs) a b c d e f g h l = absurd (omega arith)
-
 crossed_small : (j i : ℕ) → j < 8 → i < 8 → crossed (j * 8 + i) ≡ j + 8 * i
 unfolding crossed
 crossed_small j i lj li =

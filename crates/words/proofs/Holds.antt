@@ -10,13 +10,15 @@ use lib.Dec.{eqb}
 use lib.Bits.{bit_and, bit_xor, and_lt, xor_lt}
 use lib.ListN.{length, get_or, set}
 use Rattle.ring.specs.Letters.{bit}
+use Rattle.ring.specs.Lists.{listed}
 use Rattle.ring.specs.Polynomial.{◌⊕◌, every_below}
 use Rattle.ring.proofs.Bool.{same_bool}
 use Rattle.ring.proofs.Every.{every_all}
+use Rattle.ring.proofs.Lists.{listed_get_d}
 use Rattle.ring.proofs.Bitwise.{and_bit, xor_bit}
 use Rattle.tables.proofs.Filled.{filled, filled_more}
-use Rattle.words.specs.Inner.Words.{word_of, words_of, bit_at}
-use Rattle.words.proofs.Words.{word_is, word_lt, word_bit, bit_at_lem}
+use Rattle.words.specs.Inner.Words.{word_of, words_of}
+use Rattle.words.proofs.Words.{word_is, word_lt, word_bit, words_listed}
 
 -- the machine word v has the bits h
 pub record Holds (v : ℕ) (h : ℕ → Bool) : Type 0 where
@@ -29,9 +31,6 @@ own_holds v l = record { small = l; bits = λ i _. refl }
 
 pub word_holds : (v : ℕ) (h : ℕ → Bool) → v ≡ word_of h → Holds v h
 word_holds v h e = record { small = rw e (word_lt h); bits = λ i l. ap (λ (x : ℕ). bit x i) e ∙ word_bit h i l }
-
-pub read_holds : (ws : List ℕ) (w v : ℕ) → get_or ws w 0 < 2 ^ 64 → v ≡ get_or ws w 0 → Holds v (λ i. bit_at ws (64 * w + i))
-read_holds ws w v l e = record { small = rw e l; bits = λ i m. ap (λ (x : ℕ). bit x i) e ∙ sym (bit_at_lem ws w i m) }
 
 -- the operators
 pub and_holds : {v w : ℕ} {g h : ℕ → Bool} → Holds v g → Holds w h → Holds (bit_and v w) (λ i. g i && h i)
@@ -73,6 +72,17 @@ words_to i h xs = filled i (λ w. word_of (λ b. h (64 * w + b))) xs
 pub words_more : (h : ℕ → Bool) (xs t : List ℕ) (i v : ℕ) → t ≡ words_to i h xs → i < length xs → Holds v (λ b. h (64 * i + b))
     → set t i v ≡ words_to (i + 1) h xs
 words_more h xs t i v e l a = filled_more i (λ w. word_of (λ b. h (64 * w + b))) xs t e v l (holds_word v (λ b. h (64 * i + b)) a)
+
+-- a list that holds h word by word
+pub words_by : (h : ℕ → Bool) (k : ℕ) (t : List ℕ) → length t ≡ k → ((w : ℕ) → w < k → Holds (get_or t w 0) (λ b. h (64 * w + b))) → t ≡ words_of k h
+words_by h k t e a =
+    sym (listed_get_d t) ∙ ap (λ (x : ℕ). listed x (λ w. get_or t w 0)) e
+    ∙ words_listed k (λ w. get_or t w 0) h (λ w l. holds_word (get_or t w 0) (λ b. h (64 * w + b)) (a w l))
+
+-- the same, point by point, of a list that is known to be of machine words
+pub words_each : (h : ℕ → Bool) (k : ℕ) (t : List ℕ) → length t ≡ k → ((w : ℕ) → w < k → get_or t w 0 < 2 ^ 64)
+    → ((w i : ℕ) → w < k → i < 64 → bit (get_or t w 0) i ≡ h (64 * w + i)) → t ≡ words_of k h
+words_each h k t e s a = words_by h k t e (λ w l. record { small = s w l; bits = λ i m. a w i l m })
 
 -- words of a number that is known otherwise
 pub words_sized : (k k' : ℕ) (h : ℕ → Bool) (ws : List ℕ) → ws ≡ words_of k h → k ≡ k' → ws ≡ words_of k' h

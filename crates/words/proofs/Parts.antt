@@ -2,14 +2,16 @@
 -- Assumes nothing.
 use mathlib.Core.Path.{◌≡◌, sym, ap, ap₂, ◌∙◌}
 use mathlib.Core.Bool.{Bool}
-use mathlib.Core.List.{List, append_assoc}
+use mathlib.Core.List.{List, append_assoc, reverse}
 use Prim.Native.Nat.{ℕ, ◌+◌, ◌-◌, ◌*◌, ◌/◌, ◌%◌, ◌≤◌, ◌<◌}
 use native.Mathlib.Decide.{dec_lt}
 use native.Mathlib.Nat.{add-mul, one-mul, mul_assoc, mul_comm, mul-le-mul_right, mod-lt, div-add-mod'}
 use native.Mathlib.Omega.{arith}
 use lib.Arith.{digits_lt, digits_div, digits_mod}
-use lib.ListN.{length, take, drop, length-drop}
+use lib.ListN.{length, get_or, take, drop, length-drop}
 use lib.Seq.{take_at, drop_at, drop-drop, length-take-le}
+use Rattle.std.proofs.lemmas.Grind.{get_or_default_zero}
+use Rattle.std.proofs.lemmas.List.{length-reverse, get_or-reverse}
 use borrow.Rule.Slice.PartMut.{put_mid}
 use Rattle.ring.specs.Lists.{listed}
 use Rattle.ring.proofs.Lists.{length-listed, listed_add}
@@ -86,3 +88,10 @@ unfolding answer_words
 answer_at_lem u k x p h ws e hx hp =
     let l : x * (64 * k) + p < 64 * (u * k) = rw (← points_in u k) (digits_lt hx hp) in
     at_known (u * k) _ ws e (x * (64 * k) + p) l ∙ ap₂ h (digits_div x hp) (digits_mod x hp)
+
+-- the item of a turn of a loop backwards, which has yielded k
+pub from_back : (t : List ℕ) (k item : ℕ) → (k < length (reverse t)) × (item ≡ get_or (reverse t) k item)
+    → (k < length t) × (item ≡ get_or t (length t - 1 - k) 0)
+from_back t k item h =
+    let l : k < length t = omega (arith, length-reverse t, h.0) in
+    (l, h.1 ∙ get_or-reverse t k item l ∙ get_or_default_zero t _ item (omega arith))

@@ -1,11 +1,12 @@
 // The bottom of words: truth values of a polynomial, 64 points to a word, and the work on them.
-// Words have six letters or more: a polynomial in fewer is taken as one in six. `c` is the number of letters beyond six.
+// Words have six letters or more: a polynomial in fewer is taken as one in six. `c` is the number of letters beyond six. The letters come as
+// their number n, at most 10, and not as `Letters`: here unknowns and givens are the same.
 // Nothing here is a public call of the library: the functions are for the crates above, which ask the questions first
 // and then lend slices of exactly the length that is needed.
 
 #![tactic(auto)]
 
-ghost use Rattle.std.specs.Prelude.{◌≡◌, List, ◌++◌, Bool, true, false, ◌&&◌, cond, ℕ, ◌+◌, ◌-◌, ◌*◌, ◌/◌, ◌%◌, ◌^◌, ◌≤◌, ◌<◌, length, get_or, drop};
+ghost use Rattle.std.specs.Prelude.{◌≡◌, List, ◌++◌, Bool, true, false, ◌&&◌, cond, ℕ, ◌+◌, ◌-◌, ◌*◌, ◌/◌, ◌%◌, ◌^◌, ◌≤◌, ◌<◌, length, get_or, take, drop};
 ghost use Rattle.std.specs.Int.Bits.{bit_and, bit_or, bit_xor};
 ghost use Rattle.ring.specs.Lists.{listed};
 ghost use Rattle.ring.specs.Letters.{digit, bit, assign};
@@ -13,7 +14,7 @@ ghost use Rattle.ring.specs.Polynomial.{◌⊕◌, count, value};
 ghost use Rattle.ring.specs.Derivative.{flipped};
 ghost use Rattle.ring.specs.Table.{AreBits, IsTable, present, tabulate, table};
 ghost use Rattle.ring.specs.Length.{monomial_count};
-ghost use Rattle.words.specs.Inner.Words.{word_of, words_of, bit_at, First, low_letters, stepped, stepped_below, xor_run, turned, crossed};
+ghost use Rattle.words.specs.Inner.Words.{word_of, words_of, bit_at, First, low_letters, stepped, stepped_below, turned, crossed, GivesValues};
 ghost use Rattle.words.specs.Inner.Words.{eight_of, ones_of};
 
 // The number of words of n letters.
@@ -37,35 +38,25 @@ pub fn further(n: usize) -> usize
     n - 6
 }
 
-fn wide(byte: u8) -> u64
-    ensures { (result ≡ byte) × (result < 256) }
-{
-    byte as u64
-}
-
 // The word of at most 64 bytes, the last first: for tables that are too short to take eight at a time.
 fn pack_word(t: &[u8]) -> u64
     requires { (length t.now ≤ 64) × AreBits t.now }
     ensures { result ≡ word_of (present t.now) }
 {
     let mut word = 0u64;
-    let mut i = t.len();
-    while 0 < i {
-        i -= 1;
-        word = word * 2 + wide(t[i]);
+    for byte in t.iter().rev() {
+        word = word * 2 + u64::from(*byte);
     }
     word
 }
 
-// Eight bytes as the bytes of a word. In one function by itself, so that it is one load.
+// Eight bytes as the bytes of a word, the first one lowest.
 fn eight(t: &[u8], at: usize) -> u64
     requires { (at + 8 ≤ length t.now) × AreBits t.now }
     ensures { (result ≡ eight_of (present t.now) at) × (result ≤ 0x0101_0101_0101_0101) }
 {
-    let high = ((wide(t[at + 7]) * 256 + wide(t[at + 6])) * 256 + wide(t[at + 5])) * 256
-        + wide(t[at + 4]);
-    (((high * 256 + wide(t[at + 3])) * 256 + wide(t[at + 2])) * 256 + wide(t[at + 1])) * 256
-        + wide(t[at])
+    let bytes: [u8; 8] = t[at..at + 8].try_into().unwrap();
+    u64::from_le_bytes(bytes)
 }
 
 // 64 bytes as a word that is crossed: eight at a time they stand in its bytes, those behind them a bit higher.
@@ -77,15 +68,13 @@ fn gather(t: &[u8]) -> u64
     (((high * 2 + eight(t, 24)) * 2 + eight(t, 16)) * 2 + eight(t, 8)) * 2 + eight(t, 0)
 }
 
-// The same of fewer bytes, eight times `eights`.
-fn gather_few(t: &[u8], eights: usize) -> u64
-    requires { (eights ≤ 8) × (length t.now ≡ eights * 8) × AreBits t.now }
+// The same of fewer bytes, still eight at a time, by the place of each eight, which `eight` takes.
+fn gather_few(t: &[u8]) -> u64
+    requires { (length t.now ≤ 64) × (length t.now % 8 ≡ 0) × AreBits t.now }
     ensures { result ≡ word_of (λ i. present t.now (crossed i)) }
 {
     let mut word = 0u64;
-    let mut j = eights;
-    while 0 < j {
-        j -= 1;
+    for j in (0..t.len() / 8).rev() {
         word = word * 2 + eight(t, j * 8);
     }
     word
@@ -96,11 +85,11 @@ fn gather_all(t: &[u8], words: &mut [u64])
     requires { (length t.now ≡ 64 * length words.old) × AreBits t.now }
     ensures { words.new ≡ words_of (length words.old) (λ p. present t.now (crossed p)) }
 {
-    for w in 0..words.len() {
+    put_each(words, |w, _| {
         let start = w * 64;
         let end = start + 64;
-        words[w] = gather(&t[start..end]);
-    }
+        gather(&t[start..end])
+    });
 }
 
 // The word crossed, by three exchanges of one letter with one.
@@ -115,13 +104,11 @@ fn cross(word: u64) -> u64
     second ^ c ^ (c << 28)
 }
 
-// Each word crossed. A loop by itself, so that it is one of whole vectors.
+// Each word crossed.
 fn cross_all(words: &mut [u64])
     ensures { words.new ≡ words_of (length words.old) (λ p. bit_at words.old (crossed p)) }
 {
-    for i in 0..words.len() {
-        words[i] = cross(words[i]);
-    }
+    put_each(words, |_, word| cross(word));
 }
 
 // The bytes of a table into words. Fewer than six letters leave the points behind the table's end at 0.
@@ -134,47 +121,28 @@ pub fn pack(n: usize, t: &[u8], words: &mut [u64])
         return;
     }
     if n < 6 {
-        words[0] = cross(gather_few(t, tables::pow2(n - 3)));
+        words[0] = cross(gather_few(t));
         return;
     }
     gather_all(t, words);
     cross_all(words);
 }
 
-fn bit_of(word: u64, i: usize) -> u8
-    requires { i < 64 }
-    ensures { result ≡ digit (bit word i) }
-{
-    ((word >> i) & 1) as u8
-}
-
-fn low_byte(word: u64) -> u8
-    ensures { result ≡ word % 256 }
-{
-    (word & 255) as u8
-}
-
-// The bytes of a word. In one function by itself, so that it is one store.
+// The bytes of a word, the lowest first.
 fn put_eight(word: u64, out: &mut [u8])
     requires { length out.old ≡ 8 }
     ensures { out.new ≡ listed 8 (λ i. word / 2 ^ (8 * i) % 256) }
 {
-    out[0] = low_byte(word);
-    out[1] = low_byte(word >> 8);
-    out[2] = low_byte(word >> 16);
-    out[3] = low_byte(word >> 24);
-    out[4] = low_byte(word >> 32);
-    out[5] = low_byte(word >> 40);
-    out[6] = low_byte(word >> 48);
-    out[7] = low_byte(word >> 56);
+    out.copy_from_slice(&word.to_le_bytes());
 }
 
-// The bits of a crossed word, a byte each, eight at a time.
-fn unpack_word(word: u64, out: &mut [u8], eights: usize)
-    requires { (eights ≤ 8) × (length out.old ≡ eights * 8) }
+// The bits of a crossed word, a byte each, eight at a time. By the number of the eight, since after `chunks_exact_mut` a proof knows nothing of
+// the bytes; so it is in `unpack_some` too.
+fn unpack_word(word: u64, out: &mut [u8])
+    requires { (length out.old ≤ 64) × (length out.old % 8 ≡ 0) }
     ensures { out.new ≡ tabulate (length out.old) (λ p. bit word (crossed p)) }
 {
-    for j in 0..eights {
+    for j in 0..out.len() / 8 {
         let start = j * 8;
         let end = start + 8;
         put_eight((word >> j) & 0x0101_0101_0101_0101, &mut out[start..end]);
@@ -192,7 +160,7 @@ fn unpack_some(words: &[u64], out: &mut [u8], from: usize, to: usize)
     for w in from..to {
         let start = w * 64;
         let end = start + 64;
-        unpack_word(words[w], &mut out[start..end], 8);
+        unpack_word(words[w], &mut out[start..end]);
     }
 }
 
@@ -209,8 +177,8 @@ fn unpack_each(words: &[u64], out: &mut [u8])
     requires { length out.old ≤ 64 * length words.now }
     ensures { out.new ≡ tabulate (length out.old) (bit_at words.now) }
 {
-    for p in 0..out.len() {
-        out[p] = bit_of(words[p >> 6], p & 63);
+    for (p, byte) in out.iter_mut().enumerate() {
+        *byte = u8::from(value_at(words, p));
     }
 }
 
@@ -225,7 +193,7 @@ fn unpack(n: usize, words: &mut [u64], out: &mut [u8])
     }
     cross_all(words);
     if n < 6 {
-        unpack_word(words[0], out, tables::pow2(n - 3));
+        unpack_word(words[0], out);
         return;
     }
     unpack_all(words, out);
@@ -236,7 +204,7 @@ pub fn value_at(words: &[u64], p: usize) -> bool
     requires { p < 64 * length words.now }
     ensures { result ≡ bit_at words.now p }
 {
-    bit_of(words[p >> 6], p & 63) == 1
+    (words[p >> 6] >> (p & 63)) & 1 == 1
 }
 
 // A letter below six at the 64 points of a word. By a match, since a constant array would be built anew at each call.
@@ -280,14 +248,12 @@ fn step_word(word: u64, j: usize) -> u64
     word ^ ((word << tables::pow2(j)) & low_letter(j))
 }
 
-// The steps of the six lowest letters.
+// The steps of the six lowest letters, by their numbers.
 fn word_values(word: u64) -> u64
     ensures { result ≡ word_of (stepped_below 6 (bit word)) }
 {
     let mut v = word;
-    let mut j = 6;
-    while 0 < j {
-        j -= 1;
+    for j in (0..6).rev() {
         v = step_word(v, j);
     }
     v
@@ -297,61 +263,71 @@ fn word_values(word: u64) -> u64
 fn low_values(t: &mut [u64])
     ensures { t.new ≡ words_of (length t.old) (stepped_below 6 (bit_at t.old)) }
 {
-    for i in 0..t.len() {
-        t[i] = word_values(t[i]);
-    }
+    put_each(t, |_, word| word_values(word));
 }
 
-// A block of a step between words: w words, each added to the one w behind it.
-fn add_block(t: &mut [u64], lo: usize, w: usize)
-    requires { lo + w + w ≤ length t.old }
-    ensures { t.new ≡ xor_run t.old lo w w }
+// The first half of a block added to the second.
+fn add_half(block: &mut [u64], half: usize)
+    requires { length block.old ≡ 2 * half }
+    ensures { block.new
+        ≡ take half block.old ++ words_of half (λ p. bit_at block.old (64 * half + p) ⊕ bit_at block.old p) }
 {
-    for i in 0..w {
-        let p = lo + w + i;
-        t[p] = t[p] ^ t[lo + i];
-    }
+    let (low, high) = block.split_at_mut(half);
+    add_into(high, low);
 }
 
-// The step of letter 6 + j of 6 + c.
+// The step of letter 6 + j of 6 + c: in each block of words the first half is added to the second. By the number of the block, since after
+// `chunks_exact_mut` a proof knows nothing of the words.
 fn step_words(t: &mut [u64], j: usize, c: usize)
     requires { (j < c) × (c ≤ 4) × (length t.old ≡ 2 ^ c) }
     ensures { t.new ≡ words_of (2 ^ c) (stepped (bit_at t.old) (6 + j)) }
 {
-    let w = tables::pow2(j);
+    let half = tables::pow2(j);
+    let size = 2 * half;
     let blocks = tables::pow2(c - j - 1);
     for b in 0..blocks {
-        add_block(t, 2 * b * w, w);
+        let start = b * size;
+        let end = start + size;
+        add_half(&mut t[start..end], half);
     }
 }
 
-// From coefficients to values, or back, in place, of 6 + c letters: the last letter first.
+// From coefficients to values, or back, in place, of 6 + c letters, by their numbers: the last first.
 fn pass(t: &mut [u64], c: usize)
     requires { (c ≤ 4) × (length t.old ≡ 2 ^ c) }
     ensures { t.new ≡ words_of (2 ^ c) (value (6 + c) (bit_at t.old)) }
 {
-    let mut j = c;
-    while 0 < j {
-        j -= 1;
+    for j in (0..c).rev() {
         step_words(t, j, c);
     }
     low_values(t);
 }
 
-// The same. Ten letters have a call of their own, so that its widths are literals; up to six are one word, which needs no loop.
+// The same of more words than one. Each number of letters has a call of its own, so that all widths are literals; not inlined, since callers
+// of a single word would else carry the code of all widths.
+#[inline(never)]
+fn pass_each(t: &mut [u64], c: usize)
+    requires { (0 < c) × (c ≤ 4) × (length t.old ≡ 2 ^ c) }
+    ensures { t.new ≡ words_of (2 ^ c) (value (6 + c) (bit_at t.old)) }
+{
+    match c {
+        1 => pass(t, 1),
+        2 => pass(t, 2),
+        3 => pass(t, 3),
+        _ => pass(t, 4),
+    }
+}
+
+// The same. Up to six letters are one word, which needs no loop.
 pub fn to_values(t: &mut [u64], c: usize)
     requires { (c ≤ 4) × (length t.old ≡ 2 ^ c) }
     ensures { t.new ≡ words_of (2 ^ c) (value (6 + c) (bit_at t.old)) }
 {
-    if c == 4 {
-        pass(t, 4);
-        return;
-    }
     if c == 0 {
         t[0] = word_values(t[0]);
         return;
     }
-    pass(t, c);
+    pass_each(t, c);
 }
 
 // The values of a table of coefficients, in words.
@@ -393,11 +369,7 @@ fn count_each(words: &[u64]) -> usize
     requires { length words.now ≤ 16 }
     ensures { result ≡ count (64 * length words.now) (bit_at words.now) }
 {
-    let mut sum = 0;
-    for i in 0..words.len() {
-        sum += ones(words[i]) as usize;
-    }
-    sum
+    words.iter().map(|word| ones(*word) as usize).sum()
 }
 
 // What three words carry when their points are added up: 1 where two of them are 1, or all.
@@ -474,33 +446,12 @@ pub fn put_counted(n: usize, words: &mut [u64], out: &mut [u8]) -> usize
     count_each(words)
 }
 
-fn put_copy_with(n: usize, slot: &[u64], out: &mut [u8], own: &mut [u64]) -> usize
-    requires { (n ≤ 10) × (length slot.now ≡ 2 ^ (n - 6)) × (length out.old ≡ 2 ^ n) × (length own.old ≡ 2 ^ (n - 6)) }
-    ensures { (out.new ≡ table n (value n (bit_at slot.now)))
-        × (result ≡ monomial_count n (present out.new)) }
-{
-    copy(own, slot);
-    put_counted(n, own, out)
-}
-
-// The same of words that stay. The scratch words live here.
-pub fn put_copy(n: usize, slot: &[u64], out: &mut [u8]) -> usize
-    requires { (n ≤ 10) × (length slot.now ≡ 2 ^ (n - 6)) × (length out.old ≡ 2 ^ n) }
-    ensures { (out.new ≡ table n (value n (bit_at slot.now)))
-        × (result ≡ monomial_count n (present out.new)) }
-{
-    let k = word_count(n);
-    let mut own = [0u64; 16];
-    put_copy_with(n, slot, out, &mut own[..k])
-}
-
+// The library's method, behind one equation.
 pub fn copy(d: &mut [u64], s: &[u64])
     requires { length d.old ≡ length s.now }
     ensures { d.new ≡ s.now }
 {
-    for i in 0..d.len() {
-        d[i] = s[i];
-    }
+    d.copy_from_slice(s);
 }
 
 // The values of letter x.
@@ -508,8 +459,16 @@ pub fn letter(x: usize, out: &mut [u64])
     requires { x < 10 }
     ensures { out.new ≡ words_of (length out.old) (λ p. bit p x) }
 {
-    for i in 0..out.len() {
-        out[i] = letter_word(x, i);
+    put_each(out, |i, _| letter_word(x, i));
+}
+
+// Puts in each word's place what f makes of its number and of it.
+fn put_each<F: Fn(usize, u64) -> u64>(words: &mut [u64], f: F)
+    requires { (w : ℕ) → w < length words.old → F.pre f w (get_or words.old w 0) }
+    ensures { (h : ℕ → Bool) → GivesValues words.old (F.post f) h → words.new ≡ words_of (length words.old) h }
+{
+    for (i, word) in words.iter_mut().enumerate() {
+        *word = f(i, *word);
     }
 }
 
@@ -518,9 +477,7 @@ pub fn add_into(d: &mut [u64], s: &[u64])
     requires { length d.old ≡ length s.now }
     ensures { d.new ≡ words_of (length d.old) (λ p. bit_at d.old p ⊕ bit_at s.now p) }
 {
-    for i in 0..d.len() {
-        d[i] = d[i] ^ s[i];
-    }
+    put_each(d, |i, word| word ^ s[i]);
 }
 
 // The product.
@@ -528,18 +485,14 @@ pub fn multiply_into(d: &mut [u64], s: &[u64])
     requires { length d.old ≡ length s.now }
     ensures { d.new ≡ words_of (length d.old) (λ p. bit_at d.old p && bit_at s.now p) }
 {
-    for i in 0..d.len() {
-        d[i] = d[i] & s[i];
-    }
+    put_each(d, |i, word| word & s[i]);
 }
 
 // The complement.
 pub fn complement(d: &mut [u64])
     ensures { d.new ≡ words_of (length d.old) (λ p. bit_at d.old p ⊕ true) }
 {
-    for i in 0..d.len() {
-        d[i] = d[i] ^ 0xffff_ffff_ffff_ffff;
-    }
+    put_each(d, |_, word| word ^ 0xffff_ffff_ffff_ffff);
 }
 
 // The sum with letter x.
@@ -547,9 +500,7 @@ pub fn add_letter(d: &mut [u64], x: usize)
     requires { x < 10 }
     ensures { d.new ≡ words_of (length d.old) (λ p. bit_at d.old p ⊕ bit p x) }
 {
-    for i in 0..d.len() {
-        d[i] = d[i] ^ letter_word(x, i);
-    }
+    put_each(d, |i, word| word ^ letter_word(x, i));
 }
 
 // The two halves of each pair of blocks change places: the points that the mask has, and those `width` before them.
@@ -575,21 +526,17 @@ fn turn_low(f: &[u64], x: usize, out: &mut [u64])
 {
     let mask = low_letter(x);
     let width = tables::pow2(x);
-    for i in 0..out.len() {
-        out[i] = exchange(f[i], mask, width);
-    }
+    put_each(out, |i, _| exchange(f[i], mask, width));
 }
 
-// The same in place.
+// The same in place. `turn_low` stands beside it, since a turn in place behind a copy took elimination a tenth longer.
 fn turn_in(words: &mut [u64], x: usize)
     requires { x < 6 }
     ensures { words.new ≡ words_of (length words.old) (λ p. bit_at words.old (turned x p)) }
 {
     let mask = low_letter(x);
     let width = tables::pow2(x);
-    for i in 0..words.len() {
-        words[i] = exchange(words[i], mask, width);
-    }
+    put_each(words, |_, word| exchange(word, mask, width));
 }
 
 // f with letters beyond six flipped, letter 6 + j for each bit j of `high`: whole words change places.
@@ -597,9 +544,7 @@ fn flip_high(f: &[u64], high: usize, c: usize, out: &mut [u64])
     requires { (high < 2 ^ c) × (length f.now ≡ 2 ^ c) × (length out.old ≡ 2 ^ c) }
     ensures { out.new ≡ words_of (2 ^ c) (λ p. bit_at f.now (flipped (6 + c) (high * 64) p)) }
 {
-    for i in 0..out.len() {
-        out[i] = f[i ^ high];
-    }
+    put_each(out, |i, _| f[i ^ high]);
 }
 
 // f with letter x turned over.
@@ -620,6 +565,7 @@ pub fn flip(f: &[u64], s: usize, c: usize, out: &mut [u64])
     ensures { out.new ≡ words_of (2 ^ c) (λ p. bit_at f.now (flipped (6 + c) s p)) }
 {
     flip_high(f, s >> 6, c, out);
+    // By the letter's number.
     for x in 0..6 {
         if (s >> x) % 2 == 1 {
             turn_in(out, x);
@@ -627,17 +573,34 @@ pub fn flip(f: &[u64], s: usize, c: usize, out: &mut [u64])
     }
 }
 
+// Of two words, point by point the one that b chooses.
+pub fn pick(b: u64, clear: u64, set: u64) -> u64
+    ensures { result ≡ bit_xor clear (bit_and b (bit_xor clear set)) }
+{
+    clear ^ (b & (clear ^ set))
+}
+
+// f with what `a` makes of a word's number put for letter x.
+fn replace_by<A: Fn(usize) -> u64>(f: &[u64], x: usize, a: A, c: usize, out: &mut [u64])
+    requires sizes { (x < 6 + c) × (c ≤ 4) × (length f.now ≡ 2 ^ c) × (length out.old ≡ 2 ^ c) }
+    requires callable { (w : ℕ) → w < 2 ^ c → A.pre a w }
+    ensures { (h : ℕ → Bool) → ((w v i : ℕ) → A.post a w v → w < 2 ^ c → i < 64 → bit v i ≡ h (64 * w + i))
+        → out.new ≡ words_of (2 ^ c) (λ p. bit_at f.now (assign p x (h p))) }
+{
+    turn(f, x, c, out);
+    put_each(
+        out,
+        |i, turned| pick(letter_word(x, i) ^ a(i), f[i], turned),
+    );
+}
+
 // f with letter x set to a value.
 pub fn restrict(f: &[u64], x: usize, value: bool, c: usize, out: &mut [u64])
     requires { (x < 6 + c) × (c ≤ 4) × (length f.now ≡ 2 ^ c) × (length out.old ≡ 2 ^ c) }
     ensures { out.new ≡ words_of (2 ^ c) (λ p. bit_at f.now (assign p x value)) }
 {
-    turn(f, x, c, out);
     let set = constant_word(value);
-    for i in 0..out.len() {
-        let own = f[i];
-        out[i] = own ^ ((set ^ letter_word(x, i)) & (own ^ out[i]));
-    }
+    replace_by(f, x, |_| set, c, out);
 }
 
 // A letter below six set to 0, in place, in any number of words.
@@ -647,10 +610,10 @@ pub fn put_zero(words: &mut [u64], x: usize)
 {
     let mask = low_letter(x);
     let width = tables::pow2(x);
-    for i in 0..words.len() {
-        let word = words[i];
-        words[i] = (word ^ (word & mask)) ^ ((word << width) & mask);
-    }
+    put_each(
+        words,
+        |_, word| (word ^ (word & mask)) ^ ((word << width) & mask),
+    );
 }
 
 // The product of the two cases of letter x.
@@ -663,7 +626,8 @@ pub fn both_cases(f: &[u64], x: usize, c: usize, out: &mut [u64])
     multiply_into(out, f);
 }
 
-// The same of a letter below six, in one word.
+// The same of a letter below six, in one word. This and `replace_word` stand beside those of many words since elimination in one word by a
+// loop over words takes three to five times as long.
 pub fn both_word(f: u64, x: usize) -> u64
     requires { x < 6 }
     ensures { result ≡ word_of (λ i. bit f (assign i x true) && bit f (assign i x false)) }
@@ -676,11 +640,7 @@ pub fn replace(f: &[u64], x: usize, a: &[u64], c: usize, out: &mut [u64])
     requires { (x < 6 + c) × (c ≤ 4) × (length f.now ≡ 2 ^ c) × (length a.now ≡ 2 ^ c) × (length out.old ≡ 2 ^ c) }
     ensures { out.new ≡ words_of (2 ^ c) (λ p. bit_at f.now (assign p x (bit_at a.now p))) }
 {
-    turn(f, x, c, out);
-    for i in 0..out.len() {
-        let own = f[i];
-        out[i] = own ^ ((a[i] ^ letter_word(x, i)) & (own ^ out[i]));
-    }
+    replace_by(f, x, |i| a[i], c, out);
 }
 
 // The same of a letter below six, in one word.
@@ -688,15 +648,7 @@ pub fn replace_word(f: u64, x: usize, a: u64) -> u64
     requires { x < 6 }
     ensures { result ≡ word_of (λ i. bit f (assign i x (bit a i))) }
 {
-    f ^ ((a ^ low_letter(x)) & (f ^ turn_word(f, x)))
-}
-
-fn replace_with(a: &mut [u64], x: usize, slot: &[u64], c: usize, old: &mut [u64])
-    requires { (x < 6 + c) × (c ≤ 4) × (length a.old ≡ 2 ^ c) × (length slot.now ≡ 2 ^ c) × (length old.old ≡ 2 ^ c) }
-    ensures { a.new ≡ words_of (2 ^ c) (λ p. bit_at a.old (assign p x (bit_at slot.now p))) }
-{
-    copy(old, a);
-    replace(old, x, slot, c, a);
+    pick(a ^ low_letter(x), f, turn_word(f, x))
 }
 
 // The same in place. The scratch words live here.
@@ -705,8 +657,10 @@ pub fn replace_in(a: &mut [u64], x: usize, slot: &[u64], c: usize)
     ensures { a.new ≡ words_of (2 ^ c) (λ p. bit_at a.old (assign p x (bit_at slot.now p))) }
 {
     let k = tables::pow2(c);
-    let mut old = [0u64; 16];
-    replace_with(a, x, slot, c, &mut old[..k]);
+    let mut room = [0u64; 16];
+    let old = &mut room[..k];
+    copy(old, a);
+    replace(old, x, slot, c, a);
 }
 
 // Löwenheim's formula at every point: x + f*(x + b).
@@ -715,10 +669,7 @@ pub fn mix(f: &[u64], x: usize, b: &[u64], out: &mut [u64])
     ensures { out.new
         ≡ words_of (length out.old) (λ p. bit p x ⊕ (bit_at f.now p && (bit p x ⊕ bit_at b.now p))) }
 {
-    for i in 0..out.len() {
-        let letter = letter_word(x, i);
-        out[i] = letter ^ (f[i] & (letter ^ b[i]));
-    }
+    put_each(out, |i, _| pick(f[i], letter_word(x, i), b[i]));
 }
 
 // The first point with the value 1, the number of points if there is none.
@@ -726,11 +677,8 @@ pub fn first_one(words: &[u64]) -> usize
     requires { length words.now ≤ 16 }
     ensures { First (64 * length words.now) (bit_at words.now) result }
 {
-    for i in 0..words.len() {
-        let word = words[i];
-        if word != 0 {
-            return 64 * i + u64::trailing_zeros(word) as usize;
-        }
+    match words.iter().position(|word| *word != 0) {
+        Some(i) => 64 * i + u64::trailing_zeros(words[i]) as usize,
+        None => 64 * words.len(),
     }
-    64 * words.len()
 }

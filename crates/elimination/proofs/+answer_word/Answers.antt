@@ -5,10 +5,10 @@ use Rattle.elimination.proofs.Stages.{rest_length, rest_letters, rest_once, firs
 use Rattle.elimination.proofs.OneWord.{remains_none, answered_none, remains-next, answered-next}
 use Rattle.elimination.proofs.+answer_word.Goals as goal
 
-pub returns-then-order-eq0 : goal.returns-then-order-eq0
-returns-then-order-eq0 t c = record {
-  value = remains_none _ c.args.order.now c.if-order-eq0.true (omega (arith, c.ranges.f));
-  answers_after = answered_none _ c.args.order.now _ c.if-order-eq0.true;
+pub returns-in_default : goal.returns-in_default
+returns-in_default t c = record {
+  value = remains_none _ c.args.order.now (omega arith) (omega (arith, c.ranges.f));
+  answers_after = answered_none _ c.args.order.now _ (omega arith);
 }
 
 pub both_word-requires : goal.both_word-requires

@@ -7,10 +7,10 @@ use Rattle.elimination.proofs.Stages.{rest_length, rest_letters, first_letter, s
 use Rattle.elimination.proofs.Stages.{remains_more, stages_more}
 use Rattle.elimination.proofs.+keep_stages.Goals as goal
 
-pub returns-then-order-eq0 : goal.returns-then-order-eq0
-returns-then-order-eq0 t c = record {
-  f_after = stages_none _ _ _ c.if-order-eq0.true (machine_words _ c.args.f.now c.requires.2 (λ i. omega (arith, c.type_inv.f i)));
-  stages_after = stages_empty _ _ c.args.order.now _ c.if-order-eq0.true c.requires.3;
+pub returns-in_default : goal.returns-in_default
+returns-in_default t c = record {
+  f_after = stages_none _ _ _ (omega arith) (machine_words _ c.args.f.now c.requires.2 (λ i. omega (arith, c.type_inv.f i)));
+  stages_after = stages_empty _ _ c.args.order.now _ (omega arith) c.requires.3;
 }
 
 pub keep_stage-requires : goal.keep_stage-requires

@@ -6,9 +6,9 @@ use Rattle.words.proofs.Words.{size_words}
 use Rattle.elimination.proofs.Stages.{rest_length, rest_letters, first_letter, slot_room, slots_rest, put_none, put_more}
 use Rattle.elimination.proofs.+put_later.Goals as goal
 
-pub returns-then-order-eq0 : goal.returns-then-order-eq0
-returns-then-order-eq0 t c =
-    put_none _ _ _ _ c.if-order-eq0.true
+pub returns-in_default : goal.returns-in_default
+returns-in_default t c =
+    put_none _ _ _ _ (omega arith)
     (machine_words _ c.args.a.now c.requires.3 (λ i. omega (arith, c.type_inv.a i)))
 
 pub put_later-requires : goal.put_later-requires

@@ -1,34 +1,25 @@
 -- `polynomials::add` meets its contract: one block, or as many as the table has.
 -- Assumes nothing.
-use mathlib.Core.Path.{sym, ◌∙◌}
+use mathlib.Core.Path.{refl, sym, ◌∙◌}
+use Prim.Native.Nat.{◌-◌, ◌^◌}
 use native.Mathlib.Omega.{arith}
-use Rattle.polynomials.proofs.Sums.{sum_made, whole_block, whole_blocks}
+use Rattle.polynomials.proofs.Sums.{sum_made, whole_blocks}
 use Rattle.polynomials.proofs.add.Goals as goal
-
-pub add_few-requires : goal.add_few-requires
-add_few-requires c = (
-  omega (arith, c.requires.3, whole_block c.args.n c.if-n-lt7.true),
-  c.requires.1.size ∙ sym c.requires.3,
-  c.requires.2.size ∙ sym c.requires.3,
-  c.requires.1.bits,
-  c.requires.2.bits,
-)
 
 pub returns-then-n-lt7 : goal.returns-then-n-lt7
 returns-then-n-lt7 c = sum_made c.args.n _ _ c.args.a.now c.args.b.now _ c.requires.3 c.add_few.ensures.0
     c.add_few.ensures.1
 
 pub add_blocks-requires : goal.add_blocks-requires
-add_blocks-requires c = let whole = whole_blocks c.args.n _ c.pow2.ensures c.if-n-lt7.false c.requires.0 in (
-  whole.1,
-  c.requires.3 ∙ whole.0,
-  c.requires.1.size ∙ whole.0,
-  c.requires.2.size ∙ whole.0,
-  c.requires.1.bits,
-  c.requires.2.bits,
-)
+add_blocks-requires c =
+    let whole = whole_blocks c.args.n (2 ^ (c.args.n - 7)) refl c.if-n-lt7.false c.requires.0 in (
+      omega (arith, whole.0, whole.1, c.requires.3),
+      omega (arith, whole.0, c.requires.3),
+      c.requires.1.size ∙ sym c.requires.3,
+      c.requires.2.size ∙ sym c.requires.3,
+      c.requires.1.bits,
+      c.requires.2.bits,
+    )
 
 pub returns : goal.returns
-returns c = let whole = whole_blocks c.args.n _ c.pow2.ensures c.if-n-lt7.false c.requires.0 in
-    sum_made c.args.n _ _ c.args.a.now c.args.b.now _ (sym whole.0) c.add_blocks.ensures.0
-    c.add_blocks.ensures.1
+returns c = sum_made c.args.n _ _ c.args.a.now c.args.b.now _ c.requires.3 c.add_blocks.ensures.0 c.add_blocks.ensures.1

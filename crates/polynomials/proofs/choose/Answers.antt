@@ -1,21 +1,23 @@
 -- `polynomials::choose` meets its contract. Assumes nothing.
-use mathlib.Core.Path.{refl}
-use native.Mathlib.Omega.{arith}
-use borrow.Author.Rules.{rules}
-use Rattle.tables.proofs.Filled.{filled-start}
-use Rattle.polynomials.proofs.LookUp.{choose_more, choose_end}
+use Rattle.std.proofs.Common.{get_or, rules, refl, arith, ap, ◌∙◌}
+use Rattle.tables.proofs.Filled.{filled-start, filled_more, filled_read}
+use Rattle.polynomials.specs.Inner.LookUp.{chosen}
+use Rattle.polynomials.proofs.LookUp.{choose_end}
 use Rattle.polynomials.proofs.choose.Goals as goal
 
 pub loop-p-init : goal.loop-p-init
-loop-p-init c = (search rules, filled-start _ _ _ refl, refl)
+loop-p-init c = (filled-start _ _ _ refl, refl)
 
 pub loop-p-preserved : goal.loop-p-preserved
+unfolding chosen
 loop-p-preserved c = (
-  search rules,
-  choose_more _ _ _ c.args.t.now _ c.loop-p.invariant.1
-      c.loop-p-test.true c.requires,
+  filled_more _ _ _ _ c.loop-p.invariant.0 _ c.loop-p-test.true
+      (c.pick.ensures
+      ∙ ap (λ x. chosen c.args.b x (get_or c.split_at_mut-clear.result.1.now c.loop-p.p 0)) (filled_read _ _ _ _ c.loop-p.invariant.0 c.loop-p-test.true)),
   search rules,
 )
 
 pub returns : goal.returns
-returns c = choose_end _ _ _ c.args.t.now _ c.loop-p.invariant.1 (omega arith)
+returns c =
+    let cut = c.split_at_mut-clear.ensures in
+    choose_end c.args.b c.args.half _ c.args.t.now _ _ _ cut.front cut.back cut.front_len (omega (arith, cut.front_len)) c.loop-p.invariant.0

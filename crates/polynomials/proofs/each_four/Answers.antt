@@ -13,9 +13,6 @@ use Rattle.polynomials.proofs.each_four.Goals as goal
 pub loop-x-init : goal.loop-x-init
 loop-x-init c = (search rules, filled-start _ _ _ refl, refl)
 
-pub bounds-s-x : goal.bounds-s-x
-bounds-s-x c = omega (arith, c.requires)
-
 pub loop-x-preserved : goal.loop-x-preserved
 loop-x-preserved c = (
   search rules,

@@ -1,9 +1,11 @@
 -- `polynomials::four` meets its contract. Assumes nothing.
 use native.Mathlib.Omega.{arith}
+use Rattle.polynomials.specs.Inner.LookUp.{chosen}
 use Rattle.polynomials.proofs.LookUp.{four_chosen}
 use Rattle.polynomials.proofs.four.Goals as goal
 
 pub returns : goal.returns
+unfolding chosen
 returns c = four_chosen c.args.bits
     c.args.a
     c.args.b _ _ _ _ _ _ _

@@ -13,9 +13,6 @@ use Rattle.polynomials.proofs.look_up.Goals as goal
 pub loop-w-init : goal.loop-w-init
 loop-w-init c = (search rules, filled-start _ _ _ refl, refl, c.requires.2, c.requires.3)
 
-pub look_up_word-requires : goal.look_up_word-requires
-look_up_word-requires c = (c.requires.0, c.requires.1, c.loop-w-test.true, c.loop-w.invariant.3, c.loop-w.invariant.4)
-
 pub loop-w-preserved : goal.loop-w-preserved
 loop-w-preserved c = (
   search rules,

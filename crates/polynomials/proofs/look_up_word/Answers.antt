@@ -8,30 +8,8 @@ use lib.ListN.{length, get_or}
 use Rattle.ring.specs.Letters.{bit}
 use Rattle.ring.proofs.Lists.{length-listed}
 use Rattle.polynomials.specs.Inner.LookUp.{place_of}
-use Rattle.polynomials.proofs.LookUp.{level_start, level_next, level_end, part_index, part_small, half_small, first_parts}
+use Rattle.polynomials.proofs.LookUp.{level_start, level_next, level_end, half_small, first_parts}
 use Rattle.polynomials.proofs.look_up_word.Goals as goal
-
-pub offset_bounds-parts-w : goal.offset_bounds-parts-w
-offset_bounds-parts-w c = omega (arith, c.requires.0, c.requires.1, c.requires.2)
-
-pub bounds-parts-w : goal.bounds-parts-w
-bounds-parts-w c = omega (arith, c.requires.0, c.requires.1, c.requires.2)
-
-pub overflow_add-k : goal.overflow_add-k
-overflow_add-k c = omega (arith, c.requires.0, c.requires.1, c.requires.2)
-
-pub offset_bounds-parts-k : goal.offset_bounds-parts-k
-offset_bounds-parts-k c = omega (arith, c.requires.0, c.requires.1, c.requires.2)
-
-pub bounds-parts-k : goal.bounds-parts-k
-bounds-parts-k c = omega (arith, c.requires.0, c.requires.1, c.requires.2)
-
-pub take_fours-requires : goal.take_fours-requires
-take_fours-requires c = (
-  ap length c.each_four.ensures
-      ∙ length-listed 16 _,
-  c.requires.3,
-)
 
 pub loop-j-init : goal.loop-j-init
 loop-j-init c = (
@@ -41,42 +19,6 @@ loop-j-init c = (
       ∙ length-listed 16 _,
   level_start _ _ _ _ _ _ _ refl c.each_four.ensures
       c.take_fours.ensures,
-)
-
-pub overflow_mul-j : goal.overflow_mul-j
-overflow_mul-j c = omega (
-  arith,
-  part_index _ _ _ _ c.loop-j-test.true c.loop-j.invariant.0
-      c.requires.2 c.requires.0,
-  part_small _ _ c.loop-j.invariant.0
-      c.requires.1,
-)
-
-pub overflow_add-j : goal.overflow_add-j
-overflow_add-j c = omega (
-  arith,
-  part_index _ _ _ _ c.loop-j-test.true c.loop-j.invariant.0
-      c.requires.2 c.requires.0,
-  part_small _ _ c.loop-j.invariant.0
-      c.requires.1,
-)
-
-pub offset_bounds-parts-j : goal.offset_bounds-parts-j
-offset_bounds-parts-j c = omega (
-  arith,
-  part_index _ _ _ _ c.loop-j-test.true c.loop-j.invariant.0
-      c.requires.2 c.requires.0,
-  part_small _ _ c.loop-j.invariant.0
-      c.requires.1,
-)
-
-pub bounds-parts-j : goal.bounds-parts-j
-bounds-parts-j c = omega (
-  arith,
-  part_index _ _ _ _ c.loop-j-test.true c.loop-j.invariant.0
-      c.requires.2 c.requires.0,
-  part_small _ _ c.loop-j.invariant.0
-      c.requires.1,
 )
 
 pub choose-requires : goal.choose-requires
@@ -107,9 +49,6 @@ loop-j-preserved c = let parts =
           (record { small = small; bits = λ i _. refl }) c.loop-j.invariant.3
           c.choose.ensures,
     )
-
-pub bounds-t-0 : goal.bounds-t-0
-bounds-t-0 c = omega (arith, c.loop-j.invariant.2)
 
 pub returns : goal.returns
 returns c = let parts =

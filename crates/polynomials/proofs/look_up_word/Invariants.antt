@@ -13,6 +13,3 @@ abbrev pub invariant-loop-j : goal.invariant-loop-j
 invariant-loop-j l = (l.j ≤ 6) × (2 ≤ l.j) × (length l.t ≡ 16)
     × ((p : ℕ) → p < 2 ^ (l.j - 2)
     → get_or l.t p 0 ≡ level l.word (λ m i. bit (get_or l.parts (m * l.k + l.w) 0) i) (place_of (get_or l.parts l.w 0) (get_or l.parts (l.k + l.w) 0)) l.j p)
-
-abbrev pub decreases-loop-j : goal.decreases-loop-j
-decreases-loop-j l = l.j

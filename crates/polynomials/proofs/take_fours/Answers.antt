@@ -3,7 +3,7 @@ use mathlib.Core.Path.{refl, ap, ◌∙◌}
 use Prim.Native.Nat.{ℕ, ◌*◌, ◌/◌, ◌%◌, ◌^◌}
 use native.Mathlib.Omega.{arith}
 use borrow.Author.Rules.{rules}
-use lib.Bits.{and_le_r, and_mask}
+use lib.Bits.{and_mask}
 use lib.ListN.{get_or}
 use Rattle.ring.specs.Lists.{listed}
 use Rattle.tables.proofs.Filled.{filled-start, filled_more, filled_end}
@@ -11,20 +11,6 @@ use Rattle.polynomials.proofs.take_fours.Goals as goal
 
 pub loop-q-init : goal.loop-q-init
 loop-q-init c = (search rules, filled-start _ _ _ refl, refl)
-
-pub offset_bounds-s-word : goal.offset_bounds-s-word
-offset_bounds-s-word c = omega (arith, and_le_r (c.args.word / 2 ^ (4 * c.loop-q.q)) 15)
-
-pub bounds-s-word : goal.bounds-s-word
-bounds-s-word c = omega (
-  arith,
-  and_le_r
-      (c.args.word / 2 ^ (4 * c.loop-q.q)) 15,
-  c.requires.0,
-)
-
-pub bounds-t-q : goal.bounds-t-q
-bounds-t-q c = omega (arith, c.requires.1, c.loop-q.invariant.2, c.loop-q-test.true)
 
 pub loop-q-preserved : goal.loop-q-preserved
 loop-q-preserved c = (

@@ -1,53 +1,17 @@
 -- `polynomials::take_parts` meets its contract. Assumes nothing.
-use mathlib.Core.Path.{◌∙◌}
 use Prim.Native.Nat.{◌-◌}
 use native.Mathlib.Omega.{arith}
 use native.Mathlib.Nat.{zero-mul}
 use borrow.Author.Rules.{rules}
 use lib.Pow.{pow_pos}
 use Rattle.tables.proofs.Filled.{filled-start}
-use Rattle.words.proofs.Parts.{parts_more, part_fits, part_length_lem}
+use Rattle.words.proofs.Parts.{parts_more}
 use Rattle.polynomials.specs.Inner.LookUp.{put_for}
 use Rattle.polynomials.proofs.Work.{part_put, parts_taken}
 use Rattle.polynomials.proofs.take_parts.Goals as goal
 
 pub loop-j-init : goal.loop-j-init
 loop-j-init c = (search rules, filled-start _ _ _ (zero-mul c.word_count-k.result), search rules)
-
-pub overflow_mul-start : goal.overflow_mul-start
-overflow_mul-start c = omega (
-  arith,
-  part_fits _ _ _ _ _ c.word_count-k.ensures c.loop-j-test.true
-      c.requires.4,
-  c.loop-j.invariant.2,
-)
-
-pub overflow_add-end : goal.overflow_add-end
-overflow_add-end c = omega (
-  arith,
-  part_fits _ _ _ _ _ c.word_count-k.ensures c.loop-j-test.true
-      c.requires.4,
-  c.loop-j.invariant.2,
-)
-
-pub offset_bounds-parts-start : goal.offset_bounds-parts-start
-offset_bounds-parts-start c = omega (
-  arith,
-  part_fits _ _ _ _ _ c.word_count-k.ensures c.loop-j-test.true
-      c.requires.4,
-  c.loop-j.invariant.2,
-)
-
-pub slice_bounds-take_part-end : goal.slice_bounds-take_part-end
-slice_bounds-take_part-end c = omega (
-  arith,
-  part_fits _ _ _ _ _ c.word_count-k.ensures c.loop-j-test.true
-      c.requires.4,
-  c.loop-j.invariant.2,
-)
-
-pub take_part-requires : goal.take_part-requires
-take_part-requires c = (c.requires.0, c.loop-j-test.true, c.requires.2, c.requires.3, part_length_lem _ _ _ (omega (arith, part_fits _ _ _ _ _ c.word_count-k.ensures c.loop-j-test.true c.requires.4, c.loop-j.invariant.2)) ∙ c.word_count-k.ensures)
 
 pub loop-j-preserved : goal.loop-j-preserved
 loop-j-preserved c = (

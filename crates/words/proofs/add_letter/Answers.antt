@@ -1,32 +1,8 @@
 -- `words::add_letter` meets its contract. Assumes nothing.
-use mathlib.Core.Path.{◌≡◌, refl}
-use Prim.Native.Nat.{◌<◌, ◌^◌}
-use borrow.Author.Rules.{rules}
-use lib.ListN.{get_or}
-use Rattle.tables.proofs.Filled.{filled-start, filled_read}
-use Rattle.words.proofs.Words.{words_end}
-use Rattle.ring.specs.Letters.{bit}
-use Rattle.ring.specs.Polynomial.{◌⊕◌}
-use Rattle.words.specs.Inner.Words.{bit_at}
-use Rattle.words.proofs.Holds.{read_holds, word_holds, xor_holds, words_more}
+use Rattle.std.proofs.Common.{rules}
+use Rattle.ring.proofs.Bitwise.{xor_bit}
+use Rattle.words.proofs.Words.{word_bit, bit_at_lem}
 use Rattle.words.proofs.add_letter.Goals as goal
 
-pub loop-i-init : goal.loop-i-init
-loop-i-init c = (search rules, filled-start _ _ _ refl, refl)
-
-pub loop-i-preserved : goal.loop-i-preserved
-loop-i-preserved c = let d = c.args.d.now in
-    let i = c.loop-i.i in
-    let read : get_or c.loop-i.d i 0
-    ≡ get_or d i 0 = filled_read _ _ _ _ c.loop-i.invariant.1 c.loop-i-test.true in
-    let small : get_or c.loop-i.d i 0 < 2 ^ 64 = search rules in (
-      search rules,
-      words_more (λ p. bit_at d p ⊕ bit p c.args.x) _ _ _ _
-          c.loop-i.invariant.1 c.loop-i-test.true
-          (xor_holds (read_holds d i _ (rw read at small) read) (word_holds _ _ c.letter_word.ensures)),
-      search rules,
-    )
-
 pub returns : goal.returns
-returns c = words_end (λ p. bit_at c.args.d.now p ⊕ bit p c.args.x) _ _ _
-    c.loop-i.invariant.1 c.loop-i.invariant.0 c.loop-i-test.false
+returns c = search (rules, c.put_each.ensures, xor_bit, word_bit, bit_at_lem)

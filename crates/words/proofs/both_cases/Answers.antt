@@ -1,17 +1,8 @@
 -- `words::both_cases` meets its contract. Assumes nothing.
-use native.Mathlib.Omega.{arith}
 use Rattle.words.proofs.Words.{size_words}
 use Rattle.words.proofs.Holds.{words_sized}
 use Rattle.words.proofs.Turned.{both_done}
 use Rattle.words.proofs.both_cases.Goals as goal
-
-pub multiply_into-requires : goal.multiply_into-requires
-multiply_into-requires c = omega (
-  arith,
-  size_words _ _ _
-      c.turn.ensures,
-  c.requires.2,
-)
 
 pub returns : goal.returns
 returns c = both_done _ _ c.args.f.now _ _

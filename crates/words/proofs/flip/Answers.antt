@@ -1,6 +1,6 @@
 -- `words::flip` meets its contract: the higher letters at once, and the others one by one.
 -- Assumes nothing.
-use mathlib.Core.Path.{refl, sym, ◌∙◌}
+use mathlib.Core.Path.{refl}
 use borrow.Author.Rules.{rules}
 use Rattle.words.proofs.Words.{size_words}
 use Rattle.words.proofs.Holds.{words_sized}
@@ -23,9 +23,6 @@ loop-x-preserved c = let e = c.loop-x.invariant.1 in (
     | else-s-x-eq1 w ↦ rw w.out-is (flip_skip _ _ c.args.f.now _ _ w.if-s-x-eq1.false e)
   ],
 )
-
-pub shape_of-out : goal.shape_of-out
-shape_of-out c = size_words _ _ _ c.loop-x.invariant.1 ∙ sym c.requires.2
 
 pub returns : goal.returns
 returns c = flip_end _ _ _ _ _ c.loop-x-test.false c.loop-x.invariant.0 c.loop-x.invariant.1

@@ -4,8 +4,5 @@ use lib.Count.{ones-le}
 use Rattle.words.proofs.Counts.{ones-count}
 use Rattle.words.proofs.ones.Goals as goal
 
-pub overflow_cast-result : goal.overflow_cast-result
-overflow_cast-result c = omega (arith, ones-le 64 c.args.word (omega arith))
-
 pub returns : goal.returns
 returns c = (ones-count c.args.word (omega arith), ones-le 64 c.args.word (omega arith))

@@ -4,7 +4,6 @@ use mathlib.Core.List.{List}
 use Prim.Native.Nat.{ℕ, ◌-◌, ◌*◌, ◌^◌}
 use native.Mathlib.Omega.{arith}
 use lib.ListN.{length}
-use lib.Pow.{pow_pos}
 use Rattle.ring.specs.Polynomial.{count, value}
 use Rattle.ring.specs.Table.{present, tabulate, table}
 use Rattle.ring.specs.Length.{monomial_count}
@@ -16,39 +15,12 @@ use Rattle.words.proofs.Crossing.{large_bytes}
 use Rattle.words.proofs.Counts.{counted_few, counted-crossed}
 use Rattle.words.proofs.put_counted.Goals as goal
 
-pub to_values-requires : goal.to_values-requires
-to_values-requires c = (
-  omega (arith, c.further.ensures),
-  c.requires.1
-      ∙ ap (λ (x : ℕ). 2 ^ x) (sym c.further.ensures),
-)
-
-pub bounds-words-0 : goal.bounds-words-0
-bounds-words-0 c = let passed-size : length c.to_values.new.t ≡ 2 ^ (c.args.n - 6) = size_words _ _ _ c.to_values.ensures ∙ ap (λ (x : ℕ). 2 ^ x) c.further.ensures in
-    omega (arith, passed-size, pow_pos (c.args.n - 6))
-
-pub unpack-requires : goal.unpack-requires
-unpack-requires c = let passed-size : length c.to_values.new.t ≡ 2 ^ (c.args.n - 6) = size_words _ _ _ c.to_values.ensures ∙ ap (λ (x : ℕ). 2 ^ x) c.further.ensures in
-    (c.requires.0, passed-size, c.requires.2)
-
 pub returns-then-n-lt6 : goal.returns-then-n-lt6
 returns-then-n-lt6 c = (
   table_put _ _ c.args.words.now _ _ c.further.ensures c.to_values.ensures c.unpack.ensures,
   counted_few c.args.n _ _ c.to_values.new.t _ c.if-n-lt6.true c.unpack.ensures refl
       c.count_few-found.ensures,
 )
-
-pub unpack_sixteen-requires : goal.unpack_sixteen-requires
-unpack_sixteen-requires c = let passed-size : length c.to_values.new.t ≡ 2 ^ (c.args.n - 6) = size_words _ _ _ c.to_values.ensures ∙ ap (λ (x : ℕ). 2 ^ x) c.further.ensures in
-    let crossed-size : (
-    (length c.cross_all.new.words ≡ length c.to_values.new.t) × (length c.args.out.now ≡ 64 * length c.to_values.new.t)) = (
-      size_words _ _ _ c.cross_all.ensures,
-      large_size c.args.n _ c.args.out.now c.if-n-lt6.false c.requires.2 (passed-size),
-    ) in
-    let n = c.args.n in
-    let size = crossed-size in
-    let ten : n ≡ 10 = omega (arith, c.if-n-eq10.true) in
-    (size.0 ∙ passed-size ∙ ap (λ (x : ℕ). 2 ^ (x - 6)) ten, size.1 ∙ ap (λ (k : ℕ). 64 * k) (sym size.0))
 
 pub returns-then-n-eq10 : goal.returns-then-n-eq10
 returns-then-n-eq10 c = let passed-size : length c.to_values.new.t ≡ 2 ^ (c.args.n - 6) = size_words _ _ _ c.to_values.ensures ∙ ap (λ (x : ℕ). 2 ^ x) c.further.ensures in

@@ -1,34 +1,8 @@
 -- `words::turn_in` meets its contract. Assumes nothing.
-use mathlib.Core.Path.{◌≡◌, refl}
-use Prim.Native.Nat.{◌<◌, ◌^◌}
-use borrow.Author.Rules.{rules}
-use lib.ListN.{get_or}
-use Rattle.tables.proofs.Filled.{filled-start, filled_read}
-use Rattle.words.specs.Inner.Words.{bit_at, turned}
-use Rattle.words.proofs.Bits.{width_small}
-use Rattle.words.proofs.Words.{words_end}
-use Rattle.words.proofs.Holds.{words_more}
+use Rattle.std.proofs.Common.{rules, refl}
 use Rattle.words.proofs.Turned.{turn_low_holds}
 use Rattle.words.proofs.turn_in.Goals as goal
 
-pub loop-i-init : goal.loop-i-init
-loop-i-init c = (search rules, filled-start _ _ _ refl, refl)
-
-pub exchange-requires : goal.exchange-requires
-exchange-requires c = width_small _ _ c.requires c.pow2-width.ensures
-
-pub loop-i-preserved : goal.loop-i-preserved
-loop-i-preserved c =
-    let words = c.args.words.now in
-    let i = c.loop-i.i in
-    let read : get_or c.loop-i.words i 0 ≡ get_or words i 0 = filled_read _ _ _ _ c.loop-i.invariant.1 c.loop-i-test.true in
-    let small : get_or c.loop-i.words i 0 < 2 ^ 64 = search rules in (
-      search rules,
-      words_more (λ p. bit_at words (turned c.args.x p)) _ _ _ _ c.loop-i.invariant.1 c.loop-i-test.true
-          (turn_low_holds words _ _ _ i _ _ c.requires c.pow2-width.ensures c.low_letter-mask.ensures (rw read at small) read
-          c.exchange.ensures),
-      search rules,
-    )
-
 pub returns : goal.returns
-returns c = words_end (λ p. bit_at c.args.words.now (turned c.args.x p)) _ _ _ c.loop-i.invariant.1 c.loop-i.invariant.0 c.loop-i-test.false
+returns c = c.put_each.ensures _ (λ w v i e l m.
+    (turn_low_holds c.args.words.now _ _ _ w _ v c.requires c.pow2-width.ensures c.low_letter-mask.ensures (search rules) refl (search rules)).bits i m)

@@ -3,7 +3,6 @@ use mathlib.Core.Path.{◌≡◌, refl, ap, ◌∙◌}
 use Prim.Native.Nat.{ℕ, ◌-◌, ◌^◌}
 use native.Mathlib.Omega.{arith}
 use lib.ListN.{length}
-use lib.Pow.{pow_pos}
 use Rattle.ring.specs.Table.{tabulate, table}
 use Rattle.words.specs.Inner.Words.{bit_at}
 use Rattle.words.proofs.Words.{size_words}
@@ -19,13 +18,10 @@ pub returns-then-n-lt3 : goal.returns-then-n-lt3
 unfolding table
 returns-then-n-lt3 c = c.unpack_each.ensures ∙ ap (λ (x : ℕ). tabulate x (bit_at c.args.words.now)) c.requires.2
 
-pub bounds-words-0 : goal.bounds-words-0
-bounds-words-0 c = let crossed-size : length c.cross_all.new.words ≡ 2 ^ (c.args.n - 6) = size_words _ _ _ c.cross_all.ensures ∙ c.requires.1 in
-    omega (arith, crossed-size, pow_pos (c.args.n - 6))
-
 pub unpack_word-requires : goal.unpack_word-requires
-unpack_word-requires c = eights c.args.n _ c.args.out.now c.pow2.ensures
-    c.if-n-lt3.false c.if-n-lt6.true c.requires.2
+unpack_word-requires c =
+    let shaped = eights c.args.n (2 ^ (c.args.n - 3)) c.args.out.now refl c.if-n-lt3.false c.if-n-lt6.true c.requires.2 in
+    (omega (arith, shaped.0, shaped.1), omega (arith, shaped.1))
 
 pub returns-then-n-lt6 : goal.returns-then-n-lt6
 returns-then-n-lt6 c =

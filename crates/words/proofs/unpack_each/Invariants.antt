@@ -1,6 +1,6 @@
 -- `words::unpack_each` meets its contract. Assumes nothing.
 use mathlib.Core.Path.{◌≡◌}
-use Prim.Native.Nat.{◌≤◌, ◌-◌}
+use Prim.Native.Nat.{◌≤◌}
 use lib.ListN.{length}
 use Rattle.ring.specs.Letters.{digit}
 use Rattle.tables.proofs.Filled.{filled}
@@ -9,6 +9,3 @@ use Rattle.words.proofs.unpack_each.Given as goal
 
 abbrev pub invariant-loop-p : goal.invariant-loop-p
 invariant-loop-p l = (l.p ≤ length l.initial.out) × (l.out ≡ filled l.p (λ m. digit (bit_at l.words m)) l.initial.out) × (length l.out ≡ length l.initial.out)
-
-abbrev pub decreases-loop-p : goal.decreases-loop-p
-decreases-loop-p l = length l.initial.out - l.p

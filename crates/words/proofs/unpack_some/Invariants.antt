@@ -2,7 +2,7 @@
 -- Assumes nothing.
 use mathlib.Core.Path.{◌≡◌}
 use mathlib.Core.List.{List}
-use Prim.Native.Nat.{ℕ, ◌≤◌, ◌<◌, ◌-◌, ◌*◌}
+use Prim.Native.Nat.{ℕ, ◌≤◌, ◌<◌, ◌*◌}
 use lib.ListN.{length, get_or}
 use Rattle.ring.specs.Letters.{digit}
 use Rattle.tables.proofs.Filled.{filled}
@@ -16,6 +16,3 @@ front W w bytes = filled (w * 64) (λ p. digit (bit_at W (crossed p))) bytes
 abbrev pub invariant-loop-w : goal.invariant-loop-w
 invariant-loop-w l = (l.from ≤ l.w) × (l.w ≤ l.to) × (length l.out ≡ length l.initial.out)
     × ((W bytes : List ℕ) → ((v : ℕ) → l.from ≤ v → v < l.to → get_or l.words v 0 ≡ get_or W v 0) → l.initial.out ≡ front W l.from bytes → l.out ≡ front W l.w bytes)
-
-abbrev pub decreases-loop-w : goal.decreases-loop-w
-decreases-loop-w l = l.to - l.w

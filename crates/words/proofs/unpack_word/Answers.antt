@@ -11,7 +11,7 @@ use Rattle.words.proofs.Crossing.{row_listed}
 use Rattle.words.proofs.unpack_word.Goals as goal
 
 pub loop-j-init : goal.loop-j-init
-loop-j-init c = (search rules, filled-start _ _ _ refl, refl)
+loop-j-init c = (omega arith, filled-start _ _ _ refl, refl)
 
 pub put_eight-requires : goal.put_eight-requires
 put_eight-requires c = part_length_lem c.loop-j.j 8 c.loop-j.out
@@ -19,12 +19,12 @@ put_eight-requires c = part_length_lem c.loop-j.j 8 c.loop-j.out
 
 pub loop-j-preserved : goal.loop-j-preserved
 loop-j-preserved c = let few : c.loop-j.j < 8 = omega (arith, c.requires.0, c.loop-j-test.true) in (
-  search rules,
+  omega (arith, c.requires.1, c.loop-j-test.true),
   parts_more c.loop-j.j 8 _ _ _ _ c.loop-j.invariant.1
       (row_listed c.args.word c.loop-j.j _ few c.put_eight.ensures),
   search rules,
 )
 
 pub returns : goal.returns
-returns c = filled_whole (λ p. bit c.args.word (crossed p)) _ _ _ c.loop-j.invariant.1 (omega (arith, c.requires.1))
-    (omega (arith, c.requires.1))
+returns c = filled_whole (λ p. bit c.args.word (crossed p)) _ _ _ c.loop-j.invariant.1 (omega (arith, c.requires.1, c.loop-j.invariant.0, c.loop-j-test.false))
+    (omega (arith, c.requires.1, c.loop-j.invariant.0, c.loop-j-test.false))
