@@ -5,38 +5,22 @@
 
 #![tactic(auto)]
 
-ghost use Rattle.std.specs.Prelude.{◌≡◌, length};
-ghost use Rattle.entry.specs.Record.{same_bytes, is_default};
+ghost use Rattle.std.specs.Prelude.{◌≡◌};
+ghost use Rattle.entry.specs.Record.{is_default};
 ghost use Rattle.entry.specs.Questions.{route_fits};
 
 // Question 2. A route comes as any number, so that none is cut to a byte unasked.
+#[tactic(auto, unfolding(crate::specs::Questions::route_fits))]
 pub fn route_fits(route: usize) -> bool
     ensures { result ≡ route_fits route }
 {
-    if route < 1 {
-        return false;
-    }
-    route <= 250
-}
-
-fn same_bytes(a: &[u8], b: &[u8]) -> bool
-    requires { length a.now ≡ length b.now }
-    ensures { result ≡ same_bytes a.now b.now }
-{
-    let mut i = 0;
-    while i < a.len() {
-        if a[i] != b[i] {
-            return false;
-        }
-        i += 1;
-    }
-    true
+    (1..=250).contains(&route)
 }
 
 // Is the order 0, 1, 2, ..?
+#[tactic(auto, using(crate::proofs::SameBytes::same_pointwise), unfolding(crate::specs::Record::is_default))]
 pub fn is_default(u: usize, order: [u8; 6]) -> bool
     ensures { result ≡ is_default u order }
 {
-    let default = solution::default_order(u);
-    same_bytes(&order, &default)
+    order == solution::default_order(u)
 }

@@ -11,6 +11,7 @@ use native.Mathlib.Omega.{arith}
 use lib.ListN.{length, get_or, set, take, length-append, length-set, length-map}
 use lib.Pow.{pow_mono}
 use lib.Seq.{take-suc, take_all, take-suc-set, take-set-le}
+use Rattle.std.specs.Int.{from_bool}
 use Rattle.ring.specs.Letters.{digit, bit}
 use Rattle.ring.specs.Polynomial.{Polynomial}
 use Rattle.words.specs.Inner.Words.{bit_at}
@@ -50,7 +51,11 @@ length_one : (b : Bool) (v : ℕ) → length (cond b (v ∷ []) []) ≡ digit b
 length_one true v = refl
 length_one false v = refl
 
-digit_most : (b : Bool) → digit b ≤ 1
+pub from_bool_digit : (b : Bool) → from_bool b ≡ digit b
+from_bool_digit true = refl
+from_bool_digit false = refl
+
+pub digit_most : (b : Bool) → digit b ≤ 1
 digit_most true = omega arith
 digit_most false = omega arith
 
@@ -140,9 +145,6 @@ mask_in_words n p e l em ek =
     rw ek (omega (arith, mask_place n p e l em, room n))
 
 -- up to six letters the coefficients are one word
-pub one_word : {n k : ℕ} → n ≤ 6 → k ≡ 2 ^ (n - 6) → k ≡ 1
-one_word {n} h e = let z : n - 6 ≡ 0 = omega arith in rw (e, z)
-
 pub listed_word : (n tag : ℕ) (words : List ℕ) {old new : List ℕ} {from r : ℕ} → n ≤ 6
     → Listed old from (tagged tag (monomials n (bit (get_or words 0 0)))) r new → Listed old from (tagged tag (monomials n (bit_at words))) r new
 unfolding bit_at

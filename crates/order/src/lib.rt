@@ -9,50 +9,14 @@
 mod masks;
 mod masks_six;
 
-ghost use Rattle.std.specs.Prelude.{◌≡◌, ◌++◌, ◌+◌, ◌-◌, ◌^◌, ◌≤◌, ◌<◌, length, get_or, drop};
-ghost use Rattle.ring.specs.Letters.{digit, bit};
+ghost use Rattle.std.specs.Prelude.{◌≡◌, ℕ, Bool, ◌++◌, ◌+◌, ◌-◌, ◌^◌, ◌≤◌, ◌<◌, length, get_or, drop};
 ghost use Rattle.words.specs.Inner.Words.{bit_at};
-ghost use Rattle.order.specs.Order.{letters, order, monomials};
+ghost use Rattle.order.specs.Order.{letters, keep, order, monomials};
 ghost use Rattle.order.specs.Inner.Place.{AreStarts, AreLetters, rank};
-ghost use Rattle.order.specs.Inner.Listing.{tagged, Listed};
+ghost use Rattle.order.specs.Inner.Listing.{tagged, Listed, Tells};
 
 use masks::ORDER;
 use masks_six::ORDER_SIX;
-
-// The cast in one place, where a byte is known to fit.
-fn wide(x: u8) -> usize
-    ensures { result ≡ x }
-{
-    x as usize
-}
-
-fn wide_mask(x: u16) -> usize
-    ensures { result ≡ x }
-{
-    x as usize
-}
-
-fn one_if(yes: bool) -> usize
-    ensures { result ≡ digit yes }
-{
-    if yes { 1 } else { 0 }
-}
-
-// The coefficient of a mask in one word.
-fn bit_at(word: u64, m: usize) -> usize
-    requires { m < 64 }
-    ensures { result ≡ digit (bit word m) }
-{
-    ((word >> m) & 1) as usize
-}
-
-// The mask at a place of the written order for ten letters.
-fn mask_at(masks: &[u16; 1024], p: usize) -> usize
-    requires { (masks.now ≡ order 10) × (p < 1024) }
-    ensures { result ≡ get_or (order 10) p 0 }
-{
-    wide_mask(masks[p])
-}
 
 // Where in it the masks that have so many letters begin; behind the last, its end.
 const STARTS: [u16; 12] = [0, 1, 11, 56, 176, 386, 638, 848, 968, 1013, 1023, 1024];
@@ -66,21 +30,20 @@ fn next_start(starts: &[u16], m: usize) -> usize
     ensures { result ≡ get_or starts.now (letters m + 1) 0 }
 {
     let counts = letter_counts();
-    wide_mask(starts[count_letters(&counts, m) + 1])
+    usize::from(starts[count_letters(&counts, m) + 1])
 }
 
+// The library's method, behind one equation, which the proofs of the two lists cite.
 fn copy_order(masks: &[u16; 1024], out: &mut [u16])
     requires { (masks.now ≡ order 10) × (1024 ≤ length out.old) }
     ensures { out.new ≡ order 10 ++ drop 1024 out.old }
 {
-    for p in 0..1024 {
-        out[p] = mask_at(masks, p) as u16;
-    }
+    out[..1024].copy_from_slice(masks);
 }
 
 // 'Smaller n skips the masks that are too large': from the first of these on, all that have as many letters are, so that few letters
 // come to few places. The table is that of o letters, six or ten: few letters have their own, so that they need not lay out all 1,024
-// masks.
+// masks. The two places move on their own, and one jumps: no iterator counts both.
 fn skip_large(n: usize, o: usize, masks: &[u16], starts: &[u16], out: &mut [u16])
     requires { (n ≤ o) × (o ≤ 10) × (masks.now ≡ order o) × AreStarts o starts.now × (2 ^ n ≤ length out.old) }
     ensures { out.new ≡ order n ++ drop (2 ^ n) out.old }
@@ -89,7 +52,7 @@ fn skip_large(n: usize, o: usize, masks: &[u16], starts: &[u16], out: &mut [u16]
     let mut at = 0;
     let mut p = 0;
     while at < size {
-        let m = wide_mask(masks[p]);
+        let m = usize::from(masks[p]);
         if m < size {
             out[at] = m as u16;
             at += 1;
@@ -136,27 +99,31 @@ pub fn list_monomials(
     ensures { Listed out.old from (tagged tag (monomials n (bit_at words.now))) result out.new }
 {
     if n <= 6 {
-        return list_word(n, tag, words[0], masks, out, from);
+        // one word stays in a register: none is looked up for each mask
+        let word = words[0];
+        return list_where(tag, masks, out, from, |m| (word >> m) & 1 == 1);
     }
-    let mut at = from;
-    for p in 0..masks.len() {
-        let m = wide_mask(masks[p]);
-        out[at] = (tag + m) as u16;
-        at += one_if(words::value_at(words, m));
-    }
-    at
+    list_where(tag, masks, out, from, |m| words::value_at(words, m))
 }
 
-// The same of one word, which stays in a register: no word is looked up for each mask.
-fn list_word(n: usize, tag: usize, word: u64, masks: &[u16], out: &mut [u16], from: usize) -> usize
-    requires { (n ≤ 6) × (tag + 1024 ≤ 65536) × (masks.now ≡ order n) × (from + 2 ^ n ≤ length out.old) }
-    ensures { Listed out.old from (tagged tag (monomials n (bit word))) result out.new }
+// The masks at which `has` answers yes, as `list_monomials` lists them.
+fn list_where<F: Fn(usize) -> bool>(
+    tag: usize,
+    masks: &[u16],
+    out: &mut [u16],
+    from: usize,
+    has: F,
+) -> usize
+    requires room { (tag + 1024 ≤ 65536) × (from + length masks.now ≤ length out.old) }
+    requires few { (p : ℕ) → p < length masks.now → get_or masks.now p 0 < 1024 }
+    requires askable { (p : ℕ) → p < length masks.now → F.pre has (get_or masks.now p 0) }
+    ensures { (f : ℕ → Bool) → Tells masks.now (F.post has) f → Listed out.old from (tagged tag (keep f masks.now)) result out.new }
 {
     let mut at = from;
-    for p in 0..masks.len() {
-        let m = wide_mask(masks[p]);
+    for &mask in masks {
+        let m = usize::from(mask);
         out[at] = (tag + m) as u16;
-        at += bit_at(word, m);
+        at += usize::from(has(m));
     }
     at
 }
@@ -178,7 +145,7 @@ fn count_letters(counts: &[u8; 32], m: usize) -> usize
     requires { (AreLetters counts.now) × (m < 1024) }
     ensures { (result ≡ letters m) × (result ≤ 10) }
 {
-    wide(counts[m % 32]) + wide(counts[m / 32])
+    usize::from(counts[m % 32]) + usize::from(counts[m / 32])
 }
 
 // The written order in one number: a mask stands before another where its rank is the smaller.

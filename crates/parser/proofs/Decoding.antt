@@ -8,10 +8,8 @@ use native.Mathlib.Numerals.{add-one}
 use native.Mathlib.Omega.{arith}
 use borrow.Author.Tests.{eq-eqb, ne_eqb, eqb-true, lt-ltb, le-ltb, ltb-true, ltb-false, not-true}
 use lib.Dec.{eqb, ltb}
-use lib.Bits.{bit_or}
 use lib.ListN.{length, get_or, take, set, length-set, length-append}
 use lib.Seq.{take-suc, take-suc-set, take-set-le, take_all, take_at}
-use Rattle.ring.specs.Letters.{digit}
 use Rattle.ring.specs.Lists.{listed}
 use Rattle.ring.specs.Polynomial.{every_below}
 use Rattle.ring.proofs.Bool.{and_left, and_right, same_bool}
@@ -119,39 +117,12 @@ pub declared_of_symbols : (U G : ℕ) (text : List ℕ) → ((i : ℕ) → get_o
 unfolding all_declared is_declared is_unknown is_given
 declared_of_symbols U G text bytes = of_symbols (is_letter_declared U G) (is_declared U G) refl (λ c h n. declared_symbol U G c h) text bytes
 
--- ---- a loop over symbols that notes a no: `no` is 1 as soon as one has failed the test
-every_append : (test : ℕ → Bool) (l m : List ℕ) → every test (l ++ m) ≡ (every test l && every test m)
+-- ---- a fold over symbols that tests each
+pub every_more : (test : ℕ → Bool) (l : List ℕ) (all more : Bool) (c : ℕ) → all ≡ every test l → more ≡ (all && test c) → more ≡ every test (l ++ (c ∷ []))
 unfolding every
-every_append test [] m = refl
-every_append test (c ∷ l) m = rw (every_append test l m) (sym (and_assoc (test c) (every test l) (every test m)))
-
-or_noted : (a b : Bool) → bit_or (digit (not a)) (digit (not b)) ≡ digit (not (a && b))
-or_noted true true = refl
-or_noted true false = refl
-or_noted false true = refl
-or_noted false false = refl
-
-module _ (test : ℕ → Bool) (s : List ℕ) where
-  pub none_noted : (i : ℕ) → i ≡ 0 → 0 ≡ digit (not (every test (take i s)))
-  unfolding every
-  none_noted i e = rw e
-
-  module _ (no i : ℕ) (noted : no ≡ digit (not (every test (take i s)))) where
-    pub one_noted : (r : ℕ) → i < length s → r ≡ digit (not (test (get_or s i 0))) → bit_or no r ≡ digit (not (every test (take (i + 1) s)))
-    unfolding every
-    one_noted r h e =
-        let more : every test (take (i + 1) s) ≡ (every test (take i s) && test (get_or s i 0)) =
-        rw (add-one, take-suc s i 0)
-        (every_append test (take i s) (get_or s i 0 ∷ [])
-        ∙ ap (λ (b : Bool). every test (take i s) && b) (and-true (test (get_or s i 0)))) in
-        rw (noted, e, more) (or_noted (every test (take i s)) (test (get_or s i 0)))
-
-    pub all_noted : length s ≤ i → eqb no 0 ≡ every test s
-    all_noted h = rw (noted, take_all i s h) (go (every test s))
-      where
-        go : (b : Bool) → eqb (digit (not b)) 0 ≡ b
-        go true = refl
-        go false = refl
+every_more test [] all more c e h = h ∙ rw e (sym (and-true (test c)))
+every_more test (d ∷ l) all more c e h =
+    h ∙ rw e (and_assoc (test d) (every test l) (test c) ∙ ap (λ (b : Bool). test d && b) (every_more test l (every test l) _ c refl refl))
 
 -- ---- a text without its spaces, a byte at a time
 pub record Unspacing (text out₀ out : List ℕ) (n i : ℕ) : Type 0 where

@@ -1,7 +1,7 @@
 -- The readers in terms of places and stacks: what `IsUpTo` is, step by step.
 -- A reader with a loop, `sum` or `product`, is a part, then any number of a sign and a part: `Loop` serves both.
 -- Assumes nothing.
-use mathlib.Core.Path.{◌≡◌, refl, ◌∙◌, sym, subst}
+use mathlib.Core.Path.{◌≡◌, refl, ◌∙◌, sym}
 use mathlib.Core.Logic.{◌⊎◌, ⊎_elim}
 use mathlib.Core.Bool.{Bool, true, false, ◌&&◌, cond}
 use mathlib.Core.List.{List, [], ◌∷◌, ◌++◌}
@@ -12,11 +12,12 @@ use borrow.Author.Tests.{ne_eqb, le-leb, lt-leb, lt-ltb, le-ltb}
 use lib.ListN.{length, get_or, drop, take, drop_of_length-le, length-drop}
 use lib.Seq.{drop-cons, length-take-le, take-append-le}
 use borrow.Rule.Slice.PartMut.{put_mid, post_of, same_len_mid}
+use lib.Bits.{bit_and, bit_xor}
 use lib.Dec.{leb, ltb}
 use Rattle.tables.proofs.Filled.{filled}
 use Rattle.ring.specs.Letters.{bit}
 use Rattle.grammar.specs.Symbols.{Symbol, single, foreign, is_single}
-use Rattle.grammar.specs.Symbols.{zero_sign, one_sign, not_sign, open_sign, close_sign, times_sign, plus_sign, or_sign}
+use Rattle.grammar.specs.Symbols.{zero_sign, one_sign, not_sign, open_sign, close_sign, times_sign, or_sign}
 use Rattle.grammar.specs.Grammar.{Tree, constant, unknown, given, negation, times}
 use Rattle.grammar.specs.Meaning.{at_point}
 use Rattle.grammar.specs.Reader.{nothing, found, Reader, sum, product, factor, sum_from, product_from}
@@ -24,19 +25,9 @@ use Rattle.grammar.specs.Reader.{and_then, is, joins_sum, joined, closed, factor
 use Rattle.grammar.proofs.Fixed.{fixed, then_nothing, then_found}
 use Rattle.words.specs.Inner.Words.{words_of}
 use Rattle.parser.specs.Inner.Codes.{meant, meanings}
-use Rattle.parser.specs.Inner.Blocks.{ones, word_at, letter_of, join_of, paired, IsUpTo, IsMissing, Agrees}
-use Rattle.parser.specs.declared.Place.{Place}
-use Rattle.parser.specs.declared.Place.TheVariants.{Missing, UpTo}
+use Rattle.parser.specs.Inner.Blocks.{ones, word_at, letter_of, sum_of, paired, IsUpTo, IsMissing}
 use Rattle.parser.proofs.Codes.{unknown_meant, given_meant, sign_meant}
 use Rattle.parser.proofs.Blocks.{front_values, front_joined, size-filled, times_word, sum_word, constant-values, negation_values}
-
-pub missing : {reader : Reader} {s : List ℕ} (U k : ℕ) {at : ℕ} (size : ℕ) (stack : List ℕ) {r : Place}
-    → r ≡ Missing → Agrees reader U k s at size stack r → IsMissing reader s at
-missing {reader} {s} U k {at} size stack h = subst (Agrees reader U k s at size stack) h
-
-pub up_to : {reader : Reader} {U k : ℕ} {s : List ℕ} {at size n : ℕ} {stack : List ℕ} {r : Place}
-    → r ≡ UpTo n → Agrees reader U k s at size stack r → IsUpTo reader U k s at size stack n
-up_to {reader} {U} {k} {s} {at} {size} {n} {stack} h = subst (Agrees reader U k s at size stack) h
 
 next : (s : List ℕ) (n : ℕ) → n < length s → meanings (drop n s) ≡ meant (get_or s n 0) ∷ meanings (drop (n + 1) s)
 next s n h = rw (add-one, drop-cons s n 0)
@@ -48,13 +39,13 @@ pub record Loop : Type 0 where
   pub from : Tree → Reader
   pub joins : Symbol → Bool
   pub join : Symbol → Tree → Tree → Tree
-  pub sign : ℕ → ℕ
+  pub op : ℕ → ℕ → ℕ → ℕ
   pub begins : (l : List Symbol) → reads whole l ≡ and_then (reads part l) (λ e r. reads (from e) r)
   pub stops : (e : Tree) → reads (from e) [] ≡ found e []
   pub goes : (e : Tree) (x : Symbol) (r : List Symbol)
       → reads (from e) (x ∷ r) ≡ cond (joins x) (and_then (reads part r) (λ f r'. reads (from (join x e f)) r')) (found e (x ∷ r))
   pub words : (x : ℕ) → joins (meant x) ≡ true → (U : ℕ) (e f : Tree) (w : ℕ)
-      → join_of (sign x) (word_at (at_point U e) w) (word_at (at_point U f) w) ≡ word_at (at_point U (join (meant x) e f)) w
+      → op x (word_at (at_point U e) w) (word_at (at_point U f) w) ≡ word_at (at_point U (join (meant x) e f)) w
 
 -- what holds in the loop: what is left to read goes on from the tree so far, whose words stand at the front of the stack
 pub record Going (L : Loop) (U k : ℕ) (s : List ℕ) (at size n : ℕ) (stack : List ℕ) : Type 0 where
@@ -109,36 +100,29 @@ module _ (L : Loop) (U k : ℕ) (s : List ℕ) (at size : ℕ) where
             }
 
         module _ (small : k ≤ 16) (room : 8 * (length s - at) + 8 ≤ size) where
-          -- what the loop asks before it calls
-          pub part_start : k ≤ length stack
-          part_start = omega (arith, g.kept, first.kept, g.past)
-
           behind : length (take (length stack - k) (drop k stack)) ≡ length stack - k
           behind = length-take-le (length stack - k) (drop k stack) (omega (arith, length-drop k stack))
-
-          pub part_room : 8 * (length s - (n + 1)) + 8 ≤ length (take (length stack - k) (drop k stack))
-          part_room = omega (arith, behind, g.kept, first.kept, g.past)
 
           module _ {m' : ℕ} {rest : List ℕ}
               (q : IsUpTo L.part U k s (n + 1) (length (take (length stack - k) (drop k stack))) rest m') where
             mid : length (put_mid k (length stack - k) stack rest) ≡ length stack
             mid = same_len_mid k (length stack - k) stack rest q.kept
 
-            pub both_room : k + k ≤ length (put_mid k (length stack - k) stack rest)
+            both_room : k + k ≤ length (put_mid k (length stack - k) stack rest)
             both_room = omega (arith, mid, g.kept, first.kept, g.past, q.past, q.inside)
 
             second : take k (rest ++ post_of k (length stack - k) stack) ≡ words_of k (at_point U q.tree)
             second = take-append-le k rest (post_of k (length stack - k) stack) (omega (arith, both_room, mid, behind, q.kept)) ∙ q.values
 
             pub more : (new : List ℕ) → L.joins (meant (get_or s n 0)) ≡ true
-                → new ≡ filled k (paired (L.sign (get_or s n 0)) k (put_mid k (length stack - k) stack rest))
+                → new ≡ filled k (paired (L.op (get_or s n 0)) k (put_mid k (length stack - k) stack rest))
                 (put_mid k (length stack - k) stack rest) → Going L U k s at (length stack₀) m' new
             more new t e =
                 record {
                   tree = L.join (meant (get_or s n 0)) g.tree q.tree;
                   same = g.same ∙ rw (next s n h) (L.goes g.tree _ _ ∙ rw t (then_found _ q.read));
                   values =
-                      front_joined (L.sign (get_or s n 0)) k (at_point U g.tree) (at_point U q.tree) stack
+                      front_joined (L.op (get_or s n 0)) k (at_point U g.tree) (at_point U q.tree) stack
                       (rest ++ post_of k (length stack - k) stack) g.values second _ new e
                       (L.words (get_or s n 0) t U g.tree q.tree);
                   kept = size-filled k _ _ new e (omega (arith, both_room)) ∙ mid ∙ g.kept;
@@ -149,12 +133,6 @@ module _ (L : Loop) (U k : ℕ) (s : List ℕ) (at size : ℕ) where
   module _ {n : ℕ} {stack : List ℕ} (g : Going L U k s at size n stack) (h : n < length s) where
     pub more_missing : L.joins (meant (get_or s n 0)) ≡ true → IsMissing L.part s (n + 1) → IsMissing L.whole s at
     more_missing t q = record { none = g.same ∙ rw (next s n h) (L.goes g.tree _ _ ∙ rw t (then_nothing _ q.none)) }
-
--- the stack is as long as it was, whatever was found
-pub stays : (k : ℕ) (stack rest : List ℕ) {size₀ size : ℕ} → length rest ≡ length (take (length stack - k) (drop k stack))
-    → length stack ≡ size₀ → size₀ ≡ size
-    → length (put_mid k (length stack - k) stack rest) ≡ size
-stays k stack rest e g f = same_len_mid k (length stack - k) stack rest e ∙ g ∙ f
 
 -- the test of `sum`'s loop, by way of what `joins_sum` returned
 pub sum_test : (r b : Bool) (x : Symbol) → r ≡ joins_sum x → r ≡ b → joins_sum x ≡ b
@@ -167,7 +145,7 @@ sum_loop = record {
   from = sum_from;
   joins = joins_sum;
   join = λ x. joined (is or_sign x);
-  sign = λ x. x;
+  op = sum_of;
   begins = λ l. fixed sum l;
   stops = λ e. fixed (sum_from e) [];
   goes = λ e x r. fixed (sum_from e) (x ∷ r);
@@ -181,7 +159,7 @@ product_loop = record {
   from = product_from;
   joins = is times_sign;
   join = λ x. times;
-  sign = λ x. times_sign;
+  op = λ x. bit_and;
   begins = λ l. fixed product l;
   stops = λ e. fixed (product_from e) [];
   goes = λ e x r. fixed (product_from e) (x ∷ r);
@@ -242,13 +220,13 @@ module _ (s : List ℕ) (at : ℕ) (h : at < length s) where
         → take k new ≡ words_of k (at_point U e) → length new ≡ length stack → IsUpTo factor U k s at (length stack) new (at + 1)
     one_symbol e new q v l = record { tree = e; read = here ∙ q; values = v; kept = l; past = omega arith; inside = omega arith }
 
-    pub reads_zero : get_or s at 0 ≡ zero_sign → {new : List ℕ} → new ≡ filled k (λ i. join_of 0 (get_or stack i 0) 0) stack
+    pub reads_zero : get_or s at 0 ≡ zero_sign → {new : List ℕ} → new ≡ filled k (λ i. 0) stack
         → IsUpTo factor U k s at (length stack) new (at + 1)
     unfolding meant is_single
     reads_zero q {new} z =
         one_symbol (constant false) new (rw q) (constant-values U k stack new false z) (size-filled k _ stack new z (omega arith))
 
-    pub reads_one : get_or s at 0 ≡ one_sign → {new : List ℕ} → new ≡ filled k (λ i. join_of 0 (get_or stack i 0) ones) stack
+    pub reads_one : get_or s at 0 ≡ one_sign → {new : List ℕ} → new ≡ filled k (λ i. ones) stack
         → IsUpTo factor U k s at (length stack) new (at + 1)
     unfolding meant is_single
     reads_one q {new} z =
@@ -275,7 +253,7 @@ module _ (s : List ℕ) (at : ℕ) (h : at < length s) where
 
   module _ (U k size : ℕ) (small : k ≤ 16) (room : 8 * (length s - at) + 8 ≤ size) where
     pub reads-not : get_or s at 0 ≡ not_sign → {n : ℕ} {stack : List ℕ} (new : List ℕ) → IsUpTo factor U k s (at + 1) size stack n
-        → new ≡ filled k (λ i. join_of plus_sign (get_or stack i 0) ones) stack → IsUpTo factor U k s at size new n
+        → new ≡ filled k (λ i. bit_xor (get_or stack i 0) ones) stack → IsUpTo factor U k s at size new n
     unfolding meant is_single
     reads-not q {n} {stack} new g z =
         record {

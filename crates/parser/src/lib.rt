@@ -5,8 +5,8 @@
 
 #![tactic(auto)]
 
-ghost use Rattle.std.specs.Prelude.{◌≡◌, not, ◌+◌, ◌-◌, ◌*◌, ◌≤◌, ◌<◌, length, take, get_or};
-ghost use Rattle.ring.specs.Letters.{digit, bit};
+ghost use Rattle.std.specs.Prelude.{◌≡◌, ℕ, ◌+◌, ◌-◌, ◌*◌, ◌≤◌, ◌<◌, length, take, get_or};
+ghost use Rattle.ring.specs.Letters.{bit};
 ghost use Rattle.ring.specs.Lists.{listed};
 ghost use Rattle.tables.proofs.Filled.{filled};
 ghost use Rattle.grammar.specs.Symbols.{symbol, symbols, every};
@@ -14,24 +14,14 @@ ghost use Rattle.grammar.specs.Reader as reader;
 ghost use Rattle.grammar.specs.Reader.{reads, joins_sum, is_whole};
 ghost use Rattle.parser.specs.Inner.Codes.{code, meant, codes, meanings};
 ghost use Rattle.parser.specs.Inner.Questions.{unspaced, is_known, is_letter_declared};
-ghost use Rattle.parser.specs.Inner.Blocks.{word_at, letter_of, join_of, paired, Agrees, whole_words};
+ghost use Rattle.parser.specs.Inner.Blocks.{word_at, letter_of, sum_of, paired, Makes, Agrees, whole_words};
 
 // A symbol's code: unknown j is j, given i is GIVEN + i, every other sign is its own byte.
 const GIVEN: u8 = 8;
 
 const FOREIGN: u8 = 255;
 
-// The code that puts a block in another's place; the codes that join two are their signs.
-const PUT: u8 = 0;
-
 const ONES: u64 = 0xffff_ffff_ffff_ffff;
-
-// What a reader finds: nothing, or the place behind what it has read.
-#[derive(Clone, Copy)]
-pub enum Place {
-    Missing,
-    UpTo(usize),
-}
 
 // 'Decoding goes by byte ranges: u to z, a to h, then the single signs.'
 fn decode(byte: u8) -> u8
@@ -52,14 +42,11 @@ fn drop_spaces(text: &[u8], out: &mut [u8]) -> usize
     ensures { (result ≤ length out.new) × (take result out.new ≡ unspaced text.now) }
 {
     let mut n = 0;
-    let mut i = 0;
-    while i < text.len() {
-        let byte = text[i];
+    for &byte in text {
         out[n] = byte;
         if byte != b' ' {
             n += 1;
         }
-        i += 1;
     }
     n
 }
@@ -68,8 +55,8 @@ fn drop_spaces(text: &[u8], out: &mut [u8]) -> usize
 fn decode_all(s: &mut [u8])
     ensures { s.new ≡ listed (length s.old) (λ i. code (symbol (get_or s.old i 0))) }
 {
-    for i in 0..s.len() {
-        s[i] = decode(s[i]);
+    for byte in s.iter_mut() {
+        *byte = decode(*byte);
     }
 }
 
@@ -83,55 +70,29 @@ pub fn write_symbols(text: &[u8], out: &mut [u8]) -> usize
     n
 }
 
-// 1 for the code of what is no sign.
-fn foreign(c: u8) -> u8
-    ensures { result ≡ digit (not (is_known c)) }
-{
-    if c == FOREIGN {
-        return 1;
-    }
-    0
-}
-
-// Question 5, of the codes of a text's symbols.
+// Question 5, of the codes of a text's symbols. No answer ends the fold, so that the codes are tested side by side.
 pub fn all_signs(s: &[u8]) -> bool
     ensures { result ≡ every is_known s.now }
 {
-    let mut fault = 0u8;
-    for i in 0..s.len() {
-        fault = fault | foreign(s[i]);
-    }
-    fault == 0
+    s.iter().fold(true, |all, &c| all & (c != FOREIGN))
 }
 
-// 1 for a letter that is not declared. Codes below 8 are unknowns, those from 8 to 15 givens.
-fn undeclared(u: u8, g: u8, c: u8) -> u8
-    ensures { result ≡ digit (not (is_letter_declared u g c)) }
+// Is a symbol declared, if it is a letter? Codes below 8 are unknowns, those from 8 to 15 givens.
+fn is_declared(u: u8, g: u8, c: u8) -> bool
+    ensures { result ≡ is_letter_declared u g c }
 {
-    if c < 8 {
-        if c < u {
-            return 0;
-        }
-        return 1;
+    match c {
+        0..=7 => c < u,
+        8..=15 => c - 8 < g,
+        _ => true,
     }
-    if c < 16 {
-        if c - 8 < g {
-            return 0;
-        }
-        return 1;
-    }
-    0
 }
 
 // Question 6, of the codes of a text's symbols.
 pub fn all_declared(u: u8, g: u8, s: &[u8]) -> bool
     ensures { result ≡ every (is_letter_declared u g) s.now }
 {
-    let mut fault = 0u8;
-    for i in 0..s.len() {
-        fault = fault | undeclared(u, g, s[i]);
-    }
-    fault == 0
+    s.iter().fold(true, |all, &c| all & is_declared(u, g, c))
 }
 
 fn joins_sum(c: u8) -> bool
@@ -148,90 +109,67 @@ fn high_letter(j: usize, w: usize) -> u64
     if (w >> (j - 6)) % 2 == 1 { ONES } else { 0 }
 }
 
-fn combine(op: u8, a: u64, b: u64) -> u64
-    ensures { result ≡ join_of op a b }
+// Puts in the place of each of the first k words what f makes of its number and of it.
+fn put_each<F: Fn(usize, u64) -> u64>(stack: &mut [u64], k: usize, f: F)
+    requires room { k ≤ length stack.old }
+    requires askable { (i : ℕ) → i < k → F.pre f i (get_or stack.old i 0) }
+    ensures { (h : ℕ → ℕ) → Makes k stack.old (F.post f) h → stack.new ≡ filled k h stack.old }
 {
-    match op {
-        b'*' => a & b,
-        b'|' => a | b,
-        b'+' => a ^ b,
-        _ => b,
+    let words = &mut stack[..k];
+    for (i, word) in words.iter_mut().enumerate() {
+        *word = f(i, *word);
+    }
+}
+
+// The same. Ten letters have 16 words, eight have 4, six and fewer have 1: a loop whose end is known is one run of wide operations.
+fn put_block<F: Fn(usize, u64) -> u64>(stack: &mut [u64], k: usize, f: F)
+    requires room { k ≤ length stack.old }
+    requires askable { (i : ℕ) → i < k → F.pre f i (get_or stack.old i 0) }
+    ensures { (h : ℕ → ℕ) → Makes k stack.old (F.post f) h → stack.new ≡ filled k h stack.old }
+{
+    match k {
+        16 => put_each(stack, 16, f),
+        4 => put_each(stack, 4, f),
+        1 => put_each(stack, 1, f),
+        _ => put_each(stack, k, f),
     }
 }
 
 // The second block joined to the first.
-fn join_blocks(op: u8, stack: &mut [u64], k: usize)
+fn join_each<F: Fn(u64, u64) -> u64>(stack: &mut [u64], k: usize, op: F)
+    requires room { k + k ≤ length stack.old }
+    requires askable { F.IsAlwaysCallable op }
+    ensures { (g : ℕ → ℕ → ℕ) → ((a b v : ℕ) → F.post op a b v → v ≡ g a b) → stack.new ≡ filled k (paired g k stack.old) stack.old }
+{
+    let (first, second) = stack.split_at_mut(k);
+    let second: &[u64] = second;
+    put_each(first, k, |i, word| op(word, second[i]));
+}
+
+// The same, again by widths. `put_block` cannot stand for it: blocks that are split before the width is known are not known to lie apart,
+// and reading 16 words then takes 1.2 of the time.
+fn join<F: Fn(u64, u64) -> u64>(stack: &mut [u64], k: usize, op: F)
+    requires room { k + k ≤ length stack.old }
+    requires askable { F.IsAlwaysCallable op }
+    ensures { (g : ℕ → ℕ → ℕ) → ((a b v : ℕ) → F.post op a b v → v ≡ g a b) → stack.new ≡ filled k (paired g k stack.old) stack.old }
+{
+    match k {
+        16 => join_each(stack, 16, op),
+        4 => join_each(stack, 4, op),
+        1 => join_each(stack, 1, op),
+        _ => join_each(stack, k, op),
+    }
+}
+
+// The same for a sign of sums.
+fn join_sum(stack: &mut [u64], k: usize, sign: u8)
     requires { k + k ≤ length stack.old }
-    ensures { stack.new ≡ filled k (paired op k stack.old) stack.old }
+    ensures { stack.new ≡ filled k (paired (sum_of sign) k stack.old) stack.old }
 {
-    for i in 0..k {
-        stack[i] = combine(op, stack[i], stack[k + i]);
-    }
-}
-
-// Ten letters have 16 words, eight have 4, six and fewer have 1: a loop whose end is known is one run of wide operations.
-fn join(op: u8, stack: &mut [u64], k: usize)
-    requires { k + k ≤ length stack.old }
-    ensures { stack.new ≡ filled k (paired op k stack.old) stack.old }
-{
-    if k == 16 {
-        join_blocks(op, stack, 16);
-    } else if k == 4 {
-        join_blocks(op, stack, 4);
-    } else if k == 1 {
-        join_blocks(op, stack, 1);
+    if sign == b'|' {
+        join(stack, k, |a, b| a | b);
     } else {
-        join_blocks(op, stack, k);
-    }
-}
-
-// A word joined to each of the first block.
-fn join_each(op: u8, stack: &mut [u64], k: usize, word: u64)
-    requires { k ≤ length stack.old }
-    ensures { stack.new ≡ filled k (λ i. join_of op (get_or stack.old i 0) word) stack.old }
-{
-    for i in 0..k {
-        stack[i] = combine(op, stack[i], word);
-    }
-}
-
-fn join_word(op: u8, stack: &mut [u64], k: usize, word: u64)
-    requires { k ≤ length stack.old }
-    ensures { stack.new ≡ filled k (λ i. join_of op (get_or stack.old i 0) word) stack.old }
-{
-    if k == 16 {
-        join_each(op, stack, 16, word);
-    } else if k == 4 {
-        join_each(op, stack, 4, word);
-    } else if k == 1 {
-        join_each(op, stack, 1, word);
-    } else {
-        join_each(op, stack, k, word);
-    }
-}
-
-// A block of the words of a letter from 6 on.
-fn fill_high(stack: &mut [u64], k: usize, j: usize)
-    requires { (k ≤ length stack.old) × (6 ≤ j) × (j < 64) }
-    ensures { stack.new ≡ filled k (word_at (λ p. bit p j)) stack.old }
-{
-    for i in 0..k {
-        stack[i] = high_letter(j, i);
-    }
-}
-
-fn put_high(stack: &mut [u64], k: usize, j: usize)
-    requires { (k ≤ length stack.old) × (6 ≤ j) × (j < 64) }
-    ensures { stack.new ≡ filled k (word_at (λ p. bit p j)) stack.old }
-{
-    if k == 16 {
-        fill_high(stack, 16, j);
-    } else if k == 4 {
-        fill_high(stack, 4, j);
-    } else if k == 1 {
-        fill_high(stack, 1, j);
-    } else {
-        fill_high(stack, k, j);
+        join(stack, k, |a, b| a ^ b);
     }
 }
 
@@ -241,9 +179,10 @@ fn put_letter(stack: &mut [u64], k: usize, j: usize)
     ensures { stack.new ≡ filled k (word_at (λ p. bit p j)) stack.old }
 {
     if j < 6 {
-        join_word(PUT, stack, k, words::low_letter(j));
+        let low = words::low_letter(j);
+        put_block(stack, k, |_, _| low);
     } else {
-        put_high(stack, k, j);
+        put_block(stack, k, |i, _| high_letter(j, i));
     }
 }
 
@@ -252,11 +191,8 @@ fn letter_of(u: usize, c: u8) -> usize
     requires { (u ≤ 6) × (c < 16) }
     ensures { (result ≡ letter_of u c) × (result < 64) }
 {
-    let code = c as usize;
-    if code < 8 {
-        return code;
-    }
-    u + (code - 8)
+    let code = usize::from(c);
+    if code < 8 { code } else { u + (code - 8) }
 }
 
 // A block of the words of a code's letter. Unknowns and givens share it, so that no branch hangs on which of them it is.
@@ -267,108 +203,72 @@ fn put_symbol(stack: &mut [u64], k: usize, u: usize, c: u8)
     put_letter(stack, k, letter_of(u, c));
 }
 
+// The grammar's rule: products, as long as a sign joins a further one.
 #[cycle(factor_product_sum)]
-fn sum(s: &[u8], at: usize, u: usize, k: usize, stack: &mut [u64]) -> Place
+fn sum(s: &[u8], at: usize, u: usize, k: usize, stack: &mut [u64]) -> Option<usize>
     requires { (at ≤ length s.now) × (u ≤ 6) × (k ≤ 16) × (8 * (length s.now - at) + 8 ≤ length stack.old) }
     ensures { Agrees reader.Reader.sum u k s.now at (length stack.old) stack.new result }
 {
-    match product(s, at, u, k, stack) {
-        Place::Missing => Place::Missing,
-        Place::UpTo(m) => {
-            let mut n = m;
-            while n < s.len() {
-                let c = s[n];
-                if joins_sum(c) {
-                    match product(s, n + 1, u, k, &mut stack[k..]) {
-                        Place::Missing => return Place::Missing,
-                        Place::UpTo(next) => {
-                            n = next;
-                            join(c, stack, k);
-                        }
-                    }
-                } else {
-                    return Place::UpTo(n);
-                }
-            }
-            Place::UpTo(n)
-        }
+    let mut n = product(s, at, u, k, stack)?;
+    while n < s.len() && joins_sum(s[n]) {
+        let next = product(s, n + 1, u, k, &mut stack[k..])?;
+        join_sum(stack, k, s[n]);
+        n = next;
     }
+    Some(n)
 }
 
+// The grammar's rule: factors, as long as a sign joins a further one. Inlined into `sum`, since a call for each product would take a tenth of the reading.
 #[cycle(factor_product_sum)]
-fn product(s: &[u8], at: usize, u: usize, k: usize, stack: &mut [u64]) -> Place
+#[inline(always)]
+fn product(s: &[u8], at: usize, u: usize, k: usize, stack: &mut [u64]) -> Option<usize>
     requires { (at ≤ length s.now) × (u ≤ 6) × (k ≤ 16) × (8 * (length s.now - at) + 8 ≤ length stack.old) }
     ensures { Agrees reader.Reader.product u k s.now at (length stack.old) stack.new result }
 {
-    match factor(s, at, u, k, stack) {
-        Place::Missing => Place::Missing,
-        Place::UpTo(m) => {
-            let mut n = m;
-            while n < s.len() {
-                if s[n] == b'*' {
-                    match factor(s, n + 1, u, k, &mut stack[k..]) {
-                        Place::Missing => return Place::Missing,
-                        Place::UpTo(next) => {
-                            n = next;
-                            join(b'*', stack, k);
-                        }
-                    }
-                } else {
-                    return Place::UpTo(n);
-                }
-            }
-            Place::UpTo(n)
-        }
+    let mut n = factor(s, at, u, k, stack)?;
+    while n < s.len() && s[n] == b'*' {
+        n = factor(s, n + 1, u, k, &mut stack[k..])?;
+        join(stack, k, |a, b| a & b);
     }
+    Some(n)
 }
 
+// The grammar's rule: a digit, a letter, an inverted factor, or a sum in brackets.
 #[cycle(factor_product_sum)]
-fn factor(s: &[u8], at: usize, u: usize, k: usize, stack: &mut [u64]) -> Place
+fn factor(s: &[u8], at: usize, u: usize, k: usize, stack: &mut [u64]) -> Option<usize>
     requires { (at ≤ length s.now) × (u ≤ 6) × (k ≤ 16) × (8 * (length s.now - at) + 8 ≤ length stack.old) }
     ensures { Agrees reader.Reader.factor u k s.now at (length stack.old) stack.new result }
 {
-    if at < s.len() {
-        let c = s[at];
-        let next = at + 1;
-        match c {
-            b'0' => {
-                join_word(PUT, stack, k, 0);
-                Place::UpTo(next)
-            }
-            b'1' => {
-                join_word(PUT, stack, k, ONES);
-                Place::UpTo(next)
-            }
-            b'!' => match factor(s, next, u, k, stack) {
-                Place::Missing => Place::Missing,
-                Place::UpTo(n) => {
-                    join_word(b'+', stack, k, ONES);
-                    Place::UpTo(n)
-                }
-            },
-            b'(' => match sum(s, next, u, k, stack) {
-                Place::Missing => Place::Missing,
-                Place::UpTo(n) => {
-                    if n < s.len() {
-                        if s[n] == b')' {
-                            Place::UpTo(n + 1)
-                        } else {
-                            Place::Missing
-                        }
-                    } else {
-                        Place::Missing
-                    }
-                }
-            },
-            // an unknown, a given
-            0..=5 | 8..=15 => {
-                put_symbol(stack, k, u, c);
-                Place::UpTo(next)
-            }
-            _ => Place::Missing,
+    let c = *s.get(at)?;
+    let next = at + 1;
+    match c {
+        b'0' => {
+            put_block(stack, k, |_, _| 0);
+            Some(next)
         }
-    } else {
-        Place::Missing
+        b'1' => {
+            put_block(stack, k, |_, _| ONES);
+            Some(next)
+        }
+        b'!' => {
+            let n = factor(s, next, u, k, stack)?;
+            put_block(stack, k, |_, word| word ^ ONES);
+            Some(n)
+        }
+        b'(' => {
+            let n = sum(s, next, u, k, stack)?;
+            if *s.get(n)? == b')' {
+                Some(n + 1)
+            } else {
+                None
+            }
+        }
+        // an unknown, a given
+        0..=5 | 8..=15 => {
+            put_symbol(stack, k, u, c);
+            Some(next)
+        }
+        _ => None,
     }
 }
 
@@ -379,46 +279,33 @@ fn read_with(s: &[u8], u: usize, words: &mut [u64], stack: &mut [u64]) -> bool
     ensures words_after { words.new ≡ whole_words u (reads reader.Reader.sum (meanings s.now)) words.old }
 {
     let k = words.len();
-    match sum(s, 0, u, k, stack) {
-        Place::Missing => false,
-        Place::UpTo(n) => {
-            if n == s.len() {
-                words::copy(words, &stack[..k]);
-                true
-            } else {
-                false
-            }
-        }
+    let whole = sum(s, 0, u, k, stack) == Some(s.len());
+    if whole {
+        words::copy(words, &stack[..k]);
     }
+    whole
 }
 
-// A short text needs a small stack. The stacks live here.
-fn read_short(s: &[u8], u: usize, words: &mut [u64]) -> bool
-    requires { (length s.now ≤ 63) × (u ≤ 6) × (length words.old ≤ 16) }
+// The same on a stack of N words, which lives here.
+fn read_on<const N: usize>(s: &[u8], u: usize, words: &mut [u64]) -> bool
+    requires { (u ≤ 6) × (length words.old ≤ 16) × (8 * length s.now + 8 ≤ N) × (N ≤ 2048) }
     ensures value { result ≡ is_whole (reads reader.Reader.sum (meanings s.now)) }
     ensures words_after { words.new ≡ whole_words u (reads reader.Reader.sum (meanings s.now)) words.old }
 {
-    let mut stack = [0u64; 512];
+    let mut stack = [0u64; N];
     read_with(s, u, words, &mut stack)
 }
 
-fn read_long(s: &[u8], u: usize, words: &mut [u64]) -> bool
-    requires { (length s.now ≤ 200) × (u ≤ 6) × (length words.old ≤ 16) }
-    ensures value { result ≡ is_whole (reads reader.Reader.sum (meanings s.now)) }
-    ensures words_after { words.new ≡ whole_words u (reads reader.Reader.sum (meanings s.now)) words.old }
-{
-    let mut stack = [0u64; 1608];
-    read_with(s, u, words, &mut stack)
-}
-
-// Question 7 of a text's symbols and, where the answer is yes, the values of its tree in `words`, 64 points to a word.
+// Question 7 of a text's symbols and, where the answer is yes, the values of its tree in `words`, 64 points to a word. A short text needs
+// a small stack.
 pub fn read_values(s: &[u8], u: usize, words: &mut [u64]) -> bool
     requires { (length s.now ≤ 200) × (u ≤ 6) × (length words.old ≤ 16) }
     ensures value { result ≡ is_whole (reads reader.Reader.sum (meanings s.now)) }
     ensures words_after { words.new ≡ whole_words u (reads reader.Reader.sum (meanings s.now)) words.old }
 {
     if s.len() < 64 {
-        return read_short(s, u, words);
+        read_on::<512>(s, u, words)
+    } else {
+        read_on::<1608>(s, u, words)
     }
-    read_long(s, u, words)
 }

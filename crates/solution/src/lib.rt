@@ -11,18 +11,12 @@ ghost use Rattle.ring.specs.Lists.{times};
 ghost use Rattle.solution.specs.Condition.{default_order};
 ghost use Rattle.solution.specs.Order.{order_fits, default_bytes};
 
-fn wide(x: u8) -> usize
-    ensures { result ≡ x }
-{
-    x as usize
-}
-
 fn times(x: usize, s: &[u8]) -> usize
     ensures { result ≡ times x s.now }
 {
     let mut count = 0usize;
-    for i in 0..s.len() {
-        if x == wide(s[i]) {
+    for &byte in s {
+        if x == usize::from(byte) {
             count += 1;
         }
     }
@@ -32,58 +26,25 @@ fn times(x: usize, s: &[u8]) -> usize
 fn holds_each(u: usize, s: &[u8]) -> bool
     ensures { result ≡ every_below u (λ x. eqb (times x s.now) 1) }
 {
-    for x in 0..u {
-        if times(x, s) != 1 {
-            return false;
-        }
-    }
-    true
+    (0..u).all(|x| times(x, s) == 1)
 }
 
 fn all_unused(s: &[u8]) -> bool
     ensures { result ≡ every_below (length s.now) (λ i. eqb (get_or s.now i 0) 255) }
 {
-    for i in 0..s.len() {
-        if s[i] != 255 {
-            return false;
-        }
-    }
-    true
+    s.iter().all(|&byte| byte == 255)
 }
 
 // Question 17.
 pub fn order_fits(u: usize, order: [u8; 6]) -> bool
     ensures { result ≡ order_fits u order }
 {
-    if 6 < u {
-        return false;
-    }
-    if !holds_each(u, &order[..u]) {
-        return false;
-    }
-    all_unused(&order[u..])
-}
-
-// The byte at place i of the order 0, 1, 2, ..
-fn default_byte(u: usize, i: u8) -> u8
-    ensures { result ≡ get_or (default_order u) i 255 }
-{
-    if wide(i) < u {
-        return i;
-    }
-    255
+    u <= 6 && holds_each(u, &order[..u]) && all_unused(&order[u..])
 }
 
 // The order 0, 1, 2, ..
 pub fn default_order(u: usize) -> [u8; 6]
     ensures { result ≡ default_bytes u }
 {
-    [
-        default_byte(u, 0),
-        default_byte(u, 1),
-        default_byte(u, 2),
-        default_byte(u, 3),
-        default_byte(u, 4),
-        default_byte(u, 5),
-    ]
+    std::array::from_fn(|i| if i < u { i as u8 } else { 255 })
 }

@@ -7,13 +7,13 @@ use Rattle.order.proofs.Letters.{letters_looked_up}
 use Rattle.order.proofs.count_letters.Goals as goal
 
 pub overflow_add-result : goal.overflow_add-result
-overflow_add-result c = let sum : (c.wide.result + c.wide-2.result ≡ letters c.args.m)
-    × (c.wide.result + c.wide-2.result ≤ 10) = let asked = c.requires in
-    letters_looked_up _ asked.0 _ asked.1 c.wide.ensures c.wide-2.ensures in
+overflow_add-result c = let sum : (c.from.result + c.from-2.result ≡ letters c.args.m)
+    × (c.from.result + c.from-2.result ≤ 10) = let asked = c.requires in
+    letters_looked_up _ asked.0 _ asked.1 c.from.ensures c.from-2.ensures in
     omega (arith, (sum).1)
 
 pub returns : goal.returns
-returns c = let sum : (c.wide.result + c.wide-2.result ≡ letters c.args.m)
-    × (c.wide.result + c.wide-2.result ≤ 10) = let asked = c.requires in
-    letters_looked_up _ asked.0 _ asked.1 c.wide.ensures c.wide-2.ensures in
+returns c = let sum : (c.from.result + c.from-2.result ≡ letters c.args.m)
+    × (c.from.result + c.from-2.result ≤ 10) = let asked = c.requires in
+    letters_looked_up _ asked.0 _ asked.1 c.from.ensures c.from-2.ensures in
     sum

@@ -1,57 +1,49 @@
--- Up to six letters `list_word` lists them. Beyond, the invariant: those of the first p masks that the words have are listed. The measure
--- is the number of masks that are left. Assumes nothing.
-use mathlib.Core.Path.{refl, ap, ◌∙◌}
-use Prim.Native.Nat.{◌^◌, ◌≤◌, ◌<◌}
+-- `order::list_monomials` meets its contract. Assumes nothing.
+use mathlib.Core.Path.{◌≡◌, refl, ap, ◌∙◌}
+use Prim.Native.Nat.{ℕ, ◌/◌, ◌^◌, ◌≤◌, ◌<◌}
 use native.Mathlib.Omega.{arith}
-use lib.ListN.{length}
+use borrow.Author.Rules.{rules}
+use lib.Bits.{bit_and}
+use lib.Dec.{eqb}
+use lib.ListN.{length, get_or}
 use lib.Pow.{pow_mono}
-use Rattle.ring.specs.Letters.{digit}
+use Rattle.ring.specs.Letters.{bit}
+use Rattle.ring.proofs.Bool.{bit-digit}
+use Rattle.words.specs.Inner.Words.{bit_at}
+use Rattle.words.proofs.Packing.{bit-code}
 use Rattle.order.proofs.Order.{length-order}
-use Rattle.order.proofs.Listing.{listing_start, listing_room, listing_more, listing_end, listed-monomials, mask_place}
-use Rattle.order.proofs.Listing.{mask_in_words, one_word, listed_word}
+use Rattle.order.proofs.Listing.{listed-monomials, listed_word, mask_place, mask_in_words}
 use Rattle.order.proofs.list_monomials.Goals as goal
 
-pub bounds-words-0 : goal.bounds-words-0
-bounds-words-0 c = omega (arith, one_word c.if-n-le6.true c.requires.2)
+pub list_where-requires-clause-room : goal.list_where-requires-clause-room
+list_where-requires-clause-room c = (omega arith, omega (arith, ap length c.requires.3, length-order c.args.n, c.requires.4))
+
+pub list_where-requires-clause-few : goal.list_where-requires-clause-few
+list_where-requires-clause-few c = λ p l. let most : 2 ^ c.args.n ≤ 1024 = pow_mono c.requires.0 in
+    omega (arith, mask_place _ p c.requires.3 l refl)
+
+pub list_where-requires-clause-askable : goal.list_where-requires-clause-askable
+list_where-requires-clause-askable c = λ p l. let most : 2 ^ c.args.n ≤ 64 = pow_mono c.if-n-le6.true in
+    let small : get_or c.args.masks.now p 0 < 64 = omega (arith, mask_place _ p c.requires.3 l refl) in
+    search rules
 
 pub returns-then-n-le6 : goal.returns-then-n-le6
-returns-then-n-le6 c = listed_word _ _ _ c.if-n-le6.true c.list_word.ensures
+returns-then-n-le6 c = listed_word _ _ _ c.if-n-le6.true (listed-monomials _ _ _ c.requires.3
+    (c.list_where.ensures (bit (get_or c.args.words.now 0 0)) (λ p b l told.
+    let word = get_or c.args.words.now 0 0 in
+    let m = get_or c.args.masks.now p 0 in
+    let is : b ≡ eqb (bit_and (word / 2 ^ m) 1) 1 = search rules in
+    is ∙ ap (λ (x : ℕ). eqb x 1) (bit-code word m) ∙ bit-digit (bit word m))))
 
-pub loop-p-init : goal.loop-p-init
-loop-p-init c = listing_start _ _ _ _ _ (omega (arith, ap length c.requires.3, length-order c.args.n, c.requires.4))
+pub list_where-requires-2-clause-room : goal.list_where-requires-2-clause-room
+list_where-requires-2-clause-room c = (omega arith, omega (arith, ap length c.requires.3, length-order c.args.n, c.requires.4))
 
-pub overflow_add-out : goal.overflow_add-out
-overflow_add-out c = let small : c.wide_mask-m.result < 1024 = let most : 2 ^ c.args.n ≤ 1024 = pow_mono c.requires.0 in
-    omega (arith, mask_place _ _ c.requires.3 c.loop-p-test.true c.wide_mask-m.ensures) in
-    omega (arith, small)
+pub list_where-requires-2-clause-few : goal.list_where-requires-2-clause-few
+list_where-requires-2-clause-few c = λ p l. let most : 2 ^ c.args.n ≤ 1024 = pow_mono c.requires.0 in
+    omega (arith, mask_place _ p c.requires.3 l refl)
 
-pub overflow_cast-out : goal.overflow_cast-out
-overflow_cast-out c = let small : c.wide_mask-m.result < 1024 = let most : 2 ^ c.args.n ≤ 1024 = pow_mono c.requires.0 in
-    omega (arith, mask_place _ _ c.requires.3 c.loop-p-test.true c.wide_mask-m.ensures) in
-    omega (arith, small)
-
-pub offset_bounds-out-at : goal.offset_bounds-out-at
-offset_bounds-out-at c = let i = c.loop-p.invariant in
-    omega (arith, listing_room i c.loop-p-test.true, i.long)
-
-pub bounds-out-at : goal.bounds-out-at
-bounds-out-at c = search listing_room
-
-pub value_at-requires : goal.value_at-requires
-value_at-requires c = let asked = c.requires in
-    mask_in_words _ _ asked.3 c.loop-p-test.true c.wide_mask-m.ensures asked.2
-
-pub overflow_add-at : goal.overflow_add-at
-overflow_add-at c = let i = c.loop-p.invariant in
-    let one = c.one_if-at.ensures ∙ ap digit c.value_at.ensures in
-    omega (arith, (listing_more i c.loop-p-test.true c.wide_mask-m.ensures refl one).most, i.room)
-
-pub loop-p-preserved : goal.loop-p-preserved
-loop-p-preserved c = let one = c.one_if-at.ensures ∙ ap digit c.value_at.ensures in
-    listing_more c.loop-p.invariant c.loop-p-test.true c.wide_mask-m.ensures refl one
-
-pub shape_of-out : goal.shape_of-out
-shape_of-out c = c.loop-p.invariant.long
+pub list_where-requires-2-clause-askable : goal.list_where-requires-2-clause-askable
+list_where-requires-2-clause-askable c = λ p l. let within = mask_in_words _ p c.requires.3 l refl c.requires.2 in search rules
 
 pub returns : goal.returns
-returns c = listed-monomials _ _ _ c.requires.3 (listing_end c.loop-p.invariant c.loop-p-test.false)
+returns c = listed-monomials _ _ _ c.requires.3 (c.list_where-2.ensures (bit_at c.args.words.now) (λ p b l told. search rules))

@@ -5,5 +5,5 @@ use lib.ListN.{get_or}
 use Rattle.order.proofs.next_start.Goals as goal
 
 pub returns : goal.returns
-returns c = c.wide_mask.ensures
+returns c = c.from.ensures
     ∙ ap (λ (k : ℕ). get_or c.args.starts.now (k + 1) 0) c.count_letters.ensures.0

@@ -15,7 +15,7 @@ pub bounds-masks-p : goal.bounds-masks-p
 bounds-masks-p c = search walk_read
 
 pub overflow_cast-out : goal.overflow_cast-out
-overflow_cast-out c = omega (arith, walk_mask c.loop-at.invariant c.loop-at-test.true c.wide_mask-m.ensures)
+overflow_cast-out c = omega (arith, walk_mask c.loop-at.invariant c.loop-at-test.true c.from-m.ensures)
 
 pub offset_bounds-out-at : goal.offset_bounds-out-at
 offset_bounds-out-at c = omega (arith, walk_most c.loop-at.invariant)
@@ -41,12 +41,12 @@ next_start-p-requires c = (search walk_mask, search walk_next)
 
 pub loop-at-smaller : goal.loop-at-smaller
 loop-at-smaller c = let i = c.loop-at.invariant in
-    let s = walk_skip i c.loop-at-test.true c.wide_mask-m.ensures c.if-m-size.false c.next_start-p.ensures in
+    let s = walk_skip i c.loop-at-test.true c.from-m.ensures c.if-m-size.false c.next_start-p.ensures in
     omega (arith, s.0, s.1)
 
 pub loop-at-preserved : goal.loop-at-preserved
 loop-at-preserved c = let i = c.loop-at.invariant in
-    (walk_skip i c.loop-at-test.true c.wide_mask-m.ensures c.if-m-size.false c.next_start-p.ensures).2
+    (walk_skip i c.loop-at-test.true c.from-m.ensures c.if-m-size.false c.next_start-p.ensures).2
 
 pub shape_of-out : goal.shape_of-out
 shape_of-out c = c.loop-at.invariant.kept.same

@@ -1,18 +1,17 @@
--- The loop's invariant: the byte says whether one of the symbols so far has failed the test. Assumes nothing.
-use mathlib.Core.Path.{refl}
+-- The bool says whether each symbol so far has passed the test. Assumes nothing.
+use mathlib.Core.Path.{◌≡◌, refl}
+use mathlib.Core.Bool.{true}
 use borrow.Author.Rules.{rules}
-use Rattle.parser.proofs.Decoding.{none_noted, one_noted, all_noted}
+use borrow.Author.Tests.{tests}
+use Rattle.std.proofs.lemmas.Fn.{fold_over, fronts}
+use Rattle.std.proofs.lemmas.Iterator.{YieldsList-from_slice}
+use Rattle.grammar.specs.Symbols.{every}
+use Rattle.parser.specs.Inner.Questions.{is_letter_declared}
+use Rattle.parser.proofs.Decoding.{every_more}
 use Rattle.parser.proofs.all_declared.Goals as goal
 
-pub loop-i-init : goal.loop-i-init
-loop-i-init c = (search rules, none_noted _ c.args.s.now _ refl)
-
-pub loop-i-preserved : goal.loop-i-preserved
-loop-i-preserved c = (
-  search rules,
-  one_noted _ _ _ _ c.loop-i.invariant.1 _ c.loop-i-test.true
-      c.undeclared-fault.ensures,
-)
-
 pub returns : goal.returns
-returns c = all_noted _ _ _ _ c.loop-i.invariant.1 c.loop-i-test.false
+unfolding every
+returns c = fold_over fronts (λ y. y.now) _ (λ l all. all ≡ every (is_letter_declared c.args.u c.args.g) l) _
+    (λ l all x more f' h k. (every_more (is_letter_declared c.args.u c.args.g) l all more x.now h (search (rules, tests)), search rules))
+    c.iter.result c.args.s.now true _ (YieldsList-from_slice c.args.s.now (cc)).runs refl c.fold.ensures.ran

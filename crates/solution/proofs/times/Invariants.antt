@@ -1,13 +1,9 @@
--- `solution::times` meets its contract. The loop's invariant: the count so far and what the bytes from i on have make up the whole.
--- Assumes nothing.
+-- The count over the bytes so far. Assumes nothing.
 use mathlib.Core.Path.{◌≡◌}
-use Prim.Native.Nat.{◌+◌, ◌-◌, ◌≤◌}
-use lib.ListN.{length, drop}
-use Rattle.ring.specs.Lists.{times}
+use lib.Dec.{eqb}
+use lib.ListN.{take}
+use Rattle.std.specs.List.{count_by}
 use Rattle.solution.proofs.times.Given as goal
 
-abbrev pub invariant-loop-i : goal.invariant-loop-i
-invariant-loop-i l = (l.i ≤ length l.s) × (l.count ≤ l.i) × (l.count + times l.x (drop l.i l.s) ≡ times l.x l.s)
-
-abbrev pub decreases-loop-i : goal.decreases-loop-i
-decreases-loop-i l = length l.s - l.i
+abbrev pub invariant-loop-byte : goal.invariant-loop-byte
+invariant-loop-byte l = l.count ≡ count_by (λ y. eqb l.x y) (take l.byte-index l.s)
