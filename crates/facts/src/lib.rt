@@ -4,16 +4,16 @@
 
 #![tactic(auto)]
 
-ghost use Rattle.std.specs.Prelude.{◌≡◌, true, ℕ, ◌+◌, ◌-◌, ◌^◌, ◌≤◌, length};
+ghost use Rattle.std.specs.Prelude.{◌≡◌, true, ℕ, ◌-◌, ◌^◌, ◌≤◌, length, MatchResult, OnOk};
 ghost use Rattle.ring.specs.Table.{AreBits, IsTable, present};
-ghost use Rattle.tables.specs.Questions.{first_no};
+ghost use Rattle.tables.specs.Inner.Passed.{NoneNo, IsFirstNo};
 ghost use Rattle.words.specs.Inner.Words.{words_of};
 ghost use Rattle.solution.specs.Fact.{has_no_unknown};
 ghost use Rattle.solution.specs.Elimination.{is_zero};
 ghost use Rattle.calls.specs.Questions.{fact_questions};
 ghost use Rattle.facts.specs.Inner.Kept.{kept_words, where_words};
 
-use tables::Question;
+use tables::{Letters, Question};
 
 // Has g no monomial? No early way out, and as many turns as there are bytes, so that the loop is one of whole vectors.
 fn is_zero(fact: &[u8]) -> bool
@@ -21,8 +21,8 @@ fn is_zero(fact: &[u8]) -> bool
     ensures { (n : ℕ) → length fact.now ≡ 2 ^ n → result ≡ is_zero n (present fact.now) }
 {
     let mut union = 0u8;
-    for m in 0..fact.len() {
-        union = union | fact[m];
+    for &byte in fact {
+        union |= byte;
     }
     union == 0
 }
@@ -34,9 +34,9 @@ fn has_no_unknown(u: usize, fact: &[u8]) -> bool
 {
     let unknowns = tables::pow2(u) - 1;
     let mut union = 0u8;
-    for m in 0..fact.len() {
+    for (m, &byte) in fact.iter().enumerate() {
         if m & unknowns != 0 {
-            union = union | fact[m];
+            union |= byte;
         }
     }
     union == 0
@@ -46,52 +46,47 @@ fn has_no_unknown(u: usize, fact: &[u8]) -> bool
 fn keep_all(kept: &mut [u64])
     ensures { kept.new ≡ words_of (length kept.old) (λ p. true) }
 {
-    for i in 0..kept.len() {
-        kept[i] = 0xffff_ffff_ffff_ffff;
-    }
+    kept.fill(0xffff_ffff_ffff_ffff);
 }
 
-// Questions 22 and 23: the first no, or 0 and the values of 1 + g, which are 1 at the points that count, in `kept`. The fact 0, which
-// most routes have, takes one look at its bytes.
-pub fn keep(u: usize, g: usize, fact: &[u8], kept: &mut [u64]) -> u8
-    requires { (u ≤ 6) × (u + g ≤ 10) × IsTable (u + g) fact.now × (length kept.old ≡ 2 ^ (u + g - 6)) }
-    ensures value { result ≡ first_no (fact_questions u g fact.now) }
-    ensures kept_after { result ≡ 0 → kept.new ≡ kept_words (u + g) fact.now }
+// Questions 22 and 23, and the values of 1 + g, which are 1 at the points that count, in `kept`. The fact 0, which most routes have, takes
+// one look at its bytes.
+pub fn keep(letters: Letters, fact: &[u8], kept: &mut [u64]) -> Result<(), Question>
+    requires { IsTable letters.n fact.now × (length kept.old ≡ 2 ^ (letters.n - 6)) }
+    ensures value { MatchResult result (λ _. NoneNo (fact_questions letters.unknowns letters.givens fact.now))
+        (IsFirstNo (fact_questions letters.unknowns letters.givens fact.now)) }
+    ensures kept_after { OnOk result (kept.new ≡ kept_words letters.n fact.now) }
 {
     if is_zero(fact) {
         keep_all(kept);
-        return 0;
+        return Ok(());
     }
-    if !has_no_unknown(u, fact) {
-        return tables::number(Question::FactGivens);
-    }
-    words::take_values(u + g, fact, kept);
+    tables::require(Question::FactGivens, has_no_unknown(letters.unknowns, fact))?;
+    words::take_values(letters.n, fact, kept);
     words::complement(kept);
-    if words::first_one(kept) < tables::pow2(u + g) {
-        return 0;
-    }
-    tables::number(Question::FactState)
+    tables::require(
+        Question::FactState,
+        words::first_one(kept) < letters.table_len,
+    )?;
+    Ok(())
 }
 
-// Questions 22 and 23: the first no, or 0 and the values of f*(1 + g) in `values`. Uses up `kept`.
+// Questions 22 and 23, and the values of f*(1 + g) in `values`. Uses up `kept`.
 pub fn take_where_zero(
-    u: usize,
-    g: usize,
+    letters: Letters,
     fact: &[u8],
     condition: &[u8],
     values: &mut [u64],
     kept: &mut [u64],
-) -> u8
-    requires { (u ≤ 6) × (u + g ≤ 10) × IsTable (u + g) fact.now × IsTable (u + g) condition.now
-        × (length values.old ≡ 2 ^ (u + g - 6)) × (length kept.old ≡ 2 ^ (u + g - 6)) }
-    ensures value { result ≡ first_no (fact_questions u g fact.now) }
-    ensures values_after { result ≡ 0 → values.new ≡ where_words (u + g) condition.now fact.now }
+) -> Result<(), Question>
+    requires { IsTable letters.n fact.now × IsTable letters.n condition.now
+        × (length values.old ≡ 2 ^ (letters.n - 6)) × (length kept.old ≡ 2 ^ (letters.n - 6)) }
+    ensures value { MatchResult result (λ _. NoneNo (fact_questions letters.unknowns letters.givens fact.now))
+        (IsFirstNo (fact_questions letters.unknowns letters.givens fact.now)) }
+    ensures values_after { OnOk result (values.new ≡ where_words letters.n condition.now fact.now) }
 {
-    let q = keep(u, g, fact, kept);
-    if q != 0 {
-        return q;
-    }
-    words::take_values(u + g, condition, values);
+    keep(letters, fact, kept)?;
+    words::take_values(letters.n, condition, values);
     words::multiply_into(values, kept);
-    0
+    Ok(())
 }

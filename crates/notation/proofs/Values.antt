@@ -10,7 +10,6 @@ use Rattle.ring.specs.Polynomial.{value}
 use Rattle.ring.specs.Table.{present, table}
 use Rattle.ring.proofs.Table.{present-table}
 use Rattle.ring.proofs.Value.{value_cong}
-use Rattle.tables.specs.Answered.{after}
 use Rattle.grammar.specs.Symbols.{Symbol, symbols, every, all_signs, all_declared}
 use Rattle.grammar.specs.Meaning.{normal_form}
 use Rattle.grammar.specs.Reader.{sum, reads, is_whole, grammar_reads, tree_of}
@@ -25,7 +24,6 @@ use Rattle.parser.specs.Inner.Blocks.{whole_words}
 use Rattle.parser.specs.Inner.Questions.{is_known, is_letter_declared}
 use Rattle.parser.proofs.Decoding.{signs_of_symbols, declared_of_symbols}
 use Rattle.notation.specs.Inner.Work.{text_words}
-use Rattle.notation.proofs.Refusal.{after_all}
 
 -- questions 5 and 6, of a text whose symbols have the codes s
 module _ (text s : List ℕ) (r : Bool) (e : s ≡ codes (symbols text)) (bytes : (i : ℕ) → get_or text i 0 < 256) where
@@ -63,11 +61,6 @@ pub words_kept : (U : ℕ) (l : List Symbol) (lent words : List ℕ) → words �
     → is_whole (reads sum l) ≡ false → words ≡ lent
 unfolding whole_words
 words_kept U l lent words e h = e ∙ rw h
-
--- for a caller: no question was answered no
-pub words_ready : (U G : ℕ) (text lent words : List ℕ) (r : ℕ) → r ≡ 0 → length lent ≡ 2 ^ (U + G - 6)
-    → words ≡ after r (text_words U G text) lent → words ≡ text_words U G text
-words_ready U G text lent words r z size e = e ∙ after_all r (text_words U G text) lent z (size ∙ sym (length_text U G text))
 
 -- words that hold the text's values give its table
 pub table_text : (U G : ℕ) (text words out : List ℕ) → words ≡ text_words U G text → out ≡ table (U + G) (value (U + G) (bit_at words))

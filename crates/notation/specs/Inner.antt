@@ -1,2 +1,3 @@
 -- Inner work: what only proofs and inner functions cite.
 pub mod Work
+pub mod Passed

@@ -2,16 +2,16 @@
 -- Assumes nothing.
 use mathlib.Core.Path.{◌≡◌, sym, ap, ap₂, ◌∙◌}
 use mathlib.Core.Bool.{Bool, true, not, ◌&&◌, beq, and_comm, and_assoc}
-use mathlib.Core.List.{List}
+use mathlib.Core.List.{List, ◌++◌}
 use Prim.Native.Nat.{ℕ, zero, suc, ◌+◌, ◌-◌, ◌*◌, ◌/◌, ◌%◌, ◌^◌, ◌≤◌, ◌<◌}
 use native.Mathlib.Nat.{add-zero, add-suc}
 use native.Mathlib.Numerals.{add-one}
 use native.Mathlib.Omega.{arith}
 use lib.Dec.{eqb}
 use lib.Bits.{bit_and, and_block, and_le_l, and_zero_l, and_mask}
-use lib.ListN.{length, get_or, take, drop, length-drop}
+use lib.ListN.{length, get_or, get_or-append, length-append}
 use lib.Pow.{pow_mono, pow-add}
-use lib.Seq.{get_or-take, get_or-drop, length-take-le}
+use lib.Seq.{get_or-append-add}
 use borrow.Author.Tests.{eq-eqb, eqb-true}
 use Rattle.ring.specs.Letters.{digit}
 use Rattle.ring.specs.Polynomial.{Polynomial, ◌⊕◌, odd, within, value}
@@ -61,27 +61,41 @@ odd_add a (suc b) test =
 regroup : (a b c : Bool) → (a && (b && c)) ≡ ((a && c) && b)
 regroup a b c = ap (λ (x : Bool). a && x) (and_comm b c) ∙ sym (and_assoc a c b)
 
--- one more block of masks
-pub block_more : (t : List ℕ) (w d p low k : ℕ) (o r : Bool) → o ≡ odd (w * 64) (λ m. present t m && within m p) → d ≡ 64 → k ≡ 64
-    → low ≡ bit_and p 63
-    → r ≡ odd k (λ m. present (take d (drop (w * 64) t)) m && within m low)
-    → not (beq o (r && eqb (bit_and w (p / 2 ^ 6)) w)) ≡ odd ((w + 1) * 64) (λ m. present t m && within m p)
-unfolding present within
-block_more t w d p low k o r eo ed ek el er =
-    let next : (w + 1) * 64 ≡ w * 64 + 64 = omega arith in
-    let six : low ≡ p % 64 = el ∙ and_mask p 6 in
-    rw next
-    (xor_code o (r && within w (p / 64))
-    ∙ ap₂ ◌⊕◌ eo
-    (ap (λ (x : Bool). x && within w (p / 64)) (er ∙ ap (λ (x : ℕ). odd x (λ m. present (take d (drop (w * 64) t)) m && within m low)) ek)
-    ∙ sym (odd_and_r 64 (within w (p / 64)) (λ m. present (take d (drop (w * 64) t)) m && within m low))
-    ∙ odd_cong 64 _ _ (λ i l.
-    ap₂ (λ (x y : Bool). (x && y) && within w (p / 64))
-    (ap (λ (x : ℕ). eqb x 1) (get_or-take d (drop (w * 64) t) i 0 (omega arith) ∙ get_or-drop (w * 64) t i 0))
-    (ap (within i) six)
-    ∙ sym (regroup (eqb (get_or t (w * 64 + i) 0) 1) (within w (p / 64)) (within i (p % 64)))
-    ∙ ap (λ (x : Bool). eqb (get_or t (w * 64 + i) 0) 1 && x) (sym (within_block w i p l))))
-    ∙ sym (odd_add (w * 64) 64 (λ m. present t m && within m p)))
+pub parts_length : (rest block left : List ℕ) → rest ≡ block ++ left → length rest ≡ length block + length left
+parts_length rest block left parts = ap length parts ∙ length-append block left
+
+-- one more block of masks: what is left of the table is that block, and what is left behind it
+module _ (t rest block left : List ℕ) (w : ℕ) (there : (i : ℕ) → get_or rest i 0 ≡ get_or t (w * 64 + i) 0) (parts : rest ≡ block ++ left)
+    (size : length block ≡ 64) where
+  pub there_next : (i : ℕ) → get_or left i 0 ≡ get_or t ((w + 1) * 64 + i) 0
+  there_next i =
+      let at : w * 64 + (length block + i) ≡ (w + 1) * 64 + i = omega (arith, size) in
+      sym (get_or-append-add block left i 0) ∙ ap (λ (l : List ℕ). get_or l (length block + i) 0) (sym parts) ∙ there (length block + i)
+      ∙ ap (λ (x : ℕ). get_or t x 0) at
+
+  block_byte : (i : ℕ) → i < 64 → get_or block i 0 ≡ get_or t (w * 64 + i) 0
+  block_byte i l =
+      sym (get_or-append block left 0 i (omega (arith, size))) ∙ ap (λ (x : List ℕ). get_or x i 0) (sym parts) ∙ there i
+
+  pub block_more : (p low : ℕ) (o r : Bool) → o ≡ odd (w * 64) (λ m. present t m && within m p) → low ≡ bit_and p 63
+      → r ≡ odd (length block) (λ m. present block m && within m low)
+      → not (beq o (r && eqb (bit_and w (p / 2 ^ 6)) w)) ≡ odd ((w + 1) * 64) (λ m. present t m && within m p)
+  unfolding present within
+  block_more p low o r eo el er =
+      let next : (w + 1) * 64 ≡ w * 64 + 64 = omega arith in
+      let six : low ≡ p % 64 = el ∙ and_mask p 6 in
+      rw next
+      (xor_code o (r && within w (p / 64))
+      ∙ ap₂ ◌⊕◌ eo
+      (ap (λ (x : Bool). x && within w (p / 64)) (er ∙ ap (λ (x : ℕ). odd x (λ m. present block m && within m low)) size)
+      ∙ sym (odd_and_r 64 (within w (p / 64)) (λ m. present block m && within m low))
+      ∙ odd_cong 64 _ _ (λ i l.
+      ap₂ (λ (x y : Bool). (x && y) && within w (p / 64))
+      (ap (λ (x : ℕ). eqb x 1) (block_byte i l))
+      (ap (within i) six)
+      ∙ sym (regroup (eqb (get_or t (w * 64 + i) 0) 1) (within w (p / 64)) (within i (p % 64)))
+      ∙ ap (λ (x : Bool). eqb (get_or t (w * 64 + i) 0) 1 && x) (sym (within_block w i p l))))
+      ∙ sym (odd_add (w * 64) 64 (λ m. present t m && within m p)))
 
 -- all masks, and the result as a byte
 pub parity_end : (n k : ℕ) (f : Polynomial) (p v : ℕ) (o : Bool) → k ≡ 2 ^ n → o ≡ odd k (λ i. f i && within i p) → v ≡ digit o
@@ -105,13 +119,7 @@ few_masks n t l e =
     let few : 2 ^ n ≤ 2 ^ 6 = pow_mono m in
     omega arith
 
-pub block_length : (t : List ℕ) (w blocks : ℕ) → length t ≡ blocks * 64 → w < blocks
-    → length (take (w * 64 + 64 - w * 64) (drop (w * 64) t)) ≡ 64
-block_length t w blocks e l =
-    let d : w * 64 + 64 - w * 64 ≡ 64 = omega arith in
-    ap (λ (x : ℕ). length (take x (drop (w * 64) t))) d ∙ length-take-le 64 (drop (w * 64) t) (omega (arith, length-drop (w * 64) t))
-
-pub whole_blocks : (n : ℕ) (t : List ℕ) → 6 ≤ n → length t ≡ 2 ^ n → length t ≡ length t / 64 * 64
+pub whole_blocks : (n : ℕ) (t : List ℕ) → 6 ≤ n → length t ≡ 2 ^ n → length t % 64 ≡ 0
 whole_blocks n t l e =
     let s : n - 6 + 6 ≡ n = omega arith in
     let f : length t ≡ 2 ^ (n - 6) * 64 = e ∙ ap (λ (x : ℕ). 2 ^ x) (sym s) ∙ pow-add 2 (n - 6) 6 in

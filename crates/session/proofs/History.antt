@@ -6,7 +6,7 @@ use mathlib.Core.Path.{◌≡◌, refl, sym, ap, ◌∙◌}
 use mathlib.Core.Logic.{◌↔◌}
 use mathlib.Core.Bool.{true, false, not, and-false}
 use mathlib.Core.List.{List, [], ◌∷◌, ◌++◌, map}
-use Prim.Native.Nat.{ℕ, zero, suc, ◌+◌, ◌-◌, ◌^◌}
+use Prim.Native.Nat.{ℕ, ◌+◌, ◌-◌, ◌^◌}
 use lib.Dec.{eqb}
 use lib.ListN.{replicate}
 use borrow.Author.Tests.{eq-eqb, not-true}
@@ -18,18 +18,19 @@ use Rattle.ring.proofs.Bool.{and_left, and_right}
 use Rattle.ring.proofs.Value.{value_cong}
 use Rattle.ring.proofs.Table.{table_cong}
 use Rattle.ring.proofs.Join.{one_joined, joined_one, same_members}
-use Rattle.tables.specs.Questions.{first_no, letters_fit}
+use Rattle.std.specs.Prelude.{Result, Ok, Err}
+use Rattle.tables.specs.declared.Question.{Question}
+use Rattle.tables.specs.Questions.{letters_fit}
 use Rattle.tables.proofs.FirstNo.{each_yes}
 use Rattle.tables.proofs.Questions.{letters_small, pow_small}
 use Rattle.solution.specs.Letters.{Letter, HoldsGivens, Valuation, value_over}
 use Rattle.solution.specs.Substitution.{Substitution, put_in, MakesZero}
 use Rattle.solution.proofs.Letters.{replaced_value, value-put_in}
 use Rattle.solution.proofs.Join.{zero_joined}
-use Rattle.calls.specs.declared.Outcome.TheVariants.{Refused}
 use Rattle.calls.specs.Questions.{start_questions, add_questions, is_name, mark_questions, return_questions}
 use Rattle.session.specs.declared.Session.{Session}
 use Rattle.session.specs.declared.Step.{Step}
-use Rattle.session.specs.Session.{new_session, added, marked, returned, stepped, start_step, return_step}
+use Rattle.session.specs.Session.{new_session, added, marked, returned, outcome_of, stepped, start_step, return_step}
 use Rattle.session.specs.History.{Action, adds, marks, returns, History, step_from, session_after, stored}
 use Rattle.session.specs.History.{present_list, list_under, leaves_mark, history_questions, list_table, mark_of, session_of}
 use Rattle.session.proofs.Tables.{empty_list, present_list_lem, member_map, each_mapped}
@@ -45,12 +46,12 @@ new_session_lem U G fits = rw (empty_list (U + G) (pow_small (2 ^ (U + G)) (U + 
 module _ (U G : ℕ) (fits : letters_fit U G ≡ true) where
   -- a step puts the questions that the history leaves to it, and goes from the session of a history to that of the longer one
   pub each_step : (before : History) (action : Action) → step_from (session_of U G before) action
-      ≡ stepped (first_no (history_questions (U + G) before action)) (session_of U G (action ∷ before)) (session_of U G before)
+      ≡ stepped (outcome_of (history_questions (U + G) before action)) (session_of U G (action ∷ before)) (session_of U G before)
   unfolding session_of add_questions mark_questions return_questions history_questions
-  each_step before (adds h) = asked_step _ _ _ _ _ (own_pass U G before fits) refl (λ z. add_exactly U G before h (add_passes U G before h z))
-  each_step before (marks name) = asked_step _ _ _ _ _ (own_pass U G before fits) refl (λ z. mark_exactly U G before name (each_yes _ z).0)
+  each_step before (adds h) = asked_step _ _ _ _ _ _ (own_pass U G before fits) refl (λ z. add_exactly U G before h (add_passes U G before h z))
+  each_step before (marks name) = asked_step _ _ _ _ _ _ (own_pass U G before fits) refl (λ z. mark_exactly U G before name (each_yes _ z).0)
   each_step before (returns name) =
-      asked_step _ _ _ _ _ (own_pass U G before fits) (return_asked U G before name)
+      asked_step _ _ _ _ _ _ (own_pass U G before fits) (return_asked U G before name)
       (λ z. return_exactly U G before name (each_yes _ z).0 (each_yes _ z).1.0)
 
   -- from any start that hands back the new session of U and G
@@ -63,17 +64,17 @@ module _ (U G : ℕ) (fits : letters_fit U G ≡ true) where
 
   -- 'For every list of these steps from a new session, the table is that of the present list as the history defines it': the whole session
   pub history_exactly : (history : History) → session_after U G history ≡ session_of U G history
-  unfolding start_questions stepped first_no
+  unfolding start_questions stepped outcome_of
   history_exactly = from_start U G (rw fits)
 
   -- the same as `each_step`, of the session after a history
   pub step-answered : (before : History) (action : Action) → step_from (session_after U G before) action
-      ≡ stepped (first_no (history_questions (U + G) before action)) (session_after U G (action ∷ before)) (session_after U G before)
+      ≡ stepped (outcome_of (history_questions (U + G) before action)) (session_after U G (action ∷ before)) (session_after U G before)
   step-answered before action = rw (history_exactly before, history_exactly (action ∷ before)) (each_step before action)
 
 -- 'a refused start hands back the new session of U = 0 and G = 0'
 pub refused_start : (U G : ℕ) → letters_fit U G ≡ false → (history : History) → session_after U G history ≡ session_of 0 0 history
-unfolding letters_fit start_questions stepped first_no
+unfolding letters_fit start_questions stepped outcome_of
 refused_start U G f = from_start 0 0 refl U G (rw f)
 
 -- ---- 'tries something and returns'
@@ -105,10 +106,10 @@ table_brought_back U G x between before fits e l =
 
 -- ---- any session, also one that no history made
 -- what holds of the session after the step and of the one before it holds of what the step hands back
-either_way : (P : Session → Type 0) (number : ℕ) (after s : Session) → P after → P s → P (stepped number after s).session
+either_way : (P : Session → Type 0) (outcome : Result Unit Question) (after s : Session) → P after → P s → P (stepped outcome after s).session
 unfolding stepped
-either_way P zero after s a b = a
-either_way P (suc number) after s a b = b
+either_way P (Ok done) after s a b = a
+either_way P (Err question) after s a b = b
 
 -- 'keeps all marks'
 pub return_keeps_marks : (s : Session) (name : ℕ) → (return_step s name).session.marks ≡ s.marks
@@ -127,18 +128,19 @@ letters_stay s (adds h) = either_way (HasLetters s) _ (added s h) s (refl, refl)
 letters_stay s (marks name) = either_way (HasLetters s) _ (marked s name) s (refl, refl) (refl, refl)
 letters_stay s (returns name) = either_way (HasLetters s) _ (returned s name) s (refl, refl) (refl, refl)
 
--- a step whose outcome is a number hands back the session before it
-refused_before : (number q : ℕ) (after s : Session) → (stepped q after s).outcome ≡ Refused number → (stepped q after s).session ≡ s
+-- a step whose outcome is a question hands back the session before it
+refused_before : (question : Question) (outcome : Result Unit Question) (after s : Session) → (stepped outcome after s).outcome ≡ Err question
+    → (stepped outcome after s).session ≡ s
 unfolding stepped
-refused_before number zero after s e = cc
-refused_before number (suc q) after s e = refl
+refused_before question (Ok done) after s e = cc
+refused_before question (Err other) after s e = refl
 
 -- 'a refused step changes nothing'
-pub refused_unchanged : (s : Session) (action : Action) (number : ℕ) → (step_from s action).outcome ≡ Refused number
+pub refused_unchanged : (s : Session) (action : Action) (question : Question) → (step_from s action).outcome ≡ Err question
     → (step_from s action).session ≡ s
-refused_unchanged s (adds h) number e = refused_before number _ (added s h) s e
-refused_unchanged s (marks name) number e = refused_before number _ (marked s name) s e
-refused_unchanged s (returns name) number e = refused_before number _ (returned s name) s e
+refused_unchanged s (adds h) question e = refused_before question _ (added s h) s e
+refused_unchanged s (marks name) question e = refused_before question _ (marked s name) s e
+refused_unchanged s (returns name) question e = refused_before question _ (returned s name) s e
 
 -- ---- what the present table says of the present list
 module _ (U G : ℕ) (fits : letters_fit U G ≡ true) (history : History) where

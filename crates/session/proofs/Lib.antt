@@ -1,4 +1,5 @@
 pub mod Asked
+pub mod Outcomes
 pub mod Joined
 pub mod Tables
 pub mod Steps

@@ -6,37 +6,44 @@ use mathlib.Core.Path.{◌≡◌, refl, sym, ap, ◌∙◌}
 use mathlib.Core.Logic.{◌⊎◌, inl, inr}
 use mathlib.Core.Bool.{true, false}
 use mathlib.Core.List.{List, [], ◌∷◌, ◌++◌}
-use Prim.Native.Nat.{ℕ, zero, suc, ◌+◌, ◌^◌}
-use native.Mathlib.Omega.{arith}
+use Prim.Native.Nat.{ℕ, ◌+◌, ◌^◌}
 use lib.ListN.{length}
 use Rattle.ring.proofs.Bool.{and_left, and_right, bool_cases, both, never}
+use Rattle.std.specs.Prelude.{Result}
+use Rattle.tables.specs.declared.Question.{Question}
 use Rattle.tables.specs.declared.Question.TheVariants.{Name, Marked}
-use Rattle.tables.specs.Questions.{Asked, asks, reads, first_no, letters_fit, has_room, holds_bits, room_questions, bit_questions, buffer_questions}
-use Rattle.tables.proofs.FirstNo.{each_yes, none_no, then_further}
+use Rattle.tables.specs.Questions.{Asked, asks, asks_giving, reads, first_no, letters_fit, has_room, holds_bits, room_questions, bit_questions, buffer_questions}
+use Rattle.tables.proofs.FirstNo.{number_some, each_yes, none_no}
 use Rattle.calls.specs.Questions.{session_questions, is_name}
 use Rattle.session.specs.declared.Session.{Session}
-use Rattle.session.specs.Session.{unmarked, under, asked_tables, added, marked, returned, stepped}
+use Rattle.session.specs.Session.{unmarked, under, asked_tables, added, marked, returned, outcome_of, stepped}
 use Rattle.session.specs.History.{Action, adds, marks, returns, History, Stored, nothing, stored, or_else}
 use Rattle.session.specs.History.{is_condition, present_list, list_under, is_stored, history_questions, list_table, mark_of, session_of}
+use Rattle.session.proofs.Outcomes.{outcome_behind}
 use Rattle.session.proofs.Tables.{each_name, other_name, list_bits, list_added, marks_pass}
 
 -- ---- steps
 -- questions in front that are all answered yes play no part; nor does what a step would make of the session where it is refused
-pub asked_step : {k : ℕ} (own further : List Asked) (after after' s : Session) → first_no own ≡ 0 → first_no further ≡ k → (k ≡ 0 → after ≡ after')
-    → stepped (first_no (own ++ further)) after s ≡ stepped k after' s
-unfolding stepped
-asked_step {k} own further after after' s z e h = ap (λ (x : ℕ). stepped x after s) (then_further own further z ∙ e) ∙ go k h
+pub asked_step : (own further asked : List Asked) (after after' s : Session) → first_no own ≡ 0 → outcome_of further ≡ outcome_of asked
+    → (first_no asked ≡ 0 → after ≡ after')
+    → stepped (outcome_of (own ++ further)) after s ≡ stepped (outcome_of asked) after' s
+unfolding stepped outcome_of first_no
+asked_step own further asked after after' s z e h =
+    ap (λ (r : Result Unit Question). stepped r after s) (outcome_behind own further z ∙ e) ∙ go asked h
   where
-    go : (x : ℕ) → (x ≡ 0 → after ≡ after') → stepped x after s ≡ stepped x after' s
-    go zero f = rw (f refl)
-    go (suc x) f = refl
+    go : (qs : List Asked) → (first_no qs ≡ 0 → after ≡ after') → stepped (outcome_of qs) after s ≡ stepped (outcome_of qs) after' s
+    go [] f = rw (f refl)
+    go (asks_giving question true given ∷ rest) f = go rest f
+    go (asks_giving question false given ∷ rest) f = refl
 
 -- where a refused step would leave the session as it is, the session is the one after the step either way
-pub step_after : (number : ℕ) (after s : Session) → (number ≡ 0) ⊎ (after ≡ s) → (stepped number after s).session ≡ after
-unfolding stepped
-step_after zero after s e = refl
-step_after (suc number) after s (inl e) = absurd (omega arith)
-step_after (suc number) after s (inr e) = sym e
+pub step_after : (asked : List Asked) (after s : Session) → (first_no asked ≡ 0) ⊎ (after ≡ s)
+    → (stepped (outcome_of asked) after s).session ≡ after
+unfolding stepped outcome_of first_no
+step_after [] after s e = refl
+step_after (asks_giving question true given ∷ rest) after s e = step_after rest after s e
+step_after (asks_giving question false given ∷ rest) after s (inl e) = absurd (number_some question e)
+step_after (asks_giving question false given ∷ rest) after s (inr e) = sym e
 
 -- ---- what stands under a name
 -- the name is marked exactly if a list is stored ..
@@ -87,14 +94,14 @@ module _ (U G : ℕ) (before : History) where
   mark_exactly = each_name (λ name. marked (session_of U G before) name ≡ session_of U G (marks name ∷ before)) refl refl refl refl
 
   -- returning: 19 is asked of a name alone
-  pub return_asked : (name : ℕ) → first_no (asks Name (is_name name) ∷ asks Marked (under (session_of U G before) name).set ∷ [])
-      ≡ first_no (history_questions (U + G) before (returns name))
-  unfolding history_questions first_no
+  pub return_asked : (name : ℕ) → outcome_of (asks Name (is_name name) ∷ asks Marked (under (session_of U G before) name).set ∷ [])
+      ≡ outcome_of (history_questions (U + G) before (returns name))
+  unfolding history_questions outcome_of
   return_asked name = go (bool_cases (is_name name))
     where
       go : (is_name name ≡ true) ⊎ (is_name name ≡ false)
-          → first_no (asks Name (is_name name) ∷ asks Marked (under (session_of U G before) name).set ∷ [])
-          ≡ first_no (asks Name (is_name name) ∷ asks Marked (is_stored (list_under (U + G) name before)) ∷ [])
+          → outcome_of (asks Name (is_name name) ∷ asks Marked (under (session_of U G before) name).set ∷ [])
+          ≡ outcome_of (asks Name (is_name name) ∷ asks Marked (is_stored (list_under (U + G) name before)) ∷ [])
       go (inl e) = rw (under_name name e, mark_set (U + G) (list_under (U + G) name before))
       go (inr e) = rw e
 

@@ -1,2 +1,3 @@
 -- Inner work: what only proofs and inner functions cite.
 pub mod Asking
+pub mod Passed

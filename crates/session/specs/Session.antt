@@ -1,11 +1,11 @@
 -- Named design states (document 02, C-12): a session, and what each step makes of it. 'each step takes the session and hands back the session
 -- after it', whatever it is handed. A table has 1,024 bytes of room, of which the first 2 ^ n count, n being U + G.
 -- Assumes nothing.
-use Rattle.std.specs.Prelude.{true, false, cond, List, [], ◌∷◌, ◌++◌, ℕ, zero, suc, ◌+◌, ◌-◌, ◌^◌, get_or, set, drop, replicate}
+use Rattle.std.specs.Prelude.{true, false, cond, List, [], ◌∷◌, ◌++◌, ℕ, ◌+◌, ◌-◌, ◌^◌, get_or, set, drop, replicate, Result, Ok, Err}
 use Rattle.ring.specs.Table.{present, table}
 use Rattle.ring.specs.Join.{join}
-use Rattle.tables.specs.Questions.{first_no}
-use Rattle.calls.specs.declared.Outcome.TheVariants.{Done, Refused}
+use Rattle.tables.specs.declared.Question.{Question}
+use Rattle.tables.specs.Questions.{Asked, asks_giving}
 use Rattle.calls.specs.Questions.{start_questions, add_questions, mark_questions, return_questions}
 use Rattle.session.specs.declared.Mark.{Mark}
 use Rattle.session.specs.declared.Session.{Session}
@@ -65,22 +65,27 @@ unfoldable pub returned : Session → ℕ → Session
 returned s name = with_table s (under s name).table
 
 -- ---- the steps
--- a step whose first no has this number, 0 for none: done with the session `after` it, or refused with the one `before` it
-unfoldable pub stepped : ℕ → Session → Session → Step
-stepped zero after before = record { session = after; outcome = Done }
-stepped (suc number) after before = record { session = before; outcome = Refused (suc number) }
+-- what a step answers that puts these questions: done, or the first that is answered no
+unfoldable pub outcome_of : List Asked → Result Unit Question
+outcome_of [] = Ok tt
+outcome_of (asks_giving question answer given ∷ rest) = cond answer (outcome_of rest) (Err question)
+
+-- the step with this outcome: done with the session `after` it, or refused with the one `before` it
+unfoldable pub stepped : Result Unit Question → Session → Session → Step
+stepped (Ok done) after before = record { session = after; outcome = Ok done }
+stepped (Err question) after before = record { session = before; outcome = Err question }
 
 -- 'a refused start hands back the new session of U = 0 and G = 0'
 abbrev pub start_step : ℕ → ℕ → Step
-start_step U G = stepped (first_no (start_questions U G)) (new_session U G) (new_session 0 0)
+start_step U G = stepped (outcome_of (start_questions U G)) (new_session U G) (new_session 0 0)
 
 -- 'a refused step changes nothing'
 abbrev pub add_step : Session → List ℕ → Step
-add_step s h = stepped (first_no (add_questions s.unknowns s.givens (asked_tables s) h)) (added s h) s
+add_step s h = stepped (outcome_of (add_questions s.unknowns s.givens (asked_tables s) h)) (added s h) s
 
 abbrev pub mark_step : Session → ℕ → Step
-mark_step s name = stepped (first_no (mark_questions s.unknowns s.givens (asked_tables s) name)) (marked s name) s
+mark_step s name = stepped (outcome_of (mark_questions s.unknowns s.givens (asked_tables s) name)) (marked s name) s
 
 abbrev pub return_step : Session → ℕ → Step
 return_step s name =
-    stepped (first_no (return_questions s.unknowns s.givens (asked_tables s) name (under s name).set)) (returned s name) s
+    stepped (outcome_of (return_questions s.unknowns s.givens (asked_tables s) name (under s name).set)) (returned s name) s

@@ -3,24 +3,23 @@
 
 #![tactic(auto)]
 
-ghost use Rattle.std.specs.Prelude.{◌≡◌, [], ◌∷◌, ◌++◌, ◌+◌, ◌^◌, ◌≤◌, length, drop, take};
+ghost use Rattle.std.specs.Prelude.{◌≡◌, [], ◌∷◌, ◌++◌, ◌≤◌, length, drop, take, MatchResult};
 ghost use Rattle.ring.specs.Join.{join};
 ghost use Rattle.ring.specs.Table.{AreBits, present, table};
-ghost use Rattle.tables.specs.Questions.{first_no};
-ghost use Rattle.tables.specs.Inner.Asking.{also};
-ghost use Rattle.calls.specs.declared.Outcome.TheVariants.{Done, Refused};
-ghost use Rattle.calls.specs.Questions.{session_questions, add_questions, is_name, mark_questions, return_questions};
-ghost use Rattle.session.specs.Session.{new_session, under, asked_tables, start_step, add_step, mark_step, return_step};
+ghost use Rattle.tables.specs.Inner.Passed.{NoneNo, IsFirstNo};
+ghost use Rattle.calls.specs.Questions.{start_questions, add_questions, is_name, mark_questions, return_questions};
+ghost use Rattle.session.specs.Session.{new_session, under, asked_tables, added, marked, returned, start_step, add_step, mark_step, return_step};
 ghost use Rattle.session.specs.Inner.Asking.{marked_questions};
+ghost use Rattle.session.specs.Inner.Passed.{own_questions, PassedOwn, PassedName, IsStep, step_to};
 
-use calls::Outcome;
-use tables::Question;
+use tables::{Letters, Question};
 
 const FIRST_NAME: usize = 65; // `A`
 
 const LAST_NAME: usize = 68; // `D`
 
-// What stands under a name: whether it is marked, and the table that was present then.
+// What stands under a name: whether it is marked, and the table that was present then. No Option: a block that a C caller keeps has the
+// flag and the 1,024 bytes of every name, and those of a name that is not marked stay as they are.
 #[derive(Clone, Copy)]
 pub struct Mark {
     pub set: bool,
@@ -40,9 +39,10 @@ pub struct Session {
 #[derive(Clone, Copy)]
 pub struct Step {
     pub session: Session,
-    pub outcome: Outcome,
+    pub outcome: Result<(), Question>,
 }
 
+#[tactic(auto, unfolding(crate::specs::Session::new_session, crate::specs::Session::unmarked, crate::specs::Session::empty_table))]
 fn new_session(u: usize, g: usize) -> Session
     ensures { result ≡ new_session u g }
 {
@@ -59,164 +59,166 @@ fn new_session(u: usize, g: usize) -> Session
     }
 }
 
-fn done(session: Session) -> Step
-    ensures { result ≡ record { session = session; outcome = Done } }
+// Question 8 of a name, if it is marked.
+#[tactic(auto, unfolding(crate::specs::Inner::Asking::marked_questions, crate::specs::Session::marked_tables, tables::specs::Questions::bit_questions, tables::specs::Questions::first_no))]
+fn ask_mark(k: usize, mark: &Mark) -> Result<(), Question>
+    ensures { MatchResult result (λ _. NoneNo (marked_questions k (mark.now ∷ [])))
+        (IsFirstNo (marked_questions k (mark.now ∷ []))) }
 {
-    Step {
-        session: session,
-        outcome: Outcome::Done,
+    if mark.set {
+        tables::require(Question::Bits, tables::holds_bits(k, &mark.table))?;
     }
+    Ok(())
 }
 
-fn refused(session: Session, number: u8) -> Step
-    ensures { result ≡ record { session = session; outcome = Refused number } }
+// The same of each name.
+fn ask_marks(k: usize, marks: &[Mark]) -> Result<(), Question>
+    ensures { MatchResult result (λ _. NoneNo (marked_questions k marks.now)) (IsFirstNo (marked_questions k marks.now)) }
 {
-    Step {
-        session: session,
-        outcome: Outcome::Refused(number),
+    for mark in marks {
+        ask_mark(k, mark)?;
     }
-}
-
-// Question 8 of a name behind other questions, if it is marked.
-fn ask_mark(refusal: u8, k: usize, mark: Mark) -> u8
-    ensures { result ≡ also refusal (marked_questions k (mark ∷ [])) }
-{
-    if !mark.set {
-        return refusal;
-    }
-    let t = mark.table;
-    tables::ask(refusal, Question::Bits, tables::holds_bits(k, &t))
-}
-
-fn ask_marks(refusal: u8, k: usize, marks: [Mark; 4]) -> u8
-    ensures { result ≡ also refusal (marked_questions k marks) }
-{
-    let mut q = refusal;
-    for i in 0usize..4 {
-        q = ask_mark(q, k, marks[i]);
-    }
-    q
-}
-
-// The first no of what every step puts to the session handed in, or 0.
-fn session_refusal(s: Session) -> u8
-    ensures { result ≡ first_no (session_questions s.unknowns s.givens (asked_tables s)) }
-{
-    if !tables::letters_fit(s.unknowns, s.givens) {
-        return tables::number(Question::Letters);
-    }
-    let k = tables::pow2(s.unknowns + s.givens);
-    let t = s.table;
-    let q = tables::ask(0, Question::Bits, tables::holds_bits(k, &t));
-    let marks = s.marks;
-    ask_marks(q, k, marks)
-}
-
-fn add_refusal(s: Session, h: &[u8]) -> u8
-    ensures { result ≡ first_no (add_questions s.unknowns s.givens (asked_tables s) h.now) }
-{
-    let q = session_refusal(s);
-    if q != 0 {
-        return q;
-    }
-    let k = tables::pow2(s.unknowns + s.givens);
-    let q = tables::ask(0, Question::Room, tables::has_room(k, h.len()));
-    tables::ask(q, Question::Bits, tables::holds_bits(k, h))
+    Ok(())
 }
 
 // Question 18.
+#[tactic(auto, unfolding(calls::specs::Questions::is_name))]
 fn is_name(name: usize) -> bool
     ensures { result ≡ is_name name }
 {
-    FIRST_NAME <= name && name <= LAST_NAME
-}
-
-fn mark_refusal(s: Session, name: usize) -> u8
-    ensures { result ≡ first_no (mark_questions s.unknowns s.givens (asked_tables s) name) }
-{
-    tables::ask(session_refusal(s), Question::Name, is_name(name))
-}
-
-fn return_refusal(s: Session, name: usize) -> u8
-    ensures { result ≡ first_no (return_questions s.unknowns s.givens (asked_tables s) name (under s name).set) }
-{
-    let q = mark_refusal(s, name);
-    if q != 0 {
-        return q;
-    }
-    let i = name - FIRST_NAME;
-    let m = s.marks[i];
-    tables::ask(0, Question::Marked, m.set)
+    matches!(name, FIRST_NAME..=LAST_NAME)
 }
 
 // The table t with the table h joined to it.
-fn joined_table(n: usize, t: [u8; 1024], h: &[u8]) -> [u8; 1024]
-    requires { (n ≤ 10) × (2 ^ n ≤ length h.now) × AreBits (take (2 ^ n) t) × AreBits (take (2 ^ n) h.now) }
-    ensures { result ≡ table n (join n (present t) (present h.now)) ++ drop (2 ^ n) t }
+fn joined_table(letters: Letters, t: [u8; 1024], h: &[u8]) -> [u8; 1024]
+    requires { (letters.table_len ≤ length h.now) × AreBits (take letters.table_len t)
+        × AreBits (take letters.table_len h.now) }
+    ensures { result ≡ table letters.n (join letters.n (present t) (present h.now)) ++ drop letters.table_len t }
 {
-    let k = tables::pow2(n);
+    let k = letters.table_len;
     let mut out = t;
-    polynomials::join(n, &t[..k], &h[..k], &mut out[..k]);
+    polynomials::join(letters.n, &t[..k], &h[..k], &mut out[..k]);
     out
 }
 
+// The new session, once question 1 is answered yes.
+#[tactic(auto, unfolding(calls::specs::Questions::start_questions, tables::specs::Questions::first_no))]
+fn started(u: usize, g: usize) -> Result<Session, Question>
+    ensures { IsStep (start_questions u g) (new_session u g) result }
+{
+    Letters::new(u, g)?;
+    Ok(new_session(u, g))
+}
+
+impl Step {
+    // The session after the step, or the one before it if the step is refused.
+    fn new(before: Session, after: Result<Session, Question>) -> Self
+        ensures { result ≡ step_to before after }
+    {
+        match after {
+            Ok(session) => Step {
+                session,
+                outcome: Ok(()),
+            },
+            Err(question) => Step {
+                session: before,
+                outcome: Err(question),
+            },
+        }
+    }
+}
+
 impl Session {
+    // What every step first puts to the session handed in.
+    #[tactic(auto, unfolding(calls::specs::Questions::session_questions, crate::specs::Inner::Asking::marked_questions, tables::specs::Questions::bit_questions, tables::specs::Questions::first_no))]
+    fn ask(&self) -> Result<Letters, Question>
+        ensures { MatchResult result (PassedOwn self.now) (IsFirstNo (own_questions self.now)) }
+    {
+        let letters = Letters::new(self.unknowns, self.givens)?;
+        let k = letters.table_len;
+        tables::require(Question::Bits, tables::holds_bits(k, &self.table))?;
+        ask_marks(k, &self.marks)?;
+        Ok(letters)
+    }
+
+    // The same, and question 18: the place of the name.
+    fn ask_name(&self, name: usize) -> Result<usize, Question>
+        ensures { MatchResult result (PassedName self.now name)
+            (IsFirstNo (mark_questions self.now.unknowns self.now.givens (asked_tables self.now) name)) }
+    {
+        self.ask()?;
+        tables::require(Question::Name, is_name(name))?;
+        Ok(name - FIRST_NAME)
+    }
+
+    // The session with a condition added.
+    fn added(&self, h: &[u8]) -> Result<Session, Question>
+        ensures { IsStep (add_questions self.now.unknowns self.now.givens (asked_tables self.now) h.now)
+            (added self.now h.now) result }
+    {
+        let letters = self.ask()?;
+        let k = letters.table_len;
+        tables::require(Question::Room, tables::has_room(k, h.len()))?;
+        tables::require(Question::Bits, tables::holds_bits(k, h))?;
+        let table = joined_table(letters, self.table, h);
+        Ok(Session { table, ..*self })
+    }
+
+    // The session with its present state stored under a name.
+    fn marked(&self, name: usize) -> Result<Session, Question>
+        ensures { IsStep (mark_questions self.now.unknowns self.now.givens (asked_tables self.now) name)
+            (marked self.now name) result }
+    {
+        let i = self.ask_name(name)?;
+        let mut after = *self;
+        after.marks[i] = Mark {
+            set: true,
+            table: self.table,
+        };
+        Ok(after)
+    }
+
+    // The session whose present state is the one that is stored under a name.
+    fn returned(&self, name: usize) -> Result<Session, Question>
+        ensures { IsStep (return_questions self.now.unknowns self.now.givens (asked_tables self.now) name (under self.now name).set)
+            (returned self.now name) result }
+    {
+        let i = self.ask_name(name)?;
+        let mark = self.marks[i];
+        tables::require(Question::Marked, mark.set)?;
+        let table = mark.table;
+        Ok(Session { table, ..*self })
+    }
+
     // A new session.
+    #[tactic(auto, using(crate::proofs::Outcomes::step_asked))]
     pub fn start(u: usize, g: usize) -> Step
         ensures { result ≡ start_step u g }
     {
-        if !tables::letters_fit(u, g) {
-            return refused(new_session(0, 0), tables::number(Question::Letters));
-        }
-        done(new_session(u, g))
+        Step::new(new_session(0, 0), started(u, g))
     }
 
     // A condition is added to those that are present.
+    #[tactic(auto, using(crate::proofs::Outcomes::step_asked))]
     pub fn add(self, h: &[u8]) -> Step
         ensures { result ≡ add_step self h.now }
     {
-        let q = add_refusal(self, h);
-        if q != 0 {
-            return refused(self, q);
-        }
-        let t = self.table;
-        let joined = joined_table(self.unknowns + self.givens, t, h);
-        let mut after = self;
-        after.table = joined;
-        done(after)
+        Step::new(self, self.added(h))
     }
 
     // The present state is stored under a name.
+    #[tactic(auto, using(crate::proofs::Outcomes::step_asked))]
     pub fn mark(self, name: usize) -> Step
         ensures { result ≡ mark_step self name }
     {
-        let q = mark_refusal(self, name);
-        if q != 0 {
-            return refused(self, q);
-        }
-        let i = name - FIRST_NAME;
-        let t = self.table;
-        let mut after = self;
-        after.marks[i] = Mark {
-            set: true,
-            table: t,
-        };
-        done(after)
+        Step::new(self, self.marked(name))
     }
 
     // The state that is stored under a name becomes the present one.
+    #[tactic(auto, using(crate::proofs::Outcomes::step_asked))]
     pub fn return_to(self, name: usize) -> Step
         ensures { result ≡ return_step self name }
     {
-        let q = return_refusal(self, name);
-        if q != 0 {
-            return refused(self, q);
-        }
-        let i = name - FIRST_NAME;
-        let m = self.marks[i];
-        let t = m.table;
-        let mut after = self;
-        after.table = t;
-        done(after)
+        Step::new(self, self.returned(name))
     }
 }

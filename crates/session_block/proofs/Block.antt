@@ -6,20 +6,24 @@ use mathlib.Core.List.{List, [], ◌∷◌, ◌++◌, append_assoc, append-nil}
 use Prim.Native.Nat.{ℕ, ◌+◌, ◌-◌, ◌*◌, ◌≤◌, ◌<◌}
 use native.Mathlib.Numerals.{add-one}
 use native.Mathlib.Omega.{arith}
-use lib.ListN.{length, get_or, set, take, drop, length-append, length-set, length-drop}
-use lib.Seq.{length-take-le, take_at, drop_at, take-suc, take_all, take-take, drop-length}
+use lib.ListN.{length, get_or, set, take, drop, length-append, length-set}
+use lib.Seq.{take_at, drop_at, take-suc, take-take, drop-length}
 use borrow.Rule.Slice.PartMut.{put_mid, Post-is}
+use Rattle.std.specs.Int.{from_bool}
 use Rattle.ring.specs.Letters.{digit}
 use Rattle.ring.specs.Table.{present}
-use Rattle.tables.specs.Questions.{first_no, letters_fit}
+use Rattle.std.specs.Prelude.{Ok, Err}
+use Rattle.tables.specs.declared.Question.TheVariants.{Letters}
+use Rattle.tables.specs.Questions.{letters_fit}
 use Rattle.tables.proofs.Questions.{letters_small}
 use Rattle.calls.specs.Questions.{start_questions}
 use Rattle.session.specs.declared.Mark.{Mark}
 use Rattle.session.specs.declared.Session.{Session}
 use Rattle.session.specs.declared.Step.{Step}
-use Rattle.session.specs.Session.{new_session, stepped, start_step}
+use Rattle.session.specs.Session.{new_session, outcome_of, stepped, start_step}
 use Rattle.session.specs.History.{Action, step_from}
 use Rattle.session.proofs.History.{letters_stay}
+use Rattle.session_block.specs.Inner.Letters.{ByteLetters}
 use Rattle.session_block.specs.Block.{mark_in, session_in, mark_bytes, session_bytes}
 
 -- ---- taking out
@@ -50,10 +54,6 @@ put_part a e front before bytes part h l f =
   where
     rest : drop (e - a) (drop a bytes) ≡ drop e before
     rest = ap (λ (x : List ℕ). drop (e - a) (drop a x)) f ∙ ap (drop (e - a)) (drop_at front (drop a before) a l) ∙ Post-is a e before h
-
--- what stands behind a place
-pub behind_long : (a : ℕ) (t : List ℕ) → length (take (length t - a) (drop a t)) ≡ length t - a
-behind_long a t = length-take-le (length t - a) (drop a t) (omega (arith, length-drop a t))
 
 -- a part that is as long as it should be
 pub part_long : (a e : ℕ) (front part : List ℕ) → a ≤ e → length front ≡ a → length part ≡ e - a → length (front ++ part) ≡ e
@@ -99,38 +99,22 @@ names_put ms i d before bytes part h p e l =
 nothing_behind : (k : ℕ) (t : List ℕ) → length t ≡ k → drop k t ≡ []
 nothing_behind k t e = rw (← e) (drop-length t)
 
--- all of them
-pub names_all : (ms : List Mark) (i : ℕ) (before bytes : List ℕ) → length ms ≡ i → length before ≡ i * 1025 → NamesPut ms i before bytes
-    → bytes ≡ mark_bytes ms
-names_all ms i before bytes h l p =
-    p.bytes_are ∙ ap₂ (λ (x : List Mark) (y : List ℕ). mark_bytes x ++ y) (take_all i ms (omega (arith, h))) (nothing_behind (i * 1025) before l)
-    ∙ append-nil (mark_bytes ms)
-
 -- ---- a name: its byte, and its table behind it
+pub flag_digit : (set : Bool) → from_bool set ≡ digit set
+flag_digit true = refl
+flag_digit false = refl
+
 first_set : (b : ℕ) (before : List ℕ) → 1 ≤ length before → set before 0 b ≡ (b ∷ []) ++ drop 1 before
 first_set b [] h = absurd (omega (arith, h))
 first_set b (x ∷ before) h = refl
 
-module _ (b : ℕ) (before : List ℕ) (l : length before ≡ 1025) where
-  pub name_room : (table : List ℕ) → length table ≡ 1024 → length (take (length (set before 0 b) - 1) (drop 1 (set before 0 b))) ≡ length table
-  name_room table t =
-      behind_long 1 (set before 0 b) ∙ ap (λ (k : ℕ). k - 1) (length-set before 0 b ∙ l) ∙ sym t
-
-  put_behind : (part : List ℕ) → put_mid 1 (length (set before 0 b) - 1) (set before 0 b) part ≡ b ∷ part
-  put_behind part =
-      ap (λ (k : ℕ). put_mid 1 (k - 1) (set before 0 b) part) (length-set before 0 b ∙ l)
-      ∙ put_part 1 1025 (b ∷ []) before (set before 0 b) part (omega arith) refl (first_set b before (omega (arith, l)))
-      ∙ ap (λ (t : List ℕ). (b ∷ part) ++ t) (nothing_behind 1025 before l) ∙ append-nil (b ∷ part)
-
-  pub name_put : (part table : List ℕ) (marked : Bool) → b ≡ digit marked → part ≡ table
-      → put_mid 1 (length (set before 0 b) - 1) (set before 0 b) part ≡ digit marked ∷ table
-  name_put part table marked e f = put_behind part ∙ ap₂ (λ (x : ℕ) (t : List ℕ). x ∷ t) e f
-
-  pub name_long : (part table : List ℕ) → length table ≡ 1024 → part ≡ table
-      → length (put_mid 1 (length (set before 0 b) - 1) (set before 0 b) part) ≡ length before
-  name_long part table t f =
-      let k : length part ≡ 1024 = ap length f ∙ t in
-      ap length (put_behind part) ∙ omega (arith, k, l)
+pub name_put : (b : ℕ) (before part table : List ℕ) (marked : Bool) → length before ≡ 1025 → b ≡ digit marked → part ≡ table
+    → put_mid 1 (length (set before 0 b) - 1) (set before 0 b) part ≡ digit marked ∷ table
+name_put b before part table marked l e f =
+    ap (λ (k : ℕ). put_mid 1 (k - 1) (set before 0 b) part) (length-set before 0 b ∙ l)
+    ∙ put_part 1 1025 (b ∷ []) before (set before 0 b) part (omega arith) refl (first_set b before (omega (arith, l)))
+    ∙ ap (λ (t : List ℕ). (b ∷ part) ++ t) (nothing_behind 1025 before l) ∙ append-nil (b ∷ part)
+    ∙ ap₂ (λ (x : ℕ) (t : List ℕ). x ∷ t) e f
 
 -- ---- a session: its letters, its table, its names
 two_set : (u g : ℕ) (before : List ℕ) → 2 ≤ length before → set (set before 0 u) 1 g ≡ (u ∷ g ∷ []) ++ drop 2 before
@@ -138,69 +122,28 @@ two_set u g [] h = absurd (omega (arith, h))
 two_set u g (x ∷ []) h = absurd (omega (arith, h))
 two_set u g (x ∷ y ∷ before) h = refl
 
--- a block of which the letters u and g and the bytes `part` of a table have been put
-module _ (u g : ℕ) (before : List ℕ) (l : length before ≡ 5126) where
-  abbrev with_letters : List ℕ
-  with_letters = set (set before 0 u) 1 g
-
-  pub letters_long : length with_letters ≡ 5126
-  letters_long = length-set (set before 0 u) 1 g ∙ length-set before 0 u ∙ l
-
-  pub table_room : (table : List ℕ) → length table ≡ 1024 → length (take 1024 (drop 2 with_letters)) ≡ length table
-  table_room table t = length-take-le 1024 (drop 2 with_letters) (omega (arith, length-drop 2 with_letters, letters_long)) ∙ sym t
-
-pub record Begun (u g : ℕ) (before part table : List ℕ) : Type 0 where
-  pub long : length before ≡ 5126
-  pub room : length table ≡ 1024
-  pub copied : part ≡ table
-
-module _ {u g : ℕ} {before part table : List ℕ} (b : Begun u g before part table) where
-  abbrev with_table : List ℕ
-  with_table = put_mid 2 1024 (set (set before 0 u) 1 g) part
-
-  table_put : with_table ≡ (u ∷ g ∷ part) ++ drop 1026 before
-  table_put =
-      put_part 2 1026 (u ∷ g ∷ []) before (set (set before 0 u) 1 g) part (omega arith) refl (two_set u g before (omega (arith, b.long)))
-
-  part_size : length part ≡ 1024
-  part_size = ap length b.copied ∙ b.room
-
-  pub table_long : length with_table ≡ 5126
-  table_long =
-      let behind : length (drop 1026 before) ≡ 4100 = length-drop 1026 before ∙ ap (λ (k : ℕ). k - 1026) b.long in
-      ap length table_put ∙ length-append (u ∷ g ∷ part) (drop 1026 before) ∙ omega (arith, behind, part_size)
-
-  pub names_room : length (take (length with_table - 1026) (drop 1026 with_table)) ≡ 4100
-  names_room = behind_long 1026 with_table ∙ ap (λ (k : ℕ). k - 1026) table_long
-
-  names_behind : (names : List ℕ) → put_mid 1026 (length with_table - 1026) with_table names ≡ u ∷ g ∷ (part ++ names)
-  names_behind names =
-      ap (λ (k : ℕ). put_mid 1026 (k - 1026) with_table names) table_long
-      ∙ put_part 1026 5126 (u ∷ g ∷ part) before with_table names (omega arith) (omega (arith, part_size)) table_put
-      ∙ ap (λ (x : List ℕ). (u ∷ g ∷ (part ++ names)) ++ x) (nothing_behind 5126 before b.long) ∙ append-nil (u ∷ g ∷ (part ++ names))
-
-  pub session_long : (names : List ℕ) → length names ≡ 4100
-      → length (put_mid 1026 (length with_table - 1026) with_table names) ≡ length before
-  session_long names n = ap length (names_behind names) ∙ omega (arith, length-append part names, part_size, n, b.long)
-
-  pub session_put : (s : Session) (names : List ℕ) → u ≡ s.unknowns → g ≡ s.givens → table ≡ s.table → names ≡ mark_bytes s.marks
-      → put_mid 1026 (length with_table - 1026) with_table names ≡ session_bytes s
-  unfolding session_bytes
-  session_put s names eu eg et en = names_behind names ∙ rw (eu, eg, b.copied, et, en)
+pub session_put : (s : Session) (before part names : List ℕ) → length before ≡ 5126 → length s.table ≡ 1024 → part ≡ s.table
+    → names ≡ mark_bytes s.marks
+    → put_mid 1026 4100 (put_mid 2 1024 (set (set before 0 s.unknowns) 1 s.givens) part) names ≡ session_bytes s
+unfolding session_bytes
+session_put s before part names l t e en =
+    let u = s.unknowns in
+    let g = s.givens in
+    let size : length part ≡ 1024 = ap length e ∙ t in
+    put_part 1026 5126 (u ∷ g ∷ part) before _ names (omega arith) (omega (arith, size))
+    (put_part 2 1026 (u ∷ g ∷ []) before _ part (omega arith) refl (two_set u g before (omega (arith, l))))
+    ∙ ap (λ (x : List ℕ). (u ∷ g ∷ (part ++ names)) ++ x) (nothing_behind 5126 before l) ∙ append-nil (u ∷ g ∷ (part ++ names))
+    ∙ rw (e, en)
 
 -- ---- the letters of a session that comes out of a block are bytes, and stay so
-pub record Small (s : Session) : Type 0 where
-  pub unknowns : s.unknowns < 256
-  pub givens : s.givens < 256
+pub letters_after : {r : Step} (s : Session) (action : Action) → r ≡ step_from s action → ByteLetters s → ByteLetters r.session
+letters_after s action e letters =
+    record { unknowns = rw (e, (letters_stay s action).0) letters.unknowns; givens = rw (e, (letters_stay s action).1) letters.givens }
 
-pub small_after : {r : Step} (s : Session) (action : Action) → r ≡ step_from s action → s.unknowns < 256 → s.givens < 256 → Small r.session
-small_after s action e u g =
-    record { unknowns = rw (e, (letters_stay s action).0) u; givens = rw (e, (letters_stay s action).1) g }
-
-pub small_start : {r : Step} (u g : ℕ) → r ≡ start_step u g → Small r.session
-unfolding start_questions first_no stepped new_session
-small_start u g e = rw e (go (letters_fit u g) refl)
+pub letters_started : {r : Step} (u g : ℕ) → r ≡ start_step u g → ByteLetters r.session
+unfolding start_questions outcome_of stepped new_session
+letters_started u g e = rw e (go (letters_fit u g) refl)
   where
-    go : (b : Bool) → letters_fit u g ≡ b → Small (stepped (cond b 0 1) (new_session u g) (new_session 0 0)).session
+    go : (b : Bool) → letters_fit u g ≡ b → ByteLetters (stepped (cond b (Ok tt) (Err Letters)) (new_session u g) (new_session 0 0)).session
     go true f = record { unknowns = omega (arith, letters_small u g f); givens = omega (arith, letters_small u g f) }
     go false f = record { unknowns = omega arith; givens = omega arith }

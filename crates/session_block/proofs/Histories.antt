@@ -13,8 +13,8 @@ use Rattle.ring.proofs.Bool.{bit-digit, bool_cases}
 use Rattle.tables.specs.Questions.{letters_fit}
 use Rattle.tables.specs.Answered.{first_buffer}
 use Rattle.tables.proofs.Questions.{letters_small, pow_small}
-use Rattle.calls.specs.declared.Outcome.{Outcome}
-use Rattle.calls.specs.declared.Outcome.TheVariants.{Done, Refused}
+use Rattle.std.specs.Prelude.{Result, Ok, Err}
+use Rattle.tables.specs.declared.Question.{Question}
 use Rattle.session.specs.declared.Mark.{Mark}
 use Rattle.session.specs.declared.Session.{Session}
 use Rattle.session.specs.History.{Action, History, step_from, session_after, session_of}
@@ -77,10 +77,10 @@ step_kept : (s : Session) (action : Action) → session_in (session_bytes s) ≡
     → first_buffer (step_on (session_bytes s) (step_from (session_in (session_bytes s)) action)) ≡ session_bytes (step_from s action).session
 step_kept s action e = ap (λ (t : Session). first_buffer (step_on (session_bytes s) (step_from t action))) e ∙ go (step_from s action).outcome refl
   where
-    go : (o : Outcome) → (step_from s action).outcome ≡ o
+    go : (o : Result Unit Question) → (step_from s action).outcome ≡ o
         → block_after o (step_from s action).session (session_bytes s) ≡ session_bytes (step_from s action).session
-    go Done f = refl
-    go (Refused number) f = ap session_bytes (sym (refused_unchanged s action number f))
+    go (Ok done) f = refl
+    go (Err question) f = ap session_bytes (sym (refused_unchanged s action question f))
 
 -- from a start that hands back the new session of U and G
 from_start : (U G u g : ℕ) → letters_fit U G ≡ true → ((history : History) → session_after u g history ≡ session_of U G history)

@@ -3,12 +3,11 @@
 -- A block that holds a session gives it back (`session_back`), and the block after any list of steps holds the session after it
 -- (`block_exactly`, both in `proofs/Histories.antt`).
 -- Assumes nothing.
-use Rattle.std.specs.Prelude.{List, [], ◌∷◌, ◌++◌, ℕ, get_or, take, drop}
+use Rattle.std.specs.Prelude.{List, [], ◌∷◌, ◌++◌, ℕ, get_or, take, drop, Result, Ok, Err}
 use Rattle.ring.specs.Letters.{digit}
 use Rattle.ring.specs.Table.{present}
 use Rattle.tables.specs.Answered.{Reply, Answered, answered, first_buffer}
-use Rattle.calls.specs.declared.Outcome.{Outcome}
-use Rattle.calls.specs.declared.Outcome.TheVariants.{Done, Refused}
+use Rattle.tables.specs.declared.Question.{Question}
 use Rattle.calls.specs.Operations.{outcome}
 use Rattle.session.specs.declared.Mark.{Mark}
 use Rattle.session.specs.declared.Session.{Session}
@@ -40,9 +39,9 @@ unfoldable pub session_bytes : Session → List ℕ
 session_bytes s = s.unknowns ∷ s.givens ∷ (s.table ++ mark_bytes s.marks)
 
 -- a block after a step: the session after it, or every byte as it was
-abbrev pub block_after : Outcome → Session → List ℕ → List ℕ
-block_after Done after block = session_bytes after
-block_after (Refused number) after block = block
+abbrev pub block_after : Result Unit Question → Session → List ℕ → List ℕ
+block_after (Ok done) after block = session_bytes after
+block_after (Err question) after block = block
 
 -- a step on the session that a block holds
 abbrev pub step_on : List ℕ → Step → Answered Reply

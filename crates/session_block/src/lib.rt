@@ -4,33 +4,15 @@
 
 #![tactic(auto)]
 
-ghost use Rattle.std.specs.Prelude.{◌≡◌, [], ◌∷◌, ◌+◌, ◌<◌, length};
+ghost use Rattle.std.specs.Prelude.{◌≡◌, [], ◌∷◌, length};
 ghost use Rattle.ring.specs.Letters.{digit};
 ghost use Rattle.tables.specs.Answered.{answered};
 ghost use Rattle.calls.specs.Operations.{outcome};
 ghost use Rattle.session_block.specs.Block.{mark_in, session_in, mark_bytes, session_bytes, step_on, start_block, add_block, mark_block, return_block};
+ghost use Rattle.session_block.specs.Inner.Letters.{ByteLetters};
 
-use calls::Outcome;
 use session::{Mark, Session, Step};
-
-fn wide(byte: u8) -> usize
-    ensures { (result ≡ byte) × (result < 256) }
-{
-    byte as usize
-}
-
-fn narrow(v: usize) -> u8
-    requires { v < 256 }
-    ensures { result ≡ v }
-{
-    v as u8
-}
-
-fn flag(set: bool) -> u8
-    ensures { result ≡ digit set }
-{
-    if set { 1 } else { 0 }
-}
+use tables::Question;
 
 // The table whose bytes these are.
 fn table_in(bytes: &[u8]) -> [u8; 1024]
@@ -38,7 +20,7 @@ fn table_in(bytes: &[u8]) -> [u8; 1024]
     ensures { result ≡ bytes.now }
 {
     let mut table = [0u8; 1024];
-    tables::copy(&mut table, bytes);
+    table.copy_from_slice(bytes);
     table
 }
 
@@ -54,8 +36,8 @@ fn mark_in(bytes: &[u8]) -> Mark
 }
 
 // The session that a block holds.
-fn session_in(block: [u8; 5126]) -> Session
-    ensures { (result ≡ session_in block) × (result.unknowns < 256) × (result.givens < 256) }
+fn session_in(block: &[u8; 5126]) -> Session
+    ensures { (result ≡ session_in block.now) × ByteLetters result }
 {
     let table = table_in(&block[2..1026]);
     let a = mark_in(&block[1026..2051]);
@@ -63,92 +45,84 @@ fn session_in(block: [u8; 5126]) -> Session
     let c = mark_in(&block[3076..4101]);
     let d = mark_in(&block[4101..5126]);
     Session {
-        unknowns: wide(block[0]),
-        givens: wide(block[1]),
-        table: table,
+        unknowns: usize::from(block[0]),
+        givens: usize::from(block[1]),
+        table,
         marks: [a, b, c, d],
     }
 }
 
 // The bytes of a name.
-fn put_mark(mark: Mark, bytes: &mut [u8])
+fn put_mark(mark: &Mark, bytes: &mut [u8])
     requires { length bytes.old ≡ 1025 }
-    ensures { bytes.new ≡ digit mark.set ∷ mark.table }
+    ensures { bytes.new ≡ digit mark.now.set ∷ mark.now.table }
 {
-    bytes[0] = flag(mark.set);
-    let table = mark.table;
-    tables::copy(&mut bytes[1..], &table);
+    bytes[0] = u8::from(mark.set);
+    bytes[1..].copy_from_slice(&mark.table);
 }
 
 // The bytes of the names, one behind another.
-fn put_marks(marks: [Mark; 4], bytes: &mut [u8])
+fn put_marks(marks: &[Mark; 4], bytes: &mut [u8])
     requires { length bytes.old ≡ 4100 }
-    ensures { bytes.new ≡ mark_bytes marks }
+    ensures { bytes.new ≡ mark_bytes marks.now }
 {
-    for i in 0usize..4 {
+    // By places: what a part holds that chunks_exact_mut has lent is not known to a proof afterwards.
+    for (i, mark) in marks.iter().enumerate() {
         let start = i * 1025;
-        let end = start + 1025;
-        put_mark(marks[i], &mut bytes[start..end]);
+        put_mark(mark, &mut bytes[start..start + 1025]);
     }
 }
 
 // The bytes of a session.
-fn put_session(s: Session, block: &mut [u8])
-    requires { (s.unknowns < 256) × (s.givens < 256) × (length block.old ≡ 5126) }
-    ensures { block.new ≡ session_bytes s }
+fn put_session(s: &Session, block: &mut [u8; 5126])
+    requires { ByteLetters s.now }
+    ensures { block.new ≡ session_bytes s.now }
 {
-    block[0] = narrow(s.unknowns);
-    block[1] = narrow(s.givens);
-    let table = s.table;
-    tables::copy(&mut block[2..1026], &table);
-    let marks = s.marks;
-    put_marks(marks, &mut block[1026..]);
+    block[0] = s.unknowns as u8;
+    block[1] = s.givens as u8;
+    block[2..1026].copy_from_slice(&s.table);
+    put_marks(&s.marks, &mut block[1026..]);
 }
 
 // What a step answers; if it is done, the session after it goes into the block.
-fn keep(step: Step, block: &mut [u8; 5126]) -> Outcome
-    requires { (step.session.unknowns < 256) × (step.session.givens < 256) }
+fn keep(step: Step, block: &mut [u8; 5126]) -> Result<(), Question>
+    requires { ByteLetters step.session }
     ensures { answered (outcome result) (block.new ∷ []) ≡ step_on block.old step }
 {
-    let outcome = step.outcome;
-    match outcome {
-        Outcome::Done => {
-            put_session(step.session, block);
-            Outcome::Done
-        }
-        Outcome::Refused(number) => Outcome::Refused(number),
-    }
+    step.outcome?;
+    put_session(&step.session, block);
+    Ok(())
 }
 
 // A new session.
-pub fn start(u: usize, g: usize, block: &mut [u8; 5126]) -> Outcome
+pub fn start(u: usize, g: usize, block: &mut [u8; 5126]) -> Result<(), Question>
     ensures { answered (outcome result) (block.new ∷ []) ≡ start_block u g }
 {
     let step = Session::start(u, g);
-    put_session(step.session, block);
+    put_session(&step.session, block);
     step.outcome
 }
 
 // A condition is added.
-pub fn add(block: &mut [u8; 5126], h: &[u8]) -> Outcome
+pub fn add(block: &mut [u8; 5126], h: &[u8]) -> Result<(), Question>
     ensures { answered (outcome result) (block.new ∷ []) ≡ add_block block.old h.now }
 {
-    let s = session_in(*block);
+    let s = session_in(block);
     keep(s.add(h), block)
 }
 
 // The present state is stored under a name.
-pub fn mark(block: &mut [u8; 5126], name: usize) -> Outcome
+pub fn mark(block: &mut [u8; 5126], name: usize) -> Result<(), Question>
     ensures { answered (outcome result) (block.new ∷ []) ≡ mark_block block.old name }
 {
-    let s = session_in(*block);
+    let s = session_in(block);
     keep(s.mark(name), block)
 }
 
 // The state that is stored under a name becomes the present one.
-pub fn return_to(block: &mut [u8; 5126], name: usize) -> Outcome
+pub fn return_to(block: &mut [u8; 5126], name: usize) -> Result<(), Question>
     ensures { answered (outcome result) (block.new ∷ []) ≡ return_block block.old name }
 {
-    let s = session_in(*block);
+    let s = session_in(block);
     keep(s.return_to(name), block)
 }

@@ -1,16 +1,16 @@
 -- The bytes that are 1 by the loops over them: one byte more, and one block more.
 -- Assumes nothing.
-use mathlib.Core.Path.{◌≡◌, sym, ap, ap₂, ◌∙◌}
-use mathlib.Core.List.{List}
-use Prim.Native.Nat.{ℕ, ◌+◌, ◌-◌, ◌*◌, ◌^◌, ◌≤◌}
+use mathlib.Core.Path.{◌≡◌, sym, ap, ap₂, subst, ◌∙◌}
+use mathlib.Core.List.{List, ◌++◌}
+use Prim.Native.Nat.{ℕ, ◌+◌, ◌*◌, ◌^◌, ◌≤◌, ◌<◌}
 use native.Mathlib.Omega.{arith}
-use lib.ListN.{length, get_or, take, drop, length-drop}
-use lib.Seq.{length-take-le}
+use lib.Dec.{eqb}
+use lib.ListN.{length, get_or, take, length-append, get_or-append}
+use lib.Seq.{length-take-le, get_or-append-add}
 use Rattle.ring.specs.Polynomial.{count}
 use Rattle.ring.specs.Length.{total_count}
 use Rattle.ring.specs.Table.{AreBits, held, present}
 use Rattle.ring.proofs.Length.{total_bytes, total_take}
-use Rattle.ring.proofs.Table.{present_part}
 use Rattle.ring.proofs.Parity.{count_next, count_add, count_cong}
 use Rattle.tables.proofs.Bits.{byte_digit}
 
@@ -19,24 +19,28 @@ pub byte_more : (t : List ℕ) (i found : ℕ) → AreBits t → found ≡ count
 unfolding present
 byte_more t i found bits e = count_next (present t) i found (get_or t i 0) e (byte_digit (get_or t i 0) (bits i))
 
--- a block adds the count of its bytes
-pub block_more : (t : List ℕ) (start end found few : ℕ) → start ≤ end → end ≤ length t → found ≡ count start (present t)
-    → few ≡ count (length (take (end - start) (drop start t))) (present (take (end - start) (drop start t)))
-    → found + few ≡ count end (present t)
-block_more t start end found few l h e ef =
-    let size : ℕ = end - start in
-    let block : List ℕ = take size (drop start t) in
-    let whole : length block ≡ size = length-take-le size (drop start t) (omega (arith, length-drop start t)) in
-    let last : start + size ≡ end = omega arith in
-    ap₂ ◌+◌ e
-    (ef ∙ ap (λ (k : ℕ). count k (present block)) whole
-    ∙ count_cong size _ _ (present_part size start t))
-    ∙ sym (count_add start size (present t)) ∙ ap (λ (k : ℕ). count k (present t)) last
+-- the bytes that are 1 in two parts
+count_apart : (b r : List ℕ) → count (length (b ++ r)) (present (b ++ r)) ≡ count (length b) (present b) + count (length r) (present r)
+unfolding present
+count_apart b r =
+    ap (λ (k : ℕ). count k (present (b ++ r))) (length-append b r)
+    ∙ count_add (length b) (length r) (present (b ++ r))
+    ∙ ap₂ ◌+◌ (count_cong (length b) _ _ (λ i l. ap (λ (x : ℕ). eqb x 1) (get_or-append b r 0 i l)))
+    (count_cong (length r) _ _ (λ i l. ap (λ (x : ℕ). eqb x 1) (get_or-append-add b r i 0)))
 
--- the loop has passed all bytes
-pub all_counted : (t : List ℕ) (i found : ℕ) → i ≤ length t → length t ≤ i → found ≡ count i (present t)
-    → found ≡ count (length t) (present t)
-all_counted t i found h l e = let n : i ≡ length t = omega arith in e ∙ ap (λ (k : ℕ). count k (present t)) n
+-- a block adds the count of its bytes
+module _ (t block rest : List ℕ) (total found few : ℕ) (parts : t ≡ block ++ rest) (left : found + count (length t) (present t) ≡ total)
+    (counted : few ≡ count (length block) (present block)) where
+  pub block_more : found + few + count (length rest) (present rest) ≡ total
+  block_more = omega (arith, ap (λ (l : List ℕ). count (length l) (present l)) parts, count_apart block rest)
+
+  pub bits_left : AreBits t → AreBits rest
+  bits_left bits m = subst (λ (x : ℕ). x < 2) (ap (λ (l : List ℕ). get_or l (length block + m) 0) parts ∙ get_or-append-add block rest m 0) (bits (length block + m))
+
+-- nothing is left
+pub none_left : (t : List ℕ) → length t ≡ 0 → count (length t) (present t) ≡ 0
+unfolding count
+none_left t e = rw e
 
 -- the bytes of U tables are the total over the unknowns
 pub part_total : (u n : ℕ) (t part : List ℕ) {found : ℕ} → u * 2 ^ n ≤ length t → part ≡ take (u * 2 ^ n) t

@@ -4,15 +4,17 @@
 
 #![tactic(auto)]
 
-ghost use Rattle.std.specs.Prelude.{◌≡◌, cond, [], ◌+◌, ◌*◌, ◌^◌, ◌≤◌, ◌<◌, length, take};
-ghost use Rattle.ring.specs.Length.{total_count};
+ghost use Rattle.std.specs.Prelude.{◌≡◌, cond, [], ◌≤◌, length, MatchResult};
 ghost use Rattle.ring.specs.Polynomial.{count};
-ghost use Rattle.ring.specs.Table.{AreBits, held, present};
+ghost use Rattle.ring.specs.Table.{AreBits, present};
 ghost use Rattle.tables.specs.Answered.{answered};
+ghost use Rattle.tables.specs.Inner.Passed.{IsFirstNo};
+ghost use Rattle.calls.specs.Questions.{shorter_questions};
 ghost use Rattle.calls.specs.Shorter.{shorter_refusal, takes_lowenheim, shorter_part, shorter_said, which_shorter_call};
+ghost use Rattle.shorter.specs.Inner.Passed.{PassedShorter, IsShorter};
 
-use calls::Shorter;
-use tables::Question;
+use calls::Formula;
+use tables::{Letters, Question};
 
 // How many bytes are 1, of so few that the counter is a byte too: then the loop is one of whole vectors.
 fn count_few(t: &[u8]) -> usize
@@ -20,21 +22,10 @@ fn count_few(t: &[u8]) -> usize
     ensures { result ≡ count (length t.now) (present t.now) }
 {
     let mut few = 0u8;
-    for i in 0..t.len() {
-        few += t[i];
+    for &byte in t {
+        few += byte;
     }
-    few as usize
-}
-
-// Where the block of 128 bytes ends that starts here; the last block may be shorter.
-fn block_end(start: usize, size: usize) -> usize
-    requires { start < size }
-    ensures { (start < result) × (result ≤ start + 128) × (result ≤ size) }
-{
-    if size - start < 128 {
-        return size;
-    }
-    start + 128
+    usize::from(few)
 }
 
 // How many bytes are 1.
@@ -43,61 +34,75 @@ fn count_present(t: &[u8]) -> usize
     ensures { result ≡ count (length t.now) (present t.now) }
 {
     let mut found = 0;
-    let mut start = 0;
-    while start < t.len() {
-        let end = block_end(start, t.len());
-        found += count_few(&t[start..end]);
-        start = end;
+    for block in t.chunks(128) {
+        found += count_few(block);
     }
     found
 }
 
-// The part of a lent answer table that counts: a table in n letters for each unknown.
-fn cut_answers<'a>(u: usize, g: usize, t: &'a [u8]) -> &'a [u8]
-    requires { (u + g ≤ 10) × (u * 2 ^ (u + g) ≤ length t.now) }
-    ensures contents { result.now ≡ take (u * 2 ^ (u + g)) t.now }
-    ensures place { result.ref_ptr ≡ t.entry.ref_ptr }
-{
-    let n = u + g;
-    let all = u * tables::pow2(n);
-    &t[..all]
+// The parts that count of two lent answer tables that have passed the questions: a table in n letters for each unknown.
+#[derive(Clone, Copy)]
+struct Parts<'a> {
+    boole: &'a [u8],
+    lowenheim: &'a [u8],
+    ghost boole_bits: { AreBits boole.now },
+    ghost lowenheim_bits: { AreBits lowenheim.now },
 }
 
-// The number of monomials over all unknowns.
-fn count_total(u: usize, g: usize, t: &[u8]) -> usize
-    requires { (u + g ≤ 10) × (u * 2 ^ (u + g) ≤ length t.now) × AreBits (take (u * 2 ^ (u + g)) t.now) }
-    ensures { result ≡ total_count u (u + g) (held (u + g) t.now) }
-{
-    let counted = cut_answers(u, g, t);
-    count_present(counted)
+impl<'a> Parts<'a> {
+    // The questions of the two tables, and what counts of them.
+    #[tactic(auto, unfolding(calls::specs::Questions::shorter_questions, tables::specs::Questions::buffer_questions, tables::specs::Questions::room_questions, tables::specs::Questions::bit_questions, tables::specs::Questions::first_no, tables::specs::Questions::has_room))]
+    fn new(u: usize, g: usize, boole: &'a [u8], lowenheim: &'a [u8]) -> Result<Self, Question>
+        ensures { MatchResult result
+            (λ p. PassedShorter u g boole.now lowenheim.now p.boole.now p.lowenheim.now
+            × (p.boole.ref_ptr ≡ boole.entry.ref_ptr) × (p.lowenheim.ref_ptr ≡ lowenheim.entry.ref_ptr))
+            (IsFirstNo (shorter_questions u g boole.now lowenheim.now)) }
+    {
+        let letters = Letters::new(u, g)?;
+        let all = letters.unknowns * letters.table_len;
+        tables::require(Question::Room, tables::has_room(all, boole.len()))?;
+        tables::require(Question::Room, tables::has_room(all, lowenheim.len()))?;
+        tables::require(Question::Bits, tables::holds_bits(all, boole))?;
+        tables::require(Question::Bits, tables::holds_bits(all, lowenheim))?;
+        Ok(Parts {
+            boole: &boole[..all],
+            lowenheim: &lowenheim[..all],
+        })
+    }
+
+    // Which is the shorter, Boole's if the totals tie.
+    fn shorter(self) -> Formula
+        ensures { IsShorter self.entry.boole.now self.entry.lowenheim.now result }
+    {
+        if count_present(self.lowenheim) < count_present(self.boole) {
+            Formula::Lowenheim
+        } else {
+            Formula::Boole
+        }
+    }
 }
 
-// The first no, or 0.
+// The first no, or 0: a number, since callers outside the language ask for it as one (`layodegi_shorter_refusal`).
 pub fn shorter_refusal(u: usize, g: usize, boole: &[u8], lowenheim: &[u8]) -> u8
     ensures { result ≡ shorter_refusal u g boole.now lowenheim.now }
 {
-    if !tables::letters_fit(u, g) {
-        return tables::number(Question::Letters);
+    match Parts::new(u, g, boole, lowenheim) {
+        Ok(_) => 0,
+        Err(question) => tables::number(question),
     }
-    let all = u * tables::pow2(u + g);
-    let q = tables::ask(0, Question::Room, tables::has_room(all, boole.len()));
-    let q = tables::ask(q, Question::Room, tables::has_room(all, lowenheim.len()));
-    let q = tables::ask(q, Question::Bits, tables::holds_bits(all, boole));
-    tables::ask(q, Question::Bits, tables::holds_bits(all, lowenheim))
 }
 
 // Which of the two is the shorter, Boole's if the totals tie.
-pub fn which_shorter(u: usize, g: usize, boole: &[u8], lowenheim: &[u8]) -> Shorter
+pub fn which_shorter(
+    u: usize,
+    g: usize,
+    boole: &[u8],
+    lowenheim: &[u8],
+) -> Result<Formula, Question>
     ensures { answered (shorter_said result) [] ≡ which_shorter_call u g boole.now lowenheim.now }
 {
-    let q = shorter_refusal(u, g, boole, lowenheim);
-    if q != 0 {
-        return Shorter::Refused(q);
-    }
-    if count_total(u, g, lowenheim) < count_total(u, g, boole) {
-        return Shorter::Lowenheim;
-    }
-    Shorter::Boole
+    let parts = Parts::new(u, g, boole, lowenheim)?;
+    Ok(parts.shorter())
 }
 
 // The shorter of the two, a part of the lent table itself; no bytes where a question is answered no.
@@ -106,10 +111,11 @@ pub fn shorter<'a>(u: usize, g: usize, boole: &'a [u8], lowenheim: &'a [u8]) -> 
     ensures place { result.ref_ptr
         ≡ cond (takes_lowenheim u g boole.now lowenheim.now) lowenheim.entry.ref_ptr boole.entry.ref_ptr }
 {
-    let which = which_shorter(u, g, boole, lowenheim);
-    match which {
-        Shorter::Boole => cut_answers(u, g, boole),
-        Shorter::Lowenheim => cut_answers(u, g, lowenheim),
-        Shorter::Refused(_) => &boole[..0],
+    let Ok(parts) = Parts::new(u, g, boole, lowenheim) else {
+        return &boole[..0];
+    };
+    match parts.shorter() {
+        Formula::Boole => parts.boole,
+        Formula::Lowenheim => parts.lowenheim,
     }
 }

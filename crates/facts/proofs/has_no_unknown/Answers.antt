@@ -4,7 +4,6 @@
 use mathlib.Core.Path.{◌≡◌, refl, ap, ◌∙◌}
 use Prim.Native.Nat.{ℕ, ◌^◌}
 use native.Mathlib.Omega.{arith}
-use borrow.Author.Rules.{rules}
 use lib.Pow.{pow_pos}
 use Rattle.ring.specs.Polynomial.{every_below}
 use Rattle.ring.specs.Table.{present}
@@ -21,24 +20,22 @@ overflow_sub-unknowns c = rw c.pow2-unknowns.ensures (pow_pos c.args.u)
 
 pub loop-m-init : goal.loop-m-init
 unfolding every_below
-loop-m-init c = (search rules, refl)
+loop-m-init c = refl
 
 pub loop-m-preserved : goal.loop-m-preserved
 loop-m-preserved c =
     let fact = c.args.fact.now in
-    let u = c.args.u in (
-      search rules,
-      elim c.if-m-unknowns-ne0.branch [
-        | then-m-unknowns-ne0 w ↦
-            rw w.union-is (union_more fact (monomial_fits u (present fact)) c.loop-m.union _ c.loop-m.invariant.1 c.requires.1
-            (with_unknown u _ _ c.pow2-unknowns.ensures (present fact) w.if-m-unknowns-ne0.true))
-        | else-m-unknowns-ne0 w ↦
-            rw w.union-is (union_skip fact (monomial_fits u (present fact)) c.loop-m.union _ c.loop-m.invariant.1
-            (without_unknown u _ _ c.pow2-unknowns.ensures (present fact) w.if-m-unknowns-ne0.false))
-      ],
-    )
+    let u = c.args.u in
+    elim c.if-m-unknowns-ne0.branch [
+      | then-m-unknowns-ne0 w ↦
+          rw w.union-is (union_more fact (monomial_fits u (present fact)) c.loop-m.union _ c.loop-m.invariant c.requires.1
+          (with_unknown u _ _ c.pow2-unknowns.ensures (present fact) w.if-m-unknowns-ne0.true))
+      | else-m-unknowns-ne0 w ↦
+          rw w.union-is (union_skip fact (monomial_fits u (present fact)) c.loop-m.union _ c.loop-m.invariant
+          (without_unknown u _ _ c.pow2-unknowns.ensures (present fact) w.if-m-unknowns-ne0.false))
+    ]
 
 pub returns : goal.returns
 unfolding has_no_unknown
-returns c n size = let whole : c.loop-m.m ≡ 2 ^ n = omega (arith, c.loop-m.invariant.0, c.loop-m-test.false) in
-    c.loop-m.invariant.1 ∙ ap (λ (k : ℕ). every_below k (monomial_fits c.args.u (present c.args.fact.now))) whole
+returns c n size = let whole : c.loop-m.m ≡ 2 ^ n = omega arith in
+    c.loop-m.invariant ∙ ap (λ (k : ℕ). every_below k (monomial_fits c.args.u (present c.args.fact.now))) whole

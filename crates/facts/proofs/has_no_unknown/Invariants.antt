@@ -2,16 +2,11 @@
 -- is present.
 -- Assumes nothing.
 use mathlib.Core.Path.{◌≡◌}
-use Prim.Native.Nat.{◌≤◌, ◌-◌}
 use lib.Dec.{eqb}
-use lib.ListN.{length}
 use Rattle.ring.specs.Polynomial.{every_below}
 use Rattle.ring.specs.Table.{present}
 use Rattle.facts.proofs.Unions.{monomial_fits}
 use Rattle.facts.proofs.has_no_unknown.Given as goal
 
 abbrev pub invariant-loop-m : goal.invariant-loop-m
-invariant-loop-m l = (l.m ≤ length l.fact) × (eqb l.union 0 ≡ every_below l.m (monomial_fits l.u (present l.fact)))
-
-abbrev pub decreases-loop-m : goal.decreases-loop-m
-decreases-loop-m l = length l.fact - l.m
+invariant-loop-m l = eqb l.union 0 ≡ every_below l.m (monomial_fits l.u (present l.fact))

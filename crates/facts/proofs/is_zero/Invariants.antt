@@ -2,15 +2,10 @@
 -- Assumes nothing.
 use mathlib.Core.Path.{◌≡◌}
 use mathlib.Core.Bool.{not}
-use Prim.Native.Nat.{◌≤◌, ◌-◌}
 use lib.Dec.{eqb}
-use lib.ListN.{length}
 use Rattle.ring.specs.Polynomial.{every_below}
 use Rattle.ring.specs.Table.{present}
 use Rattle.facts.proofs.is_zero.Given as goal
 
-abbrev pub invariant-loop-m : goal.invariant-loop-m
-invariant-loop-m l = (l.m ≤ length l.fact) × (eqb l.union 0 ≡ every_below l.m (λ i. not (present l.fact i)))
-
-abbrev pub decreases-loop-m : goal.decreases-loop-m
-decreases-loop-m l = length l.fact - l.m
+abbrev pub invariant-loop-byte : goal.invariant-loop-byte
+invariant-loop-byte l = eqb l.union 0 ≡ every_below l.byte-index (λ i. not (present l.fact i))

@@ -1,19 +1,19 @@
 -- `notation::text_values` meets its contract: question 3, then those of the symbols.
 -- Assumes nothing.
-use native.Mathlib.Omega.{arith}
-use Rattle.tables.proofs.Questions.{failed, passed}
-use Rattle.tables.proofs.Answered.{after_refused}
-use Rattle.notation.proofs.Refusal.{ready, values_length, values-symbols}
-use mathlib.Core.Path.{ap}
-use mathlib.Core.Bool.{not}
+use mathlib.Core.Path.{sym, ◌∙◌}
+use Rattle.std.proofs.lemmas.Result.{err_from_is_err_and}
+use Rattle.notation.proofs.Refusal.{text_short, values_length, values-symbols}
 use Rattle.notation.proofs.text_values.Goals as goal
 
-pub returns-then-not-has_text_length : goal.returns-then-not-has_text_length
-returns-then-not-has_text_length c = record { value = values_length _ _ _ _ c.number.ensures (failed c.has_text_length.ensures (ap not c.if-not-has_text_length.true)); words_after = after_refused _ _ _ (λ z. omega (arith, c.number.ensures)) }
+pub returns-in_err-require-clause-value : goal.returns-in_err-require-clause-value
+returns-in_err-require-clause-value c =
+    let no = err_from_is_err_and c.from_residual.result c.from_residual.ensures.1 in
+    rw (no.1, no.2, c.in_err-require.ensures.0) (values_length _ _ _ (sym c.has_text_length.ensures ∙ c.in_err-require.ensures.1))
 
 pub symbol_values-requires : goal.symbol_values-requires
-symbol_values-requires c = let pre = c.requires in
-    ready _ _ _ _ pre.0 (passed c.has_text_length.ensures (ap not c.if-not-has_text_length.false)) pre.1
+symbol_values-requires c = (text_short _ (sym c.has_text_length.ensures ∙ c.in_ok-require.ensures), c.requires)
 
-pub returns : goal.returns
-returns c = let bytes = passed c.has_text_length.ensures (ap not c.if-not-has_text_length.false) in record { value = values-symbols _ _ _ _ c.symbol_values.ensures.value bytes; words_after = c.symbol_values.ensures.words_after }
+pub returns-clause-value : goal.returns-clause-value
+returns-clause-value c =
+    rw (values-symbols c.args.letters.unknowns c.args.letters.givens _ (sym c.has_text_length.ensures ∙ c.in_ok-require.ensures))
+    c.symbol_values.ensures.value

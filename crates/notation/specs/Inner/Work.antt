@@ -1,6 +1,6 @@
--- Which questions are asked first and which of a text's symbols, what the work on it is handed, and what its words are.
+-- Which questions are asked first and which of a text's symbols, and what its words are.
 -- Assumes nothing.
-use Rattle.std.specs.Prelude.{◌≡◌, List, [], ◌∷◌, ℕ, ◌+◌, ◌-◌, ◌^◌, ◌≤◌, length}
+use Rattle.std.specs.Prelude.{List, [], ◌∷◌, ℕ, ◌+◌, ◌-◌, ◌^◌}
 use Rattle.ring.specs.Polynomial.{value}
 use Rattle.ring.specs.Table.{present}
 use Rattle.tables.specs.declared.Question.TheVariants.{Letters, TextLength, Signs, Declared, Grammar}
@@ -27,10 +27,3 @@ values_refusal U G text = first_no (asks TextLength (has_text_length text) ∷ s
 -- the values of the table that a text is read into, at every point, 64 points to a word
 unfoldable pub text_words : ℕ → ℕ → List ℕ → List ℕ
 text_words U G text = words_of (2 ^ (U + G - 6)) (value (U + G) (present (text_table U G text)))
-
--- what the work on a text is handed: U unknowns, G givens, and words for the values at all points
-pub record Ready (U G : ℕ) (text words : List ℕ) : Type 0 where
-  pub unknowns : U ≤ 6
-  pub small : U + G ≤ 10
-  pub short : length text ≤ 200
-  pub size : length words ≡ 2 ^ (U + G - 6)

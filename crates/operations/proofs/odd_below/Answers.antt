@@ -4,7 +4,6 @@ use mathlib.Core.Path.{◌≡◌, sym, ap, ◌∙◌}
 use mathlib.Core.Bool.{◌&&◌}
 use Prim.Native.Nat.{ℕ}
 use native.Mathlib.Omega.{arith}
-use borrow.Author.Rules.{rules}
 use lib.ListN.{length}
 use Rattle.ring.specs.Polynomial.{odd as parity, within}
 use Rattle.ring.specs.Table.{present}
@@ -13,13 +12,13 @@ use Rattle.operations.proofs.Work.{parity_more}
 use Rattle.operations.proofs.odd_below.Goals as goal
 
 pub loop-m-init : goal.loop-m-init
-loop-m-init c = (search rules, sym (odd_zero _))
+loop-m-init c = sym (odd_zero _)
 
 pub loop-m-preserved : goal.loop-m-preserved
 unfolding present
-loop-m-preserved c = (search rules, parity_more _ _ _ _ c.loop-m.invariant.1 c.counts-odd.ensures)
+loop-m-preserved c = parity_more _ _ _ _ c.loop-m.invariant c.counts-odd.ensures
 
 pub returns : goal.returns
 returns c = let e : c.loop-m.m ≡ length c.args.t.now = omega arith in
     let args = c.args in
-    c.loop-m.invariant.1 ∙ ap (λ (k : ℕ). parity k (λ i. present args.t.now i && within i args.p)) e
+    c.loop-m.invariant ∙ ap (λ (k : ℕ). parity k (λ i. present args.t.now i && within i args.p)) e

@@ -2,14 +2,9 @@
 -- Assumes nothing.
 use mathlib.Core.Path.{◌≡◌}
 use mathlib.Core.Bool.{◌&&◌}
-use Prim.Native.Nat.{◌≤◌, ◌-◌}
-use lib.ListN.{length}
 use Rattle.ring.specs.Polynomial.{odd as parity, within}
 use Rattle.ring.specs.Table.{present}
 use Rattle.operations.proofs.odd_below.Given as goal
 
 abbrev pub invariant-loop-m : goal.invariant-loop-m
-invariant-loop-m l = (l.m ≤ length l.t) × (l.odd ≡ parity l.m (λ i. present l.t i && within i l.p))
-
-abbrev pub decreases-loop-m : goal.decreases-loop-m
-decreases-loop-m l = length l.t - l.m
+invariant-loop-m l = l.odd ≡ parity l.m (λ i. present l.t i && within i l.p)

@@ -15,11 +15,11 @@ odd_below-requires c = few_masks c.args.n c.args.t.now c.if-n-lt6.true c.require
 
 pub returns-then-n-lt6 : goal.returns-then-n-lt6
 returns-then-n-lt6 c = parity_few c.args.n _ (present c.args.t.now) c.args.p _ _ _ c.if-n-lt6.true c.requires refl
-    c.odd_below.ensures c.as_byte.ensures
+    c.odd_below.ensures c.from.ensures
 
 pub odd_in_blocks-requires : goal.odd_in_blocks-requires
 odd_in_blocks-requires c = whole_blocks c.args.n c.args.t.now c.if-n-lt6.false c.requires
 
 pub returns : goal.returns
 returns c = parity_end c.args.n _ (present c.args.t.now) c.args.p _ _ c.requires c.odd_in_blocks.ensures
-    c.as_byte-2.ensures
+    c.from-2.ensures

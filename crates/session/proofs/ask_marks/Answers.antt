@@ -1,22 +1,22 @@
--- `session::ask_marks` meets its contract. The invariant: the names so far have been asked.
+-- `session::ask_marks` meets its contract: the first name that does not pass is the first no.
 -- Assumes nothing.
-use mathlib.Core.Path.{◌≡◌}
-use Prim.Native.Nat.{◌<◌}
-use native.Mathlib.Omega.{arith}
-use lib.ListN.{length}
-use borrow.Author.Rules.{rules}
-use Rattle.session.proofs.Asked.{marks_none, marks_more, marks_all}
+use mathlib.Core.Path.{refl}
+use Rattle.std.proofs.lemmas.Result.{err_from_is_err_and}
+use Rattle.tables.specs.Questions.{first_no, bit_questions}
+use Rattle.session.specs.Session.{marked_tables}
+use Rattle.session.specs.Inner.Asking.{marked_questions}
+use Rattle.session.proofs.Asked.{marks_more, marks_no}
 use Rattle.session.proofs.ask_marks.Goals as goal
 
-pub loop-i-init : goal.loop-i-init
-loop-i-init c = (omega arith, marks_none _ _)
+pub loop-mark-init : goal.loop-mark-init
+unfolding marked_questions marked_tables bit_questions first_no
+loop-mark-init c = refl
 
-pub loop-i-preserved : goal.loop-i-preserved
-loop-i-preserved c =
-    let four : length c.args.marks ≡ 4 = search rules in
-    let inside : c.loop-i.i < length c.args.marks = omega (arith, c.loop-i-test.true) in
-    (omega (arith, c.loop-i-test.true), marks_more _ _ _ _ _ _ _ inside c.loop-i.invariant.1 c.ask_mark-q.ensures)
+pub returns-in_err-ask_mark : goal.returns-in_err-ask_mark
+returns-in_err-ask_mark c =
+    let no = err_from_is_err_and c.from_residual.result c.from_residual.ensures.1 in
+    rw (no.1, no.2) (marks_no _ _ c.loop-mark.mark-index _ c.loop-mark-test.true c.loop-mark.invariant _ c.in_err-ask_mark.ensures)
 
-pub returns : goal.returns
-returns c = let four : length c.args.marks ≡ 4 = search rules in
-    marks_all _ _ _ _ c.loop-i.i (omega (arith, c.loop-i-test.false)) c.loop-i.invariant.1
+pub loop-mark-preserved : goal.loop-mark-preserved
+loop-mark-preserved c =
+    marks_more _ _ c.loop-mark.mark-index _ c.loop-mark-test.true c.loop-mark.invariant c.in_ok-ask_mark.ensures

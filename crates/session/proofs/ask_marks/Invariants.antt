@@ -1,14 +1,9 @@
--- `session::ask_marks` meets its contract. The invariant: the names so far have been asked.
+-- `session::ask_marks` meets its contract. The invariant: the names so far pass.
 -- Assumes nothing.
-use mathlib.Core.Path.{◌≡◌}
-use Prim.Native.Nat.{◌≤◌, ◌-◌}
 use lib.ListN.{take}
-use Rattle.tables.specs.Inner.Asking.{also}
+use Rattle.tables.specs.Inner.Passed.{NoneNo}
 use Rattle.session.specs.Inner.Asking.{marked_questions}
 use Rattle.session.proofs.ask_marks.Given as goal
 
-abbrev pub invariant-loop-i : goal.invariant-loop-i
-invariant-loop-i l = (l.i ≤ 4) × (l.q ≡ also l.refusal (marked_questions l.k (take l.i l.marks)))
-
-abbrev pub decreases-loop-i : goal.decreases-loop-i
-decreases-loop-i l = 4 - l.i
+abbrev pub invariant-loop-mark : goal.invariant-loop-mark
+invariant-loop-mark l = NoneNo (marked_questions l.k (take l.mark-index l.marks))

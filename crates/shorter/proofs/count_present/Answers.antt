@@ -1,40 +1,31 @@
--- `shorter::count_present` meets its contract. The loop's invariant: `found` is the count over the blocks passed.
--- Assumes nothing.
-use mathlib.Core.Path.{◌≡◌, refl}
-use mathlib.Core.List.{List}
-use Prim.Native.Nat.{ℕ, ◌+◌, ◌-◌}
+-- `shorter::count_present` meets its contract. Assumes nothing.
 use native.Mathlib.Omega.{arith}
-use borrow.Author.Rules.{rules}
-use lib.ListN.{drop, length-take}
+use mathlib.Core.Path.{◌∙◌}
+use Prim.Native.Nat.{◌≤◌}
+use lib.ListN.{length}
+use Rattle.std.specs.Slice.Iter.{chunks_rest}
 use Rattle.ring.specs.Polynomial.{count}
 use Rattle.ring.specs.Table.{present}
 use Rattle.ring.proofs.Parity.{count_most}
-use Rattle.tables.proofs.Bits.{bits_drop, bits_take}
-use Rattle.shorter.proofs.Counting.{block_more, all_counted}
+use Rattle.shorter.proofs.Counting.{block_more, bits_left, none_left}
 use Rattle.shorter.proofs.count_present.Goals as goal
 
-pub loop-start-init : goal.loop-start-init
-unfolding count
-loop-start-init c = (search rules, refl)
+pub overflow_add-found : goal.overflow_add-found
+overflow_add-found c =
+    let rest = chunks_rest c.next.new.self in
+    let more = block_more _ c.in-Some.block.now rest _ _ _ c.in-Some.ensures.steps.1.0 c.loop-block.invariant.2 c.count_few-found.ensures in
+    let all : count (length c.args.t.now) (present c.args.t.now) ≤ length c.args.t.now = count_most _ _ in
+    omega (arith, more, all)
 
-pub count_few-found-requires : goal.count_few-found-requires
-count_few-found-requires c = let size : ℕ = c.block_end-end.result - c.loop-start.start in
-    let rest : List ℕ = drop c.loop-start.start c.args.t.now in (
-      omega (arith, length-take size rest),
-      bits_take size rest (bits_drop c.loop-start.start _ c.requires),
+pub loop-block-preserved : goal.loop-block-preserved
+loop-block-preserved c =
+    let steps = c.in-Some.ensures.steps in
+    let at = c.loop-block.invariant in
+    let rest = chunks_rest c.next.new.self in (
+      steps.0 ∙ at.0,
+      bits_left _ c.in-Some.block.now rest _ _ _ steps.1.0 at.2 c.count_few-found.ensures at.1,
+      block_more _ c.in-Some.block.now rest _ _ _ steps.1.0 at.2 c.count_few-found.ensures,
     )
 
-pub overflow_add-found : goal.overflow_add-found
-overflow_add-found c = let counted : c.loop-start.found + c.count_few-found.result
-    ≡ count c.block_end-end.result (present c.args.t.now) = let ended = c.block_end-end.ensures in
-    block_more _ c.loop-start.start _ _ _ (omega arith) ended.2 c.loop-start.invariant.1 c.count_few-found.ensures in
-    omega (arith, counted, count_most c.block_end-end.result (present c.args.t.now))
-
-pub loop-start-preserved : goal.loop-start-preserved
-loop-start-preserved c = let counted : c.loop-start.found + c.count_few-found.result
-    ≡ count c.block_end-end.result (present c.args.t.now) = let ended = c.block_end-end.ensures in
-    block_more _ c.loop-start.start _ _ _ (omega arith) ended.2 c.loop-start.invariant.1 c.count_few-found.ensures in
-    (search rules, counted)
-
 pub returns : goal.returns
-returns c = all_counted _ _ _ c.loop-start.invariant.0 c.loop-start-test.false c.loop-start.invariant.1
+returns c = omega (arith, c.loop-block.invariant.2, none_left _ c.in-None.ensures.steps.1.0)

@@ -1,0 +1,8 @@
+-- `session::Session::marked` meets its contract: what marking asks, and the name set.
+-- Assumes nothing.
+use Rattle.session.specs.Session.{marked}
+use Rattle.session.proofs.Session.marked.Goals as goal
+
+pub returns : goal.returns
+unfolding marked
+returns c = let name = c.in_ok-i.ensures in (name.none_no, rw (← name.place))
