@@ -2,53 +2,54 @@
 -- the front of its buffer.
 -- Assumes nothing.
 use mathlib.Core.Path.{◌≡◌, refl, sym, ap, ap₂, ◌∙◌}
-use mathlib.Core.Bool.{Bool, true, false, not, ◌&&◌, cond, true≢false}
+use mathlib.Core.Bool.{Bool, true, false, ◌&&◌, cond, true≢false}
 use mathlib.Core.List.{List, [], ◌∷◌, ◌++◌}
 use Prim.Native.Nat.{ℕ, ◌+◌, ◌-◌, ◌*◌, ◌/◌, ◌%◌, ◌^◌, ◌≤◌, ◌<◌}
-use native.Mathlib.Nat.{mul-le-mul, le_refl}
 use native.Mathlib.Omega.{arith}
+use lib.Dec.{leb}
 use lib.ListN.{length, take, drop}
-use lib.Seq.{length-take-le, get_or-take}
-use borrow.Author.Tests.{lt-ltb}
+use lib.Seq.{get_or-take}
+use borrow.Author.Tests.{lt-ltb, leb-true, leb-false}
 use Rattle.ring.specs.Letters.{bit}
 use Rattle.ring.specs.Polynomial.{Polynomial, ◌⊕◌, value, letter, sum, substitute}
-use Rattle.ring.specs.Table.{AreBits, IsTable, present, held, answer_table, for_unknowns}
+use Rattle.ring.specs.Table.{present, held, answer_table, for_unknowns}
 use Rattle.ring.specs.Length.{total_count}
 use Rattle.ring.proofs.Table.{values_back, held-take, answer_table_cong, length-answer_table}
 use Rattle.ring.proofs.Value.{product_cong}
-use Rattle.tables.specs.declared.Question.TheVariants.{Letters, Room, Bits, Handed}
-use Rattle.tables.specs.Questions.{Asked, asks, first_no, letters_fit, has_room, holds_bits, room_questions, bit_questions, buffer_questions}
+use Rattle.tables.specs.declared.Letters.{Letters}
+use Rattle.tables.specs.declared.Question.{Question}
+use Rattle.tables.specs.declared.Question.TheVariants.{Handed}
+use Rattle.tables.specs.Questions.{Asked, asks, number, first_no, letters_fit, has_room, holds_bits, room_questions, bit_questions, buffer_questions}
 use Rattle.tables.specs.Answered.{Reply, accepted, refused, answered, ◌into◌, call}
-use Rattle.tables.specs.Inner.Asking.{also}
-use Rattle.tables.proofs.FirstNo.{no_to, yes_counts, each_yes, none_no, also_none, also-also, then_further}
-use Rattle.tables.proofs.Questions.{failed, passed, letters_small, unknowns_small, room_enough, held_bits, lent_table}
+use Rattle.tables.specs.Inner.Passed.{NoneNo, IsFirstNo, AreLetters}
+use Rattle.tables.proofs.FirstNo.{number_some, none_no, then_further}
+use Rattle.tables.proofs.Questions.{room_enough, held_bits}
 use Rattle.tables.proofs.Answered.{call_stops, call_last_no, call_whole, call_behind, call_front}
 use Rattle.words.specs.Inner.Words.{words_of, bit_at, First, answer_words}
 use Rattle.words.proofs.Letters.{room}
 use Rattle.words.proofs.Words.{at_known}
 use Rattle.words.proofs.Parts.{points_in, answer_at_lem, part_fits}
 use Rattle.polynomials.specs.Inner.LookUp.{put_for}
-use Rattle.polynomials.proofs.Work.{length_parts}
 use Rattle.solution.specs.Condition.{table_where_zero}
 use Rattle.solution.specs.Elimination.{lowenheim, handed_solves}
 use Rattle.solution.proofs.Blocked.{zero_values, not_zero}
 use Rattle.solution.proofs.Handed.{handed_cong}
 use Rattle.solution.proofs.UnderFact.{where_front}
 use Rattle.solution.proofs.Values.{value-lowenheim}
+use Rattle.facts.specs.Inner.Kept.{where_words}
 use Rattle.facts.proofs.Asked.{fact_front, fact_stops}
 use Rattle.calls.specs.Questions.{fact_questions, asks_handed, handed_questions}
 use Rattle.calls.specs.Solving.{handed_table, handed_call}
 use Rattle.solver.specs.Inner.Handed.{handed_table_questions, handed_by}
 use Rattle.solver.specs.Inner.Words.{part_value, mixed_value}
+use Rattle.solver.specs.Inner.Passed.{PassedHanded}
+use Rattle.tables.proofs.Passed.{letters-table_len}
+use Rattle.solver.proofs.Calls.{part}
 
 -- the front of words
 front_at : (d : ℕ) (ws : List ℕ) (p : ℕ) → p < 64 * d → bit_at (take d ws) p ≡ bit_at ws p
 unfolding bit_at
 front_at d ws p l = let h : p / 64 < d = omega arith in ap (λ (x : ℕ). bit x (p % 64)) (get_or-take d ws (p / 64) 0 h)
-
--- the handed polynomials are at most six
-pub handed_front : (u k size : ℕ) (h : ℕ → ℕ → Bool) (parts : List ℕ) → u ≤ 6 → k ≡ size → parts ≡ answer_words 6 size h → u * k ≤ length parts
-handed_front u k size h parts few ek ep = rw (length_parts 6 size h parts ep, ek) (mul-le-mul few (le_refl size))
 
 -- ---- on words, from tables that have passed the questions before 21
 module _ (u g : ℕ) (fact t handed : List ℕ) where
@@ -113,42 +114,63 @@ module _ (u g : ℕ) (fact t handed : List ℕ) where
   unfolding handed_table
   length_handed = length-answer_table u (u + g) _
 
-  -- as the code comes to it: a no to 22 or 23 ..
-  module _ {q : ℕ} (lent : List ℕ) (found : q ≡ first_no (fact_questions u g fact)) where
-    pub fact_refused_by : (q ≡ 0 → ⊥) → answered (refused q []) (lent ∷ []) ≡ handed_by u g fact t handed lent
+-- ---- as the code comes to it: a no to 22 or 23 ..
+module _ (l : Letters) (fact t handed lent : List ℕ) where
+  abbrev U : ℕ
+  U = l.unknowns
+
+  abbrev G : ℕ
+  G = l.givens
+
+  pub fact_refused_by : (question : Question) → IsFirstNo (fact_questions l.unknowns l.givens fact) question
+      → answered (refused (number question) []) (lent ∷ []) ≡ handed_by l.unknowns l.givens fact t handed lent
+  unfolding handed_by
+  fact_refused_by question found =
+      fact_stops U G fact (asks_handed U G fact t handed ∷ []) _ (handed_table U G fact t handed into lent ∷ []) (number question) found (number_some question)
+
+  -- .. or the values of f*(1 + g), a copy of them, and the handed polynomials put into the copy
+  module _ (asked : NoneNo (fact_questions l.unknowns l.givens fact)) (values copied own : List ℕ) (r : ℕ)
+      (where_zero : values ≡ where_words l.n t fact) (same : copied ≡ values) (sized : length own ≡ 2 ^ (l.n - 6))
+      (first : First (64 * length own) (bit_at own) r)
+      (put_in : (F : Polynomial) → copied ≡ words_of (2 ^ (l.n - 6)) (value l.n F) → (p : ℕ) → p < 2 ^ l.n
+      → bit_at own p ≡ value l.n (substitute l.n l.n F (for_unknowns l.unknowns (held l.n handed))) p) where
+    taken : values ≡ where_words (U + G) t fact
+    taken = rw l.n_is at where_zero
+
+    size : length own ≡ 2 ^ (U + G - 6)
+    size = rw l.n_is at sized
+
+    to_end : l.table_len ≡ 2 ^ (U + G)
+    to_end = rw l.n_is at l.table_len_is
+
+    put : (p : ℕ) → p < 2 ^ (U + G)
+        → bit_at own p
+        ≡ value (U + G) (substitute (U + G) (U + G) (present (table_where_zero (U + G) t fact)) (for_unknowns U (held (U + G) handed))) p
+    put = rw l.n_is at (put_in (present (table_where_zero l.n t fact)) (same ∙ where_zero))
+
+    pub refused_by : leb l.table_len r ≡ false → answered (refused 21 []) (lent ∷ []) ≡ handed_by l.unknowns l.givens fact t handed lent
     unfolding handed_by
-    fact_refused_by some =
-        fact_stops u g fact (asks_handed u g fact t handed ∷ []) _ (handed_table u g fact t handed into lent ∷ []) q found some
+    refused_by below =
+        call_last_no (fact_questions U G fact) Handed _ [] _ (handed_table U G fact t handed into lent ∷ []) asked
+        (solves_no U G fact t handed own r l.table_len size first to_end put (leb-false _ _ below))
 
-    -- .. or the values of f*(1 + g), a copy of them, and the handed polynomials put into the copy
-    module _ (z : q ≡ 0) (values copied own : List ℕ) (r end : ℕ)
-        (taken : values ≡ words_of (2 ^ (u + g - 6)) (value (u + g) (present (table_where_zero (u + g) t fact))))
-        (same : copied ≡ values) (size : length own ≡ 2 ^ (u + g - 6)) (first : First (64 * length own) (bit_at own) r)
-        (e : end ≡ 2 ^ (u + g))
-        (put : (F : Polynomial) → copied ≡ words_of (2 ^ (u + g - 6)) (value (u + g) F) → (p : ℕ) → p < 2 ^ (u + g)
-        → bit_at own p ≡ value (u + g) (substitute (u + g) (u + g) F (for_unknowns u (held (u + g) handed))) p) where
-      pub refused_by : (number : ℕ) → number ≡ 21 → r < end → answered (refused number []) (lent ∷ []) ≡ handed_by u g fact t handed lent
-      unfolding handed_by
-      refused_by number numbered l =
-          rw numbered
-          (call_last_no (fact_questions u g fact) Handed _ [] _ (handed_table u g fact t handed into lent ∷ []) (sym found ∙ z)
-          (solves_no own r end size first e (put f (same ∙ taken)) l))
-
-      pub mixed_by : (k : ℕ) (parts answers : List ℕ) → u ≤ 6 → end ≤ r → k ≡ 2 ^ (u + g - 6)
-          → parts ≡ answer_words 6 (2 ^ (u + g - 6)) (put_for u (u + g) handed)
-          → answers ≡ answer_table u (u + g)
-          (λ j. value (u + g) (mixed_value (bit_at values) (part_value (2 ^ (u + g - 6)) (take (u * k) parts) j) j))
-          → (total : ℕ) → total ≡ total_count u (u + g) (held (u + g) answers) → length lent ≡ u * 2 ^ (u + g)
-          → answered (accepted (total ∷ [])) (answers ∷ []) ≡ handed_by u g fact t handed lent
-      unfolding handed_by
-      mixed_by k parts answers few l ek ep written total counted size-lent =
-          let made : answers ≡ handed_table u g fact t handed = written ∙ formula_written k parts values few ek ep taken in
-          ap (λ (x : ℕ). answered (accepted (x ∷ [])) (answers ∷ []))
-          (counted ∙ ap (λ (s : List ℕ). total_count u (u + g) (held (u + g) s)) made)
-          ∙ call_whole (fact_questions u g fact ++ (asks_handed u g fact t handed ∷ [])) _ (handed_table u g fact t handed) lent answers
-          (then_further (fact_questions u g fact) (asks_handed u g fact t handed ∷ []) (sym found ∙ z)
-          ∙ none_no (asks_handed u g fact t handed ∷ []) (solves_yes own r end size first e (put f (same ∙ taken)) l, tt))
-          made (size-lent ∙ sym length_handed)
+    pub mixed_by : leb l.table_len r ≡ true → (k : ℕ) (parts answers : List ℕ) → k ≡ 2 ^ (l.n - 6)
+        → parts ≡ answer_words 6 (2 ^ (l.n - 6)) (put_for l.unknowns l.n handed)
+        → answers ≡ answer_table l.unknowns l.n
+        (λ j. value l.n (mixed_value (bit_at values) (part_value (2 ^ (l.n - 6)) (take (l.unknowns * k) parts) j) j))
+        → (total : ℕ) → total ≡ total_count l.unknowns l.n (held l.n answers) → length lent ≡ l.unknowns * 2 ^ l.n
+        → answered (accepted (total ∷ [])) (answers ∷ []) ≡ handed_by l.unknowns l.givens fact t handed lent
+    unfolding handed_by
+    mixed_by beyond k parts answers ek ep written total counted size-lent =
+        let made : answers ≡ handed_table U G fact t handed =
+        rw l.n_is at written ∙ formula_written U G fact t handed k parts values l.unknowns_fit (rw l.n_is at ek) (rw l.n_is at ep) taken in
+        ap (λ (x : ℕ). answered (accepted (x ∷ [])) (answers ∷ []))
+        (rw l.n_is at counted ∙ ap (λ (s : List ℕ). total_count U (U + G) (held (U + G) s)) made)
+        ∙ call_whole (fact_questions U G fact ++ (asks_handed U G fact t handed ∷ [])) _ (handed_table U G fact t handed) lent answers
+        (then_further (fact_questions U G fact) (asks_handed U G fact t handed ∷ []) asked
+        ∙ none_no (asks_handed U G fact t handed ∷ [])
+        (solves_yes U G fact t handed own r l.table_len size first to_end put (leb-true _ _ beyond), tt))
+        made (rw l.n_is at size-lent ∙ sym (length_handed U G fact t handed))
 
 -- ---- the calls' own buffers, of which the parts that count are lent on
 module _ (u g k : ℕ) (fact t handed : List ℕ) (e : k ≡ 2 ^ (u + g)) where
@@ -168,88 +190,59 @@ module _ (u g k : ℕ) (fact t handed : List ℕ) (e : k ≡ 2 ^ (u + g)) where
       ap (λ (b : Bool). letter j m ⊕ b) (product_cong (u + g) _ _ _ _ (λ i l. refl)
       (λ i l. ap (λ (b : Bool). letter j i ⊕ b) (held-take (u + g) u handed j i hj l)) m)))
 
--- 1, 4 and 8, as the code asks them
-module _ (u g : ℕ) (fact t handed : List ℕ) (room : ℕ) where
-  pub handed_letters_refused : {r : ℕ} {fits : Bool} → r ≡ 1 → fits ≡ letters_fit u g → not fits ≡ true
-      → r ≡ first_no (handed_table_questions u g fact t handed room)
-  unfolding handed_table_questions
-  handed_letters_refused e f n = e ∙ sym (no_to Letters (letters_fit u g) [] _ (failed f n))
+-- 1, 4 and 8: what a yes to each tells
+module _ (u g : ℕ) (fact t handed : List ℕ) (room : ℕ) (l : Letters) (are : AreLetters u g l) where
+  pub passed_handed : letters_fit u g ≡ true → has_room l.table_len (length fact) ≡ true → has_room l.table_len (length t) ≡ true
+      → has_room (l.unknowns * l.table_len) (length handed) ≡ true → has_room (l.unknowns * l.table_len) room ≡ true → holds_bits l.table_len fact ≡ true
+      → holds_bits l.table_len t ≡ true → holds_bits (l.unknowns * l.table_len) handed ≡ true → PassedHanded u g fact t handed room l
+  unfolding handed_table_questions buffer_questions room_questions bit_questions first_no
+  passed_handed fit fact_room condition_room handed_room answer_room fact_bits bits handed_bits =
+      let handed_fits : has_room (u * l.table_len) (length handed) ≡ true = rw are.unknowns at handed_room in
+      let answer_fits : has_room (u * l.table_len) room ≡ true = rw are.unknowns at answer_room in
+      let all_bits : holds_bits (u * l.table_len) handed ≡ true = rw are.unknowns at handed_bits in
+      record {
+        none_no = rw (fit, ← letters-table_len u g l are, fact_room, condition_room, handed_fits, answer_fits, fact_bits, bits, all_bits);
+        letters = are;
+        fact_room = room_enough l.table_len _ fact_room;
+        condition_room = room_enough l.table_len _ condition_room;
+        handed_room = room_enough (l.unknowns * l.table_len) _ handed_room;
+        answer_room = room_enough (l.unknowns * l.table_len) _ answer_room;
+        fact_table = part l fact fact_room fact_bits;
+        table = part l t condition_room bits;
+        bits = held_bits (l.unknowns * l.table_len) handed handed_bits;
+      }
 
-  pub handed_asked : {k first second third fourth fifth sixth r : ℕ} {fits room1 room2 room3 room4 bits1 bits2 bits3 : Bool}
-      → r ≡ also sixth (asks Bits bits3 ∷ []) → bits3 ≡ holds_bits (u * k) handed
-      → sixth ≡ also fifth (asks Bits bits2 ∷ []) → bits2 ≡ holds_bits k t
-      → fifth ≡ also fourth (asks Bits bits1 ∷ []) → bits1 ≡ holds_bits k fact
-      → fourth ≡ also third (asks Room room4 ∷ []) → room4 ≡ has_room (u * k) room
-      → third ≡ also second (asks Room room3 ∷ []) → room3 ≡ has_room (u * k) (length handed)
-      → second ≡ also first (asks Room room2 ∷ []) → room2 ≡ has_room k (length t)
-      → first ≡ also 0 (asks Room room1 ∷ []) → room1 ≡ has_room k (length fact)
-      → k ≡ 2 ^ (u + g) → fits ≡ letters_fit u g → not fits ≡ false → r ≡ first_no (handed_table_questions u g fact t handed room)
-  unfolding handed_table_questions buffer_questions room_questions bit_questions
-  handed_asked er eb3 e6 eb2 e5 eb1 e4 er4 e3 er3 e2 er2 e1 er1 ek ef n =
-      rw (er, eb3, e6, eb2, e5, eb1, e4, er4, e3, er3, e2, er2, e1, er1, ek)
-      (simp also-also (sym (also_none _) ∙ sym (yes_counts Letters (letters_fit u g) [] _ (passed ef n))))
-
--- what no refusal tells
 module _ (u g : ℕ) (fact t handed lent : List ℕ) where
-  pub record HandedPassed (k : ℕ) : Type 0 where
-    pub unknowns : u ≤ 6
-    pub small : u + g ≤ 10
-    pub fact_room_lem : k ≤ length fact
-    pub condition_room : k ≤ length t
-    pub handed_room : u * k ≤ length handed
-    pub answer_room_lem : u * k ≤ length lent
-    pub fact_table : IsTable (u + g) (take k fact)
-    pub table : IsTable (u + g) (take k t)
-    pub polynomials : length (take (u * k) handed) ≡ u * 2 ^ (u + g)
-    pub bits : AreBits (take (u * k) handed)
-    pub answers : length (take (u * k) lent) ≡ u * 2 ^ (u + g)
-
-  pub handed_passed : {q k : ℕ} → q ≡ first_no (handed_table_questions u g fact t handed (length lent)) → q ≡ 0 → k ≡ 2 ^ (u + g)
-      → HandedPassed k
-  unfolding handed_table_questions buffer_questions room_questions bit_questions
-  handed_passed found z e =
-      let yes_all = each_yes _ (sym found ∙ z) in
-      let rooms = yes_all.1 in
-      let bits = rooms.1.1.1.1 in
-      let handed_room = room_enough _ _ rooms.1.1.0 in
-      let answer_room_lem = room_enough _ _ rooms.1.1.1.0 in
-      rw e
-      (record {
-        unknowns = unknowns_small u g yes_all.0;
-        small = letters_small u g yes_all.0;
-        fact_room_lem = room_enough _ _ rooms.0;
-        condition_room = room_enough _ _ rooms.1.0;
-        handed_room = handed_room;
-        answer_room_lem = answer_room_lem;
-        fact_table = lent_table (u + g) _ fact refl rooms.0 bits.0;
-        table = lent_table (u + g) _ t refl rooms.1.0 bits.1.0;
-        polynomials = length-take-le _ _ handed_room;
-        bits = held_bits _ _ bits.1.1.0;
-        answers = length-take-le _ _ answer_room_lem;
-      })
-
--- the call: 22, 23 and 21 behind 1, 4 and 8
-module _ (u g : ℕ) (fact t handed lent : List ℕ) (q : ℕ)
-    (found : q ≡ first_no (handed_table_questions u g fact t handed (length lent))) where
+  -- 22, 23 and 21, of the lent buffers
   abbrev behind : List Asked
   behind = fact_questions u g fact ++ (asks_handed u g fact t handed ∷ [])
 
-  pub handed_refused : (q ≡ 0 → ⊥) → answered (refused q []) (lent ∷ []) ≡ handed_call u g fact t handed lent
+  pub handed_refused : (question : Question) → IsFirstNo (handed_table_questions u g fact t handed (length lent)) question
+      → answered (refused (number question) []) (lent ∷ []) ≡ handed_call u g fact t handed lent
   unfolding handed_questions handed_table_questions buffer_questions room_questions bit_questions
-  handed_refused n =
-      call_stops (handed_table_questions u g fact t handed (length lent)) behind _ (handed_table u g fact t handed into lent ∷ []) q refl found n
+  handed_refused question found =
+      call_stops (handed_table_questions u g fact t handed (length lent)) behind _ (handed_table u g fact t handed into lent ∷ []) (number question)
+      refl found (number_some question)
 
-  pub handed_done : q ≡ 0 → (k : ℕ) → k ≡ 2 ^ (u + g) → {gives : Reply} {front : List ℕ}
+  work : (k : ℕ) → k ≡ 2 ^ (u + g) → NoneNo (handed_table_questions u g fact t handed (length lent)) → u * k ≤ length lent
+      → {gives : Reply} {front : List ℕ}
       → answered gives (front ∷ []) ≡ handed_by u g (take k fact) (take k t) (take (u * k) handed) (take (u * k) lent)
       → answered gives ((front ++ drop (u * k) lent) ∷ []) ≡ handed_call u g fact t handed lent
   unfolding handed_by handed_questions handed_table_questions
-  handed_done z k e {gives} {front} done =
-      let yes_all : first_no (handed_table_questions u g fact t handed (length lent)) ≡ 0 = sym found ∙ z in
-      let passed_all = handed_passed u g fact t handed lent found z e in
+  work k e yes_all room {gives} {front} done =
       let asked_front : fact_questions u g (take k fact) ≡ fact_questions u g fact = rw e (fact_front u g fact) in
       let total : List ℕ = total_count u (u + g) (held (u + g) (handed_table u g fact t handed)) ∷ [] in
-      let work : answered gives (front ∷ []) ≡ call behind total (handed_table u g fact t handed into take (u * k) lent ∷ []) =
+      let part_done : answered gives (front ∷ []) ≡ call behind total (handed_table u g fact t handed into take (u * k) lent ∷ []) =
       done ∙ rw (asked_front, test_front u g k fact t handed e, table_front u g k fact t handed e) in
-      call_front behind total (handed_table u g fact t handed) lent front (u * k) (length_handed u g fact t handed ∙ rw e)
-      passed_all.answer_room_lem work
+      call_front behind total (handed_table u g fact t handed) lent front (u * k) (length_handed u g fact t handed ∙ rw e) room part_done
       ∙ call_behind (handed_table_questions u g fact t handed (length lent)) behind total _ yes_all
+
+  pub handed_done : (l : Letters) → PassedHanded u g fact t handed (length lent) l → {gives : Reply} {front : List ℕ}
+      → answered gives (front ∷ [])
+      ≡ handed_by l.unknowns l.givens (take l.table_len fact) (take l.table_len t) (take (l.unknowns * l.table_len) handed)
+      (take (l.unknowns * l.table_len) lent)
+      → answered gives ((front ++ drop (l.unknowns * l.table_len) lent) ∷ []) ≡ handed_call u g fact t handed lent
+  handed_done l passed done =
+      rw passed.letters.unknowns
+      (work l.table_len (letters-table_len u g l passed.letters) passed.none_no (rw passed.letters.unknowns at passed.answer_room)
+      (rw (passed.letters.unknowns, passed.letters.givens) at done))

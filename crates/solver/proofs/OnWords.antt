@@ -14,9 +14,11 @@ use Rattle.ring.specs.Table.{held}
 use Rattle.ring.specs.Length.{total_count}
 use Rattle.ring.proofs.Table.{length-answer_table}
 use Rattle.tables.specs.declared.Question.TheVariants.{Solution}
-use Rattle.tables.specs.Questions.{first_no}
+use Rattle.tables.specs.declared.Question.{Question}
+use Rattle.tables.specs.Questions.{number}
 use Rattle.tables.specs.Answered.{accepted, refused, answered, ◌into◌}
-use Rattle.tables.proofs.FirstNo.{none_no, then_further}
+use Rattle.tables.specs.Inner.Passed.{NoneNo, IsFirstNo}
+use Rattle.tables.proofs.FirstNo.{number_some, none_no, then_further}
 use Rattle.tables.proofs.Answered.{call_last_no, call_whole}
 use Rattle.words.specs.Inner.Words.{bit_at, answer_words}
 use Rattle.words.proofs.Letters.{room, points}
@@ -36,12 +38,15 @@ use Rattle.elimination.proofs.States.{state_room}
 use Rattle.facts.proofs.Asked.{fact_stops}
 use Rattle.calls.specs.declared.Verdict.{Verdict}
 use Rattle.calls.specs.declared.Verdict.TheVariants.{Solved, None}
-use Rattle.calls.specs.declared.Solving.TheVariants as solving-variants
+use Rattle.calls.specs.declared.Unsolved.TheVariants as unsolved-variants
 use Rattle.calls.specs.Questions.{fact_questions, asks_solution}
 use Rattle.calls.specs.Solving.{solving}
+use Rattle.facts.specs.Inner.Kept.{where_words}
+use Rattle.solver.specs.declared.ordered.OrderedLetters.{OrderedLetters}
+use Rattle.std.specs.Prelude.{Ok, Err}
 use Rattle.solver.specs.declared.Method.{Method}
 use Rattle.solver.specs.declared.Method.TheVariants.{Boole, Particular, Lowenheim}
-use Rattle.solver.specs.Inner.Methods.{table_by, solve_by, value_words, boole_words, solve_words, verdict}
+use Rattle.solver.specs.Inner.Methods.{posed, table_by, solve_by, value_words, boole_words, solve_words, verdict}
 
 module _ (c : Condition) (is : IsOrder c.U c.order) (f : List ℕ) (ef : f ≡ value_words c) where
   abbrev U : ℕ
@@ -149,33 +154,48 @@ length-table_by Particular c = length-answer_table c.U (width c) _
 length-table_by Lowenheim c = length-answer_table c.U (width c) _
 
 -- as the code comes to it: a no to 22 or 23 ..
-module _ (method : Method) (c : Condition) (lent : List ℕ) {q : ℕ} (found : q ≡ first_no (fact_questions c.U c.G c.fact)) where
-  pub fact_refused : (q ≡ 0 → ⊥) → answered (refused q []) (lent ∷ []) ≡ solve_by method c lent
+module _ (method : Method) (o : OrderedLetters) (fact t lent : List ℕ) where
+  abbrev posed_is : Condition
+  posed_is = posed o fact t
+
+  abbrev u : ℕ
+  u = o.letters.unknowns
+
+  abbrev g : ℕ
+  g = o.letters.givens
+
+  pub fact_refused : (question : Question) → IsFirstNo (fact_questions o.letters.unknowns o.letters.givens fact) question
+      → answered (refused (number question) []) (lent ∷ []) ≡ solve_by method (posed o fact t) lent
   unfolding solve_by
-  fact_refused n = fact_stops c.U c.G c.fact (asks_solution c ∷ []) _ (table_by method c into lent ∷ []) q found n
+  fact_refused question found =
+      fact_stops u g fact (asks_solution posed_is ∷ []) _ (table_by method posed_is into lent ∷ []) (number question) found (number_some question)
 
   -- .. or a verdict, from a copy of the condition's values
-  module _ (z : q ≡ 0) (v : Verdict) (ws : List ℕ) {values used : List ℕ}
-      (copied : used ≡ values) (taken : values ≡ value_words c) (said : used ≡ value_words c → verdict v ws ≡ solve_words c) where
-    pub none_by : {state : State} → v ≡ None state → answered (solving (solving-variants.None state)) (lent ∷ []) ≡ solve_by method c lent
+  module _ (asked : NoneNo (fact_questions o.letters.unknowns o.letters.givens fact)) (v : Verdict) (ws : List ℕ) {values used : List ℕ}
+      (copied : used ≡ values) (where_zero : values ≡ where_words o.letters.n t fact)
+      (said : used ≡ value_words (posed o fact t) → verdict v ws ≡ solve_words (posed o fact t)) where
+    taken : values ≡ value_words posed_is
+    taken = rw o.letters.n_is at where_zero
+
+    pub none_by : {state : State} → v ≡ None state
+        → answered (solving (Err (unsolved-variants.None state))) (lent ∷ []) ≡ solve_by method (posed o fact t) lent
     unfolding solve_by
     none_by {state} told =
-        let r = none_is c state (rw told at (said (copied ∙ taken))) in
+        let r = none_is posed_is state (rw told at (said (copied ∙ taken))) in
         rw r.1
-        (call_last_no (fact_questions c.U c.G c.fact) Solution (solvable (width c) (polynomial c) c.order) _ _
-        (table_by method c into lent ∷ []) (sym found ∙ z) r.0)
+        (call_last_no (fact_questions u g fact) Solution (solvable (u + g) (polynomial posed_is) posed_is.order) _ _
+        (table_by method posed_is into lent ∷ []) asked r.0)
 
     pub solved_by : {answers : List ℕ} {total : ℕ} → v ≡ Solved
-        → (values ≡ value_words c → ws ≡ boole_words c → answers ≡ table_by method c)
-        → total ≡ total_count c.U (width c) (held (width c) answers) → length lent ≡ c.U * 2 ^ width c
-        → answered (solving (solving-variants.Solved total)) (answers ∷ []) ≡ solve_by method c lent
+        → (values ≡ value_words (posed o fact t) → ws ≡ boole_words (posed o fact t) → answers ≡ table_by method (posed o fact t))
+        → total ≡ total_count o.letters.unknowns o.letters.n (held o.letters.n answers) → length lent ≡ o.letters.unknowns * 2 ^ o.letters.n
+        → answered (solving (Ok total)) (answers ∷ []) ≡ solve_by method (posed o fact t) lent
     unfolding solve_by
     solved_by {answers} told written counted size =
-        let r = solved_is c ws (rw told at (said (copied ∙ taken))) in
-        let made : answers ≡ table_by method c = written taken r.1 in
+        let r = solved_is posed_is ws (rw told at (said (copied ∙ taken))) in
+        let made : answers ≡ table_by method posed_is = written taken r.1 in
         ap (λ (x : ℕ). answered (accepted (x ∷ [])) (answers ∷ []))
-        (counted ∙ ap (λ (t : List ℕ). total_count c.U (width c) (held (width c) t)) made)
-        ∙ call_whole (fact_questions c.U c.G c.fact ++ (asks_solution c ∷ [])) _ (table_by method c) lent answers
-        (then_further (fact_questions c.U c.G c.fact) (asks_solution c ∷ []) (sym found ∙ z)
-        ∙ none_no (asks_solution c ∷ []) (r.0, tt))
-        made (size ∙ sym (length-table_by method c))
+        (rw o.letters.n_is at counted ∙ ap (λ (t : List ℕ). total_count u (u + g) (held (u + g) t)) made)
+        ∙ call_whole (fact_questions u g fact ++ (asks_solution posed_is ∷ [])) _ (table_by method posed_is) lent answers
+        (then_further (fact_questions u g fact) (asks_solution posed_is ∷ []) asked ∙ none_no (asks_solution posed_is ∷ []) (r.0, tt))
+        made (rw o.letters.n_is at size ∙ sym (length-table_by method posed_is))

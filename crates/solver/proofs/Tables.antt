@@ -4,7 +4,6 @@ use mathlib.Core.Path.{◌≡◌, sym, ap, ap₂, ◌∙◌}
 use mathlib.Core.Bool.{Bool, ◌&&◌}
 use mathlib.Core.List.{List}
 use Prim.Native.Nat.{ℕ, ◌+◌, ◌-◌, ◌*◌, ◌/◌, ◌%◌, ◌^◌, ◌≤◌, ◌<◌}
-use native.Mathlib.Nat.{mul-le-mul}
 use native.Mathlib.Numerals.{add-one}
 use native.Mathlib.Omega.{arith}
 use lib.Pow.{high, low, pow_mono}
@@ -18,13 +17,14 @@ use Rattle.ring.specs.Length.{monomial_count, total_count}
 use Rattle.ring.proofs.Lists.{listed_cong, tabulate-listed}
 use Rattle.ring.proofs.Value.{value_cong}
 use Rattle.ring.proofs.Parity.{count_most}
-use Rattle.ring.proofs.Length.{monomials_cong, monomials-table, total_answer_table, total_most}
+use Rattle.ring.proofs.Length.{monomials_cong, monomials-table, total_answer_table}
+use Rattle.tables.specs.declared.Letters.{Letters}
 use Rattle.tables.proofs.Filled.{filled}
 use Rattle.words.specs.Inner.Words.{words_of, bit_at}
 use Rattle.words.proofs.Letters.{room}
-use Rattle.words.proofs.Words.{at_known}
+use Rattle.words.proofs.Words.{at_known, size_words}
 use Rattle.words.proofs.Parts.{points_in, parts_more, parts_end}
-use Rattle.solver.specs.Inner.Words.{part_value, mixed_value}
+use Rattle.solver.specs.Inner.Words.{part_value, made_by}
 
 -- ---- words into tables
 part_at : (d s : ℕ) (ws : List ℕ) (p : ℕ) → p < 64 * d → bit_at (take d (drop s ws)) p ≡ bit_at ws (64 * s + p)
@@ -71,13 +71,9 @@ total_more n j total r a g ys et ey same er =
     (er ∙ ap (λ (t : List ℕ). monomial_count n (present t)) ey ∙ monomials-table n g ∙ monomials_cong n g (a j) same))
 
 -- .. which the code can count ..
-pub total_small : (n j total r : ℕ) (a : ℕ → Polynomial) (ys : List ℕ) → total ≡ total_count j n a → r ≡ monomial_count n (present ys)
-    → j ≤ 6 → n ≤ 10 → total + r ≤ 7168
+pub count_small : (l : Letters) (r : ℕ) (t : List ℕ) → r ≡ monomial_count l.n (present t) → r ≤ 1024
 unfolding monomial_count
-total_small n j total r a ys et er few h =
-    let most : 2 ^ n ≤ 2 ^ 10 = pow_mono h in
-    let all : j * 2 ^ n ≤ 6 * 2 ^ 10 = mul-le-mul few most in
-    omega (arith, et, er, total_most j n a, count_most (2 ^ n) (present ys))
+count_small l r t e = let most : 2 ^ l.n ≤ 2 ^ 10 = pow_mono l.n_fits in omega (arith, e, count_most (2 ^ l.n) (present t))
 
 -- .. and all of them
 pub total_done : (n u j total : ℕ) (a : ℕ → Polynomial) (t : List ℕ) → j ≡ u → total ≡ total_count j n a → t ≡ answer_table u n a
@@ -86,21 +82,16 @@ total_done n u j total a t ej et e =
     et ∙ ap (λ (x : ℕ). total_count x n a) ej
     ∙ sym (ap (λ (s : List ℕ). total_count u n (held n s)) e ∙ total_answer_table u n a)
 
--- the table of one part of words
-pub copied_table : (n k x : ℕ) (ws : List ℕ) → k ≡ 2 ^ (n - 6) → (m : ℕ) → m < 2 ^ n
-    → value n (bit_at (take (x * k + k - x * k) (drop (x * k) ws))) m ≡ value n (part_value (2 ^ (n - 6)) ws x) m
-copied_table n k x ws ek m l = value_cong n _ _ m (part_value_lem n k x ws ek)
+-- the table that is made of one part
+pub made_table : (l : Letters) (h : ℕ → Bool → ℕ → Bool) (k x : ℕ) (parts left : List ℕ) → k ≡ 2 ^ (l.n - 6)
+    → ((p : ℕ) → p < 2 ^ l.n → bit_at left p ≡ h x (bit_at (take (x * k + k - x * k) (drop (x * k) parts)) p) p)
+    → (m : ℕ) → m < 2 ^ l.n → value l.n (bit_at left) m ≡ made_by l h parts x m
+made_table l h k x parts left ek is m lt =
+    value_cong l.n _ _ m (λ p lp. is p lp ∙ ap (λ (b : Bool). h x b p) (part_value_lem l.n k x parts ek p lp))
 
--- .. and of Löwenheim's answer from it
-pub mixed_table : (n k x size : ℕ) (values b own : List ℕ) → k ≡ 2 ^ (n - 6) → size ≡ 2 ^ (n - 6)
-    → own ≡ words_of size (λ p. bit p x ⊕ (bit_at values p && (bit p x ⊕ bit_at (take (x * k + k - x * k) (drop (x * k) b)) p)))
-    → (m : ℕ) → m < 2 ^ n → value n (bit_at own) m ≡ value n (mixed_value (bit_at values) (part_value (2 ^ (n - 6)) b x) x) m
-unfolding mixed_value
-mixed_table n k x size values b own ek es e m l =
-    value_cong n _ _ m (λ p h.
-    at_known size _ own e p (omega (arith, room n, es))
-    ∙ ap (λ (y : Bool). bit p x ⊕ (bit_at values p && (bit p x ⊕ y))) (part_value_lem n k x b ek p h))
-
--- six polynomials, as many as there are unknowns, take no more words than this
-pub words_fit : (u k : ℕ) → u ≤ 6 → k ≤ 16 → u * k ≤ 96
-words_fit u k h l = mul-le-mul h l
+-- the values of Löwenheim's answer, which are that of one part
+pub mixed_words : (l : Letters) (x size : ℕ) (values part left : List ℕ) → size ≡ 2 ^ (l.n - 6)
+    → left ≡ words_of size (λ p. bit p x ⊕ (bit_at values p && (bit p x ⊕ bit_at part p)))
+    → (length left ≡ 2 ^ (l.n - 6)) × ((p : ℕ) → p < 2 ^ l.n → bit_at left p ≡ (bit p x ⊕ (bit_at values p && (bit p x ⊕ bit_at part p))))
+mixed_words l x size values part left es e =
+    (size_words _ _ left e ∙ es, λ p lt. at_known size _ left e p (omega (arith, room l.n, es)))

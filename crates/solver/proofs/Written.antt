@@ -124,20 +124,17 @@ module _ (c : Condition) (values found : List ℕ) (few : c.U ≤ 6) (ev : value
         ∙ sym (value-own_lowenheim U c.G f c.order j p (omega arith) hp))
 
 -- the tables of the method that is asked for, as the code comes to them
-module _ (c : Condition) {method : Method} {values found answers : List ℕ} where
-  pub boole_by : method ≡ Boole → answers ≡ answer_table c.U (width c) (λ j. value (width c) (part_value (2 ^ (width c - 6)) found j))
-      → c.U ≤ 6 → values ≡ value_words c → found ≡ boole_words c → answers ≡ table_by method c
-  boole_by e ea few ev ef = rw e (ea ∙ boole_written c values found few ev ef)
+module _ (c : Condition) (n : ℕ) (en : n ≡ width c) {method : Method} {values found answers : List ℕ} where
+  pub boole_by : method ≡ Boole → answers ≡ answer_table c.U n (λ j. value n (part_value (2 ^ (n - 6)) found j)) → c.U ≤ 6
+      → values ≡ value_words c → found ≡ boole_words c → answers ≡ table_by method c
+  boole_by e ea few ev ef = rw (e) (rw en at ea ∙ boole_written c values found few ev ef)
 
-  module _ {zeros : List ℕ} (size : ℕ) (es : size ≡ c.U * 2 ^ (width c - 6))
-      (ez : zeros ≡ words_of size (λ i. bit_at found (zero_choice c.U i))) where
-    pub particular_by : method ≡ Particular
-        → answers ≡ answer_table c.U (width c) (λ j. value (width c) (part_value (2 ^ (width c - 6)) zeros j))
-        → c.U ≤ 6 → values ≡ value_words c → found ≡ boole_words c → answers ≡ table_by method c
-    particular_by e ea few ev ef = rw e (ea ∙ particular-written c values found few ev ef zeros size es ez)
+  module _ {zeros : List ℕ} (size : ℕ) (es : size ≡ c.U * 2 ^ (n - 6)) (ez : zeros ≡ words_of size (λ i. bit_at found (zero_choice c.U i))) where
+    pub particular_by : method ≡ Particular → answers ≡ answer_table c.U n (λ j. value n (part_value (2 ^ (n - 6)) zeros j)) → c.U ≤ 6
+        → values ≡ value_words c → found ≡ boole_words c → answers ≡ table_by method c
+    particular_by e ea few ev ef = rw (e) (rw en at ea ∙ particular-written c values found few ev ef zeros size (rw en at es) ez)
 
     pub lowenheim_by : method ≡ Lowenheim
-        → answers ≡ answer_table c.U (width c)
-        (λ j. value (width c) (mixed_value (bit_at values) (part_value (2 ^ (width c - 6)) zeros j) j))
-        → c.U ≤ 6 → values ≡ value_words c → found ≡ boole_words c → answers ≡ table_by method c
-    lowenheim_by e ea few ev ef = rw e (ea ∙ lowenheim-written c values found few ev ef zeros size es ez)
+        → answers ≡ answer_table c.U n (λ j. value n (mixed_value (bit_at values) (part_value (2 ^ (n - 6)) zeros j) j)) → c.U ≤ 6
+        → values ≡ value_words c → found ≡ boole_words c → answers ≡ table_by method c
+    lowenheim_by e ea few ev ef = rw (e) (rw en at ea ∙ lowenheim-written c values found few ev ef zeros size (rw en at es) ez)

@@ -2,3 +2,4 @@
 pub mod Methods
 pub mod Handed
 pub mod Words
+pub mod Passed

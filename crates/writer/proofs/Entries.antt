@@ -21,13 +21,13 @@ use Rattle.words.proofs.Letters.{room}
 use Rattle.order.specs.Order.{order, monomials}
 use Rattle.order.specs.Inner.Listing.{tagged, Listed}
 use Rattle.elimination.proofs.Slots.{answer_part_lem}
-use Rattle.solution.specs.Condition.{Condition, under_fact, width, table_where_zero, polynomial, IsOrder}
+use Rattle.solution.specs.Condition.{Condition, under_fact, width, table_where_zero, polynomial}
 use Rattle.solution.specs.Order.{order_bytes, order_fits}
 use Rattle.solution.specs.Elimination.{Verdict, solved, none, boole_answers, boole_table, solve}
-use Rattle.solution.proofs.Order.{fits_bytes}
+use Rattle.solution.proofs.Order.{fits_bytes, fits_order}
 use Rattle.facts.specs.Inner.Kept.{kept_words}
 use Rattle.facts.proofs.Kept.{values_where}
-use Rattle.solver.specs.Inner.Methods.{value_words, verdict, solve_words}
+use Rattle.solver.specs.Inner.Methods.{posed, value_words, verdict, solve_words}
 use Rattle.solver.proofs.OnWords.{solved_by_values, none_by_values}
 use Rattle.entry.specs.Record.{Record, fields, low_first, body_of, condition_record, answer_record, start_record, end_record}
 use Rattle.entry.specs.Record.{is_default, bytes}
@@ -40,10 +40,12 @@ use Rattle.entry.proofs.Verdicts.{VerdictFits, solve_fits}
 use Rattle.calls.specs.declared.Verdict.{Verdict as Answer}
 use Rattle.calls.specs.declared.Verdict.TheVariants as answers
 use Rattle.writer.specs.declared.Listing.{Listing}
-use Rattle.writer.specs.declared.Listing.TheVariants.{Solved, None}
 use Rattle.writer.specs.Inner.Steps.{answer_part, answer_codes, size_of, archived_order, archived_fact, archived_heads, entry_from}
-use Rattle.writer.specs.Inner.Steps.{Lists, Listable, packed_condition, AreKept, Ready, Headed, Sized, hand_out}
-use Rattle.writer.proofs.Monomials.{listed_both, packed, packed_values, packed_table}
+use Rattle.writer.specs.Inner.Steps.{Lists, Listable, packed, AreKept, Ready, Sized, hand_out}
+use Rattle.writer.proofs.Monomials.{listed_both, packed as packed_at, packed_values, packed_table}
+use Rattle.tables.specs.declared.Letters.{Letters}
+use Rattle.solver.specs.declared.ordered.OrderedLetters.{OrderedLetters}
+use Rattle.std.specs.Prelude.{Some, None}
 
 -- ---- the answers
 -- the monomials of the answer for unknown j
@@ -109,7 +111,7 @@ module _ (U G : ℕ) (o fact coefficients : List ℕ) where
         → length (bytes (verdict_records U (U + G) (solve the_condition))) ≡ length (bytes (verdict_records U (U + G) v))
     said-length e = ap (λ (v : Verdict (List ℕ)). length (bytes (verdict_records U (U + G) v))) e
 
-    pub none_lists : {state : State} {s : ℕ} → s ≡ state.0 → solve the_condition ≡ none state → Lists the_condition (None told s) codes
+    pub none_lists : {state : State} {s : ℕ} → s ≡ state.0 → solve the_condition ≡ none state → Lists the_condition (record { of_condition = told; all = told; none = Some s }) codes
     unfolding entry entry_from entry_records verdict_records bytes fields body_of low_first
     none_lists {state} {s} es e =
         record {
@@ -120,7 +122,7 @@ module _ (U G : ℕ) (o fact coefficients : List ℕ) where
           size = none_size;
         }
       where
-        none_size : (route : ℕ) → 6 + (length (bytes heads) + (3 * told + 2)) ≡ length (entry route the_condition)
+        none_size : (route : ℕ) → 6 + (length (bytes heads) + (3 * told + 4 * (told - told) + 2)) ≡ length (entry route the_condition)
         none_size route =
             omega (
               arith,
@@ -143,7 +145,7 @@ module _ (U G : ℕ) (o fact coefficients : List ℕ) where
           ∙ map-append listed_record (tagged 0 (monomials (U + G) (bit_at coefficients))) (answer_codes U (U + G) ws)
           ∙ ap₂ (λ (x y : List Record). x ++ y) first_listed then_listed
 
-      pub solved_lists : Lists the_condition (Solved told all) codes'
+      pub solved_lists : Lists the_condition (record { of_condition = told; all = all; none = None }) codes'
       unfolding entry entry_from entry_records verdict_records
       solved_lists =
           record {
@@ -158,7 +160,7 @@ module _ (U G : ℕ) (o fact coefficients : List ℕ) where
           }
         where
           solved_size : (route : ℕ)
-              → 6 + (length (bytes heads) + (3 * told + 4 * (all - told))) ≡ length (entry route the_condition)
+              → 6 + (length (bytes heads) + (3 * told + 4 * (all - told) + 0)) ≡ length (entry route the_condition)
           solved_size route =
               omega (
                 arith,
@@ -173,62 +175,79 @@ module _ (U G : ℕ) (o fact coefficients : List ℕ) where
                 ap length then_listed,
               )
 
-  -- the verdict by values is the entry's
-  module _ {values : List ℕ} (ev : values ≡ value_words the_condition) (v : Answer) (ws : List ℕ)
-      (says : (fact t : List ℕ) → values ≡ value_words (under_fact U G o fact t) → verdict v ws ≡ solve_words (under_fact U G o fact t)) where
-    said : verdict v ws ≡ solve_words the_condition
-    said = says fact the_condition.table ev
+-- ---- by the verdict
+module _ (o : OrderedLetters) (fact coefficients : List ℕ) {values : List ℕ} (ev : values ≡ value_words (packed o fact coefficients)) (v : Answer)
+    (ws : List ℕ) (says : (fact t : List ℕ) → values ≡ value_words (posed o fact t) → verdict v ws ≡ solve_words (posed o fact t)) where
+  abbrev U : ℕ
+  U = o.letters.unknowns
 
-    pub said_none : {state : State} → v ≡ answers.None state → solve the_condition ≡ none state
-    said_none {state} e = none_by_values the_condition state (rw e at said)
+  abbrev G : ℕ
+  G = o.letters.givens
 
-    pub said_solved : v ≡ answers.Solved
-        → (solve the_condition ≡ solved (answer_table U (U + G) (boole_answers (U + G) (polynomial the_condition) o)))
-        × (ws ≡ answer_words U (2 ^ (U + G - 6)) (λ j. value (U + G) (boole_answers (U + G) (polynomial the_condition) o j)))
-    unfolding boole_table
-    said_solved e = solved_by_values the_condition ws (rw e at said)
+  abbrev c : Condition
+  c = packed o fact coefficients
 
-    -- a state is a byte
-    pub state_byte : {state : State} → IsOrder U o → v ≡ answers.None state → G ≤ 8 → state.0 < 256
-    state_byte {state} is e h =
-        let f : VerdictFits U G (none state) = rw (said_none e) at (solve_fits the_condition is) in
-        let b : 2 ^ G ≤ 2 ^ 8 = pow_mono h in
-        omega arith
+  small : U + G ≤ 10
+  small = rw o.letters.n_is at o.letters.n_fits
 
-    -- all of it, by the verdict
-    module _ (h : U + G ≤ 10) {old codes : List ℕ} {told : ℕ}
-        (w : Listed old 0 (tagged 0 (monomials (U + G) (bit_at coefficients))) told codes) where
-      pub lists_solved : {all : ℕ} {codes' : List ℕ} → v ≡ answers.Solved → Listed codes told (answer_codes U (U + G) ws) all codes'
-          → Lists the_condition (Solved told all) codes'
-      lists_solved e a = let s = said_solved e in solved_lists h w a _ s.1 s.0
+  said : verdict v ws ≡ solve_words c
+  said = says fact c.table ev
 
-      pub lists_none : {state : State} → v ≡ answers.None state → Lists the_condition (None told state.0) codes
-      lists_none e = none_lists h w refl (said_none e)
+  said_none : {state : State} → v ≡ answers.None state → solve c ≡ none state
+  said_none {state} e = none_by_values c state (rw e at said)
+
+  said_solved : v ≡ answers.Solved
+      → (solve c ≡ solved (answer_table U (U + G) (boole_answers (U + G) (polynomial c) c.order)))
+      × (ws ≡ answer_words U (2 ^ (U + G - 6)) (λ j. value (U + G) (boole_answers (U + G) (polynomial c) c.order j)))
+  unfolding boole_table
+  said_solved e = solved_by_values c ws (rw e at said)
+
+  -- a state is a byte
+  pub state_byte : {state : State} → o.letters.givens ≤ 8 → v ≡ answers.None state → state.0 < 256
+  state_byte {state} h e =
+      let f : VerdictFits U G (none state) = rw (said_none e) at (solve_fits c (fits_order _ _ o.in_order)) in
+      let b : 2 ^ G ≤ 2 ^ 8 = pow_mono h in
+      omega arith
+
+  -- all of it
+  module _ {old codes : List ℕ} {told : ℕ} (w : Listed old 0 (tagged 0 (monomials o.letters.n (bit_at coefficients))) told codes) where
+    pub lists_solved : {all : ℕ} {codes' : List ℕ} → v ≡ answers.Solved
+        → Listed codes told (answer_codes o.letters.unknowns o.letters.n ws) all codes'
+        → Lists (packed o fact coefficients) (record { of_condition = told; all = all; none = None }) codes'
+    lists_solved e a =
+        let s = said_solved e in
+        solved_lists U G c.order fact coefficients small (rw o.letters.n_is at w) (rw o.letters.n_is at a) _ s.1 s.0
+
+    pub lists_none : {state : State} → v ≡ answers.None state
+        → Lists (packed o fact coefficients) (record { of_condition = told; all = told; none = Some state.0 }) codes
+    lists_none e = none_lists U G c.order fact coefficients small (rw o.letters.n_is at w) refl (said_none e)
 
 -- ---- what was listed is the entry
 -- a condition's table in words, and the values of f*(1 + g)
-module _ (U G : ℕ) (bs t coefficients : List ℕ) (is : IsTable (U + G) t) (e : coefficients ≡ words_of (2 ^ (U + G - 6)) (present t)) where
-  again : table (U + G) (bit_at coefficients) ≡ t
-  again = packed_table (U + G) t coefficients is e
+module _ (o : OrderedLetters) (t coefficients : List ℕ) (is : IsTable o.letters.n t)
+    (e : coefficients ≡ words_of (2 ^ (o.letters.n - 6)) (present t)) where
+  again : table (o.letters.unknowns + o.letters.givens) (bit_at coefficients) ≡ t
+  again = rw o.letters.n_is at (packed_table o.letters.n t coefficients is e)
 
-  values_of : {kept before values : List ℕ} → before ≡ words_of (2 ^ (U + G - 6)) (value (6 + (U + G - 6)) (bit_at coefficients))
+  values_of : {kept before values : List ℕ} → before ≡ words_of (2 ^ (o.letters.n - 6)) (value (6 + (o.letters.n - 6)) (bit_at coefficients))
       → values ≡ words_of (length before) (λ p. bit_at before p && bit_at kept p)
-      → (fact : List ℕ) → kept ≡ kept_words (U + G) fact → values ≡ value_words (packed_condition U G bs fact coefficients)
+      → (fact : List ℕ) → kept ≡ kept_words o.letters.n fact → values ≡ value_words (packed o fact coefficients)
   values_of {kept} {before} {values} eb ev fact ek =
-      values_where (U + G) t fact kept before values ek
-      (packed_values (U + G) t coefficients is e before eb
-      ∙ words_cong (2 ^ (U + G - 6)) _ _ (λ p l. value_cong (U + G) _ _ p (λ m k. packed (U + G) t coefficients is e m k))) ev
-      ∙ ap (λ (f : List ℕ). words_of (2 ^ (U + G - 6)) (value (U + G) (present (table_where_zero (U + G) f fact)))) (sym again)
+      let n = o.letters.n in
+      let made : values ≡ words_of (2 ^ (n - 6)) (value n (present (table_where_zero n t fact))) =
+      values_where n t fact kept before values ek
+      (packed_values n t coefficients is e before eb
+      ∙ words_cong (2 ^ (n - 6)) _ _ (λ p l. value_cong n _ _ p (λ m k. packed_at n t coefficients is e m k))) ev in
+      rw o.letters.n_is at made
+      ∙ ap (λ (f : List ℕ). value_words (posed o fact f)) (sym again)
 
-  pub table_listable : {kept before values masks : List ℕ} → U ≤ 6 → G ≤ 8 → U + G ≤ 10
-      → before ≡ words_of (2 ^ (U + G - 6)) (value (6 + (U + G - 6)) (bit_at coefficients))
-      → values ≡ words_of (length before) (λ p. bit_at before p && bit_at kept p) → AreKept (U + G) kept → masks ≡ order (U + G)
-      → Listable U G bs coefficients values masks
-  table_listable unknowns givens letters eb ev kept em =
+  pub table_listable : {kept before values masks : List ℕ} → o.letters.givens ≤ 8
+      → before ≡ words_of (2 ^ (o.letters.n - 6)) (value (6 + (o.letters.n - 6)) (bit_at coefficients))
+      → values ≡ words_of (length before) (λ p. bit_at before p && bit_at kept p) → AreKept o.letters.n kept → masks ≡ order o.letters.n
+      → Listable o coefficients values masks
+  table_listable givens eb ev kept em =
       record {
-        unknowns = unknowns;
         givens = givens;
-        letters = letters;
         words = size_words _ _ _ e;
         fact = kept.fact;
         values_are = values_of eb ev kept.fact kept.are;
@@ -236,60 +255,60 @@ module _ (U G : ℕ) (bs t coefficients : List ℕ) (is : IsTable (U + G) t) (e 
       }
 
   pub table_lists : {kept before values codes : List ℕ} {found : Listing}
-      → before ≡ words_of (2 ^ (U + G - 6)) (value (6 + (U + G - 6)) (bit_at coefficients))
+      → before ≡ words_of (2 ^ (o.letters.n - 6)) (value (6 + (o.letters.n - 6)) (bit_at coefficients))
       → values ≡ words_of (length before) (λ p. bit_at before p && bit_at kept p)
-      → ((fact : List ℕ) → values ≡ value_words (packed_condition U G bs fact coefficients)
-      → Lists (packed_condition U G bs fact coefficients) found codes)
-      → (fact : List ℕ) → kept ≡ kept_words (U + G) fact → Lists (under_fact U G (take U bs) fact t) found codes
-  table_lists {kept} {before} {values} {codes} {found} eb ev lists fact ek =
-      rw again at (lists fact (values_of eb ev fact ek))
+      → ((fact : List ℕ) → values ≡ value_words (packed o fact coefficients) → Lists (packed o fact coefficients) found codes)
+      → (fact : List ℕ) → kept ≡ kept_words o.letters.n fact → Lists (posed o fact t) found codes
+  table_lists {kept} {before} {values} {codes} {found} eb ev lists fact ek = rw again at (lists fact (values_of eb ev fact ek))
 
 -- the records of an order that passes 17 and of a fact
-heads_are : (U G : ℕ) (bs fact t : List ℕ) → order_fits U bs ≡ true
-    → order_records (under_fact U G (take U bs) fact t) ++ fact_records (under_fact U G (take U bs) fact t) ≡ archived_heads U G bs fact
+heads_are : (U n G : ℕ) (bs fact t : List ℕ) → n ≡ U + G → order_fits U bs ≡ true
+    → order_records (under_fact U G (take U bs) fact t) ++ fact_records (under_fact U G (take U bs) fact t) ≡ archived_heads U n bs fact
 unfolding order_records archived_order fact_records archived_fact
-heads_are U G bs fact t fits =
-    ap (λ (l : List Record). l ++ archived_fact (U + G) fact)
+heads_are U n G bs fact t en fits =
+    rw en
+    (ap (λ (l : List Record). l ++ archived_fact (U + G) fact)
     (ap (λ (r : Record). cond (is_default U (order_bytes (take U bs))) [] (r ∷ [])) (order_body (take U bs))
-    ∙ ap (λ (l : List ℕ). cond (is_default U l) [] ((6 ∷ l) ∷ [])) (sym (fits_bytes U bs fits)))
+    ∙ ap (λ (l : List ℕ). cond (is_default U l) [] ((6 ∷ l) ∷ [])) (sym (fits_bytes U bs fits))))
 
--- the fact and the masks that its records are put by
-pub ready_headed : (U G : ℕ) (bs fact t : List ℕ) → Ready U G bs fact t → {k : ℕ} (masks : List ℕ) → k ≡ 2 ^ (U + G)
-    → take (2 ^ (U + G)) masks ≡ order (U + G) → Headed U G fact (take k masks)
-ready_headed U G bs fact t r {k} masks ek em =
-    record {
-      unknowns = r.unknowns;
-      givens = r.givens;
-      letters = r.letters;
-      of_fact = r.of_fact;
-      ordered = ap (λ (x : ℕ). take x masks) ek ∙ em;
-    }
+module _ (route : ℕ) (o : OrderedLetters) (fact t : List ℕ) (r : Ready o fact t) {found : Listing} {codes : List ℕ}
+    (w : Lists (posed o fact t) found codes) where
+  abbrev l : Letters
+  l = o.letters
 
-module _ (route U G : ℕ) (bs fact t : List ℕ) (r : Ready U G bs fact t) {found : Listing} {codes : List ℕ}
-    (w : Lists (under_fact U G (take U bs) fact t) found codes) where
+  abbrev posed_is : Condition
+  posed_is = posed o fact t
+
+  abbrev archived : List Record
+  archived = archived_heads o.letters.unknowns o.letters.n o.order fact
+
   abbrev made : List ℕ
-  made = bytes (entry_from route U G (archived_heads U G bs fact) found codes)
+  made = bytes (entry_from route l.unknowns l.givens archived found codes)
 
-  abbrev c : Condition
-  c = under_fact U G (take U bs) fact t
+  same_heads : order_records posed_is ++ fact_records posed_is ≡ archived
+  same_heads = heads_are l.unknowns l.n l.givens o.order fact t l.n_is o.in_order
 
-  made_is : made ≡ entry route c
+  made_is : made ≡ entry route posed_is
   unfolding entry
   made_is =
-      ap (λ (heads : List Record). bytes (entry_from route U G heads found codes)) (sym (heads_are U G bs fact t r.in_order))
+      ap (λ (heads : List Record). bytes (entry_from route l.unknowns l.givens heads found codes)) (sym same_heads)
       ∙ ap bytes (w.records route)
 
-  pub lists_sized : Sized (archived_heads U G bs fact) found codes made
+  pub lists_sized : Sized archived found codes made
   unfolding entry
   lists_sized =
       record {
         told = w.told;
         count = w.count;
-        size = ap (λ (heads : List Record). 6 + (length (bytes heads) + size_of found)) (sym (heads_are U G bs fact t r.in_order))
+        size = ap (λ (heads : List Record). 6 + (length (bytes heads) + size_of found)) (sym same_heads)
             ∙ w.size route ∙ sym (ap length made_is);
-        small = omega (arith, ap length made_is, entry_most route c (solve c) r.unknowns r.givens r.letters r.fact_letters);
+        small = omega (
+          arith,
+          ap length made_is,
+          entry_most route posed_is (solve posed_is) l.unknowns_fit r.givens (rw l.n_is at l.n_fits) r.fact_letters,
+        );
       }
 
   -- question 14 of its bytes is that of the entry
-  pub lists_out : {done : Answered Reply} (out : List ℕ) → done ≡ hand_out made out → done ≡ hand_out (entry route c) out
+  pub lists_out : {done : Answered Reply} (out : List ℕ) → done ≡ hand_out made out → done ≡ hand_out (entry route posed_is) out
   lists_out out e = e ∙ ap (λ (bytes : List ℕ). hand_out bytes out) made_is

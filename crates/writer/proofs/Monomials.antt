@@ -1,21 +1,20 @@
 -- Monomials as numbers, listed one behind another: those of one polynomial from the words of its values, and those of the answers, unknown
 -- by unknown.
 -- Assumes nothing.
-use mathlib.Core.Path.{◌≡◌, refl, sym, ap, ap₂, ◌∙◌}
+use mathlib.Core.Path.{◌≡◌, refl, sym, ap, ◌∙◌}
 use mathlib.Core.List.{List, [], ◌++◌, append_assoc, append-nil}
 use Prim.Native.Nat.{ℕ, zero, suc, ◌+◌, ◌-◌, ◌*◌, ◌^◌, ◌≤◌, ◌<◌}
-use native.Mathlib.Nat.{add-zero, suc-mul, add-mul, mul-one, one-mul, mul-le-mul, mul-le-mul_right}
+use native.Mathlib.Nat.{add-zero, suc-mul, add-mul, one-mul, mul-le-mul_right}
 use native.Mathlib.Numerals.{add-one}
 use native.Mathlib.Omega.{arith}
 use lib.ListN.{length, take, drop, length-append}
-use lib.Seq.{length-take-le}
 use Rattle.ring.specs.Polynomial.{Polynomial, value}
 use Rattle.ring.specs.Table.{IsTable, present, table, tabulate}
 use Rattle.ring.proofs.Table.{same_table, is-table, present-tabulate}
 use Rattle.ring.proofs.Value.{value_cong}
 use Rattle.words.specs.Inner.Words.{words_of, bit_at}
 use Rattle.words.proofs.Words.{at_known, words_cong}
-use Rattle.words.proofs.Letters.{room, value_low, values_taken, count_small}
+use Rattle.words.proofs.Letters.{room, value_low, values_taken}
 use Rattle.order.specs.Order.{monomials}
 use Rattle.order.specs.Inner.Listing.{tagged, Listed}
 use Rattle.order.proofs.Order.{monomials_same}
@@ -29,13 +28,6 @@ pub transformed : (n : ℕ) (words own : List ℕ) → own ≡ words_of (2 ^ (n 
     → bit_at own p ≡ value n (bit_at words) p
 transformed n words own e p l =
     at_known (2 ^ (n - 6)) _ own e p (omega (arith, room n)) ∙ value_low n (bit_at words) p l
-
-pub same_size : (n : ℕ) {words own : List ℕ} {c : ℕ} → own ≡ words → length words ≡ 2 ^ (n - 6) → c ≡ n - 6 → length own ≡ 2 ^ c
-same_size n e size ec = rw ec (ap length e ∙ size)
-
-pub turned_over : (n : ℕ) {c : ℕ} {words own out : List ℕ} → c ≡ n - 6 → own ≡ words → out ≡ words_of (2 ^ c) (value (6 + c) (bit_at own))
-    → out ≡ words_of (2 ^ (n - 6)) (value (6 + (n - 6)) (bit_at words))
-turned_over n {c} {words} {own} ec e eo = eo ∙ ap₂ (λ (x : ℕ) (l : List ℕ). words_of (2 ^ x) (value (6 + x) (bit_at l))) ec e
 
 pub listed-values : (n tag : ℕ) (words own : List ℕ) → own ≡ words_of (2 ^ (n - 6)) (value (6 + (n - 6)) (bit_at words))
     → {old new : List ℕ} {from r : ℕ}
@@ -114,37 +106,6 @@ pub answers_room : (U n : ℕ) (f : Polynomial) (tag : ℕ) {told : ℕ} {old co
     → Listed old 0 (tagged tag (monomials n f)) told codes → told + U * 2 ^ n ≤ length codes
 answers_room U n f tag {old = old} r w =
     omega (arith, both U n (length old) r, w.place, w.long, length-tagged tag (monomials n f), monomials_most n f)
-
-pub words_fit : (u k n : ℕ) → u ≤ 6 → k ≡ 2 ^ (n - 6) → n ≤ 10 → u * k ≤ 96
-words_fit u k n h e hn = let m : u * k ≤ 6 * 16 = mul-le-mul h (count_small k n e hn) in omega arith
-
--- the parts of scratch words that are lent on, for one polynomial and for u of them
-module _ (k n : ℕ) (l : List ℕ) (e : k ≡ 2 ^ (n - 6)) (h : n ≤ 10) where
-  pub words_part : length l ≡ 16 → k ≡ length (take k l)
-  words_part s = let few : k ≤ 16 = count_small k n e h in sym (length-take-le k l (omega arith))
-
-  pub words_size : length l ≡ 16 → length (take k l) ≡ 2 ^ (n - 6)
-  words_size s = sym (words_part s) ∙ e
-
-  pub answers_part : (u : ℕ) → u ≤ 6 → length l ≡ 96 → u * k ≡ length (take (u * k) l)
-  answers_part u hu s = let few : u * k ≤ 96 = words_fit u k n hu e h in sym (length-take-le (u * k) l (omega arith))
-
-  pub answers_size : (u : ℕ) → u ≤ 6 → length l ≡ 96 → length (take (u * k) l) ≡ u * 2 ^ (n - 6)
-  answers_size u hu s = sym (answers_part u hu s) ∙ ap (λ (x : ℕ). u * x) e
-
--- up to six letters have one word to a polynomial
-module _ (n : ℕ) (l : List ℕ) (h : n ≤ 6) where
-  one : 1 ≡ 2 ^ (n - 6)
-  one = let z : 0 ≡ n - 6 = omega arith in ap (λ (x : ℕ). 2 ^ x) z
-
-  pub few_size : length l ≡ 1 → length l ≡ 2 ^ (n - 6)
-  few_size s = s ∙ one
-
-  pub few_answers_part : (u : ℕ) → u ≤ 6 → length l ≡ 6 → u ≡ length (take u l)
-  few_answers_part u hu s = sym (length-take-le u l (omega arith))
-
-  pub few_answers_size : (u : ℕ) → u ≤ 6 → length l ≡ 6 → length (take u l) ≡ u * 2 ^ (n - 6)
-  few_answers_size u hu s = sym (few_answers_part u hu s) ∙ sym (mul-one u) ∙ ap (λ (x : ℕ). u * x) one
 
 -- ---- a table, packed
 module _ (n : ℕ) (t ws : List ℕ) (is : IsTable n t) (e : ws ≡ words_of (2 ^ (n - 6)) (present t)) where

@@ -8,11 +8,11 @@ use mathlib.Core.Logic.{◌⊎◌, inl, inr}
 use Prim.Native.Nat.{ℕ, zero, suc, ◌+◌, ◌-◌, ◌*◌, ◌/◌, ◌%◌, ◌^◌, ◌≤◌, ◌<◌}
 use native.Mathlib.Numerals.{add-one}
 use native.Mathlib.Omega.{arith}
-use lib.Pow.{pow_mono}
 use lib.Dec.{eqb, ltb}
 use lib.ListN.{length, get_or, take, drop, length-append, length-drop}
 use borrow.Author.Tests.{eq-eqb, ne_eqb, ltb-true, ltb-false}
-use lib.Seq.{take_at, length-take-le}
+use lib.Seq.{take_at, sets-eq}
+use borrow.Rule.Slice.PartMut.{put_mid, Post-is}
 use Rattle.ring.specs.Letters.{digit}
 use Rattle.ring.specs.Polynomial.{count}
 use Rattle.ring.specs.Table.{AreBits, present}
@@ -21,7 +21,6 @@ use Rattle.tables.specs.Inner.Put.{Put}
 use Rattle.tables.proofs.Put.{put_length, put_both, put_same, put_none}
 use Rattle.order.specs.Order.{order as written_order, keep, monomials}
 use Rattle.order.proofs.Order.{length-order, order_below, length-monomials}
-use Rattle.solution.proofs.OrderAsked.{six_members}
 use Rattle.entry.specs.Record.{Record, fields, low_first, body_of, end_record, fact_record, bytes, is_default}
 use Rattle.entry.specs.Inner.Codes.{listed_record}
 use Rattle.entry.proofs.Back.{bytes-append}
@@ -29,9 +28,23 @@ use Rattle.entry.proofs.Bound.{fact_bytes}
 use Rattle.entry.proofs.Codes.{condition_listed, answer_listed, each, each_bytes, Putting, putting_start, part_fits, putting_more}
 use Rattle.entry.proofs.Codes.{putting_end, putting_all}
 use Rattle.writer.specs.declared.Listing.{Listing}
-use Rattle.writer.specs.declared.Listing.TheVariants.{Solved, None}
-use Rattle.writer.specs.Inner.Steps.{count_of, told_of, none_of, size_of, archived_order, archived_fact, archived_heads, fact_part}
+use Rattle.writer.specs.Inner.Steps.{none_records, archived_order, archived_fact, archived_heads, fact_part}
 use Rattle.writer.specs.Inner.Steps.{entry_from}
+
+-- ---- bytes that are copied to their place
+pub put_part : (old vs : List ℕ) (at k : ℕ) {part : List ℕ} → part ≡ vs → k ≡ length vs → at + length vs ≤ length old
+    → Put old at vs (at + k) (put_mid at (at + k - at) old part)
+put_part old vs at k e ek h =
+    rw ek
+    (record {
+      place = refl;
+      inside = h;
+      bytes =
+          ap (put_mid at (at + length vs - at) old) e
+          ∙ ap (λ (l : List ℕ). take at old ++ (vs ++ l)) (Post-is at (at + length vs) old (omega arith))
+          ∙ sym (append_assoc (take at old) vs _)
+          ∙ sym (sets-eq vs old at h);
+    })
 
 -- ---- one monomial
 module _ (code : ℕ) where
@@ -85,12 +98,6 @@ module _ {codes old : List ℕ} {from p at : ℕ} {new : List ℕ} (w : Writing 
 
   pub writing_end : length codes ≤ p → Put old from (bytes (map listed_record codes)) at new
   writing_end l = put_same (putting_end w l) (each_bytes codes)
-
--- ---- the record of an order
-pub order_put : {order : List ℕ} {at half r : ℕ} {l₀ l₁ l₂ : List ℕ} → length order ≡ 6
-    → Put l₀ at (6 ∷ get_or order 0 0 ∷ get_or order 1 0 ∷ get_or order 2 0 ∷ []) half l₁
-    → Put l₁ half (get_or order 3 0 ∷ get_or order 4 0 ∷ get_or order 5 0 ∷ []) r l₂ → Put l₀ at (6 ∷ order) r l₂
-order_put {order} six p q = put_same (put_both p q) (ap (λ (l : List ℕ). 6 ∷ l) (six_members order six))
 
 module _ (U : ℕ) (order : List ℕ) {default : Bool} (asked : default ≡ is_default U order) where
   pub order_left : default ≡ true → bytes (archived_order U order) ≡ []
@@ -197,10 +204,6 @@ module _ (n : ℕ) (fact masks old : List ℕ) (em : masks ≡ written_order n) 
           let few : length (written_order n) ≤ p = rw em at (ltb-false p (length masks) h) in
           absurd (omega (arith, (putting_end w few).place, ap length (whole_fact n fact)))
 
-  pub few_masks : n ≤ 10 → at < end → p < 1024
-  few_masks h l =
-      let k : length masks ≡ 2 ^ n = ap length em ∙ length-order n in let few : 2 ^ n ≤ 1024 = pow_mono h in omega (arith, masks_left l)
-
   module _ (l : at < end) {m : ℕ} (ex : m ≡ get_or masks p 0) where
     mask_is : m ≡ get_or (written_order n) p 0
     mask_is = ex ∙ ap (λ (ms : List ℕ). get_or ms p 0) em
@@ -223,39 +226,44 @@ module _ (n : ℕ) (fact masks old : List ℕ) (em : masks ≡ written_order n) 
   pub facts_end : end ≤ at → Put old from (bytes (archived_fact n fact)) at new
   facts_end l = put_same (putting_all w (omega (arith, ap length (whole_fact n fact)))) (whole_fact n fact)
 
+-- .. or all masks are through
+pub facts_all : (n : ℕ) (fact masks old : List ℕ) → masks ≡ written_order n → {from p at : ℕ} {new : List ℕ}
+    → Facts n fact old from p at new → length masks ≤ p → Put old from (bytes (archived_fact n fact)) at new
+facts_all n fact masks old em w l = put_same (putting_end w (rw em at l)) (whole_fact n fact)
+
 -- ---- what stands between the start and the condition
-module _ (U G : ℕ) (order fact : List ℕ) where
-  heads_bytes : bytes (archived_heads U G order fact) ≡ bytes (archived_order U order) ++ bytes (archived_fact (U + G) fact)
-  heads_bytes = bytes-append (archived_order U order) (archived_fact (U + G) fact)
+module _ (U n : ℕ) (order fact : List ℕ) where
+  heads_bytes : bytes (archived_heads U n order fact) ≡ bytes (archived_order U order) ++ bytes (archived_fact n fact)
+  heads_bytes = bytes-append (archived_order U order) (archived_fact n fact)
 
-  heads_length : length (bytes (archived_heads U G order fact))
-      ≡ length (bytes (archived_order U order)) + length (bytes (archived_fact (U + G) fact))
-  heads_length = ap length heads_bytes ∙ length-append (bytes (archived_order U order)) (bytes (archived_fact (U + G) fact))
+  heads_length : length (bytes (archived_heads U n order fact))
+      ≡ length (bytes (archived_order U order)) + length (bytes (archived_fact n fact))
+  heads_length = ap length heads_bytes ∙ length-append (bytes (archived_order U order)) (bytes (archived_fact n fact))
 
-  pub heads_size : {o facts : ℕ} → o ≡ length (bytes (archived_order U order)) → facts ≡ length (bytes (archived_fact (U + G) fact))
-      → o + facts ≡ length (bytes (archived_heads U G order fact))
+  pub heads_size : {o facts : ℕ} → o ≡ length (bytes (archived_order U order)) → facts ≡ length (bytes (archived_fact n fact))
+      → o + facts ≡ length (bytes (archived_heads U n order fact))
   heads_size eo ef = omega (arith, heads_length)
 
-  module _ (route : ℕ) (codes : List ℕ) where
-    pub start_fits : (room : ℕ) → 4 + (length (bytes (archived_heads U G order fact)) + length codes) ≤ room
+  module _ (route G : ℕ) (codes : List ℕ) where
+    pub start_fits : (room : ℕ) → 4 + (length (bytes (archived_heads U n order fact)) + length codes) ≤ room
         → 4 + length (bytes (archived_order U order)) ≤ room
     start_fits room h = omega (arith, heads_length)
 
     module _ {a : ℕ} {l₀ l₁ : List ℕ} (p : Put l₀ 0 (1 ∷ route ∷ U ∷ G ∷ bytes (archived_order U order)) a l₁)
-        (h : 4 + (length (bytes (archived_heads U G order fact)) + length codes) ≤ length l₀) where
-      pub fact_fits : {size : ℕ} → size ≡ length (bytes (archived_fact (U + G) fact))
-          → (a + size ≡ a + length (bytes (archived_fact (U + G) fact))) × (a + size ≤ length l₁)
+        (h : 4 + (length (bytes (archived_heads U n order fact)) + length codes) ≤ length l₀) where
+      pub fact_fits : {size : ℕ} → size ≡ length (bytes (archived_fact n fact))
+          → (a + size ≡ a + length (bytes (archived_fact n fact))) × (a + size ≤ length l₁)
       fact_fits e = (ap (λ (x : ℕ). a + x) e, omega (arith, heads_length, p.place, put_length p))
 
-      module _ {b : ℕ} {l₂ : List ℕ} (q : Put l₁ a (bytes (archived_fact (U + G) fact)) b l₂) where
+      module _ {b : ℕ} {l₂ : List ℕ} (q : Put l₁ a (bytes (archived_fact n fact)) b l₂) where
         pub codes_fit : b + length codes ≤ length l₂
         codes_fit = omega (arith, heads_length, p.place, q.place, put_length p, put_length q)
 
         pub front_put : {r : ℕ} {l₃ : List ℕ} → Put l₂ b codes r l₃
-            → Put l₀ 0 (1 ∷ route ∷ U ∷ G ∷ (bytes (archived_heads U G order fact) ++ codes)) r l₃
+            → Put l₀ 0 (1 ∷ route ∷ U ∷ G ∷ (bytes (archived_heads U n order fact) ++ codes)) r l₃
         front_put c =
             put_same (put_both p (put_both q c)) (ap (λ (l : List ℕ). 1 ∷ route ∷ U ∷ G ∷ l)
-            (sym (append_assoc (bytes (archived_order U order)) (bytes (archived_fact (U + G) fact)) codes)
+            (sym (append_assoc (bytes (archived_order U order)) (bytes (archived_fact n fact)) codes)
             ∙ ap (λ (l : List ℕ). l ++ codes) (sym heads_bytes)))
 
 -- ---- the whole
@@ -268,89 +276,35 @@ module _ (route U G : ℕ) (heads : List Record) (found : Listing) (codes : List
   abbrev size : ℕ → ℕ
   size k = length (bytes heads) + length (bytes (map listed_record (take k codes)))
 
-  pub entry_parts : bytes (entry_from route U G heads found codes) ≡ front (count_of found) ++ (bytes (none_of found) ++ (4 ∷ route ∷ []))
+  -- what stands behind the monomials
+  abbrev end : List ℕ
+  end = bytes (none_records found.none ++ (end_record route ∷ []))
+
+  entry_parts : bytes (entry_from route U G heads found codes) ≡ front found.all ++ end
   unfolding entry_from bytes fields body_of low_first
   entry_parts =
-      let told = map listed_record (take (count_of found) codes) in
+      let told = map listed_record (take found.all codes) in
       ap (λ (l : List ℕ). (1 ∷ route ∷ U ∷ G ∷ []) ++ l)
-      (bytes-append heads (told ++ (none_of found ++ (end_record route ∷ [])))
-      ∙ ap (λ (l : List ℕ). bytes heads ++ l)
-      (bytes-append told (none_of found ++ (end_record route ∷ []))
-      ∙ ap (λ (l : List ℕ). bytes told ++ l) (bytes-append (none_of found) (end_record route ∷ [])))
-      ∙ sym (append_assoc (bytes heads) (bytes told) (bytes (none_of found) ++ (4 ∷ route ∷ []))))
-
-  parts_length : length (bytes (entry_from route U G heads found codes)) ≡ 6 + (size (count_of found) + length (bytes (none_of found)))
-  parts_length =
-      let monomials : List ℕ = bytes (map listed_record (take (count_of found) codes)) in
-      omega (
-        arith,
-        ap length entry_parts,
-        length-append (bytes heads) monomials,
-        length-append (bytes heads ++ monomials) (bytes (none_of found) ++ (4 ∷ route ∷ [])),
-        length-append (bytes (none_of found)) (4 ∷ route ∷ []),
-      )
+      (bytes-append heads (told ++ (none_records found.none ++ (end_record route ∷ [])))
+      ∙ ap (λ (l : List ℕ). bytes heads ++ l) (bytes-append told (none_records found.none ++ (end_record route ∷ [])))
+      ∙ sym (append_assoc (bytes heads) (bytes told) end))
 
   front_length : (k : ℕ) → length (front k) ≡ 4 + size k
   front_length k = omega (arith, length-append (bytes heads) (bytes (map listed_record (take k codes))))
 
-  module _ {told all : ℕ} (e : found ≡ Solved told all) where
-    pub solved_put : {a r : ℕ} {l₀ l₁ l₂ : List ℕ} → Put l₀ 0 (front all) a l₁ → Put l₁ a (4 ∷ route ∷ []) r l₂
-        → Put l₀ 0 (bytes (entry_from route U G heads found codes)) r l₂
-    unfolding bytes
-    solved_put p q = put_same (put_both p q) (sym (entry_parts ∙ rw e))
+  parts_length : length (bytes (entry_from route U G heads found codes)) ≡ 4 + size found.all + length end
+  parts_length = omega (arith, ap length entry_parts, length-append (front found.all) end, front_length found.all)
 
-    -- the room that the parts ask for
-    module _ {room : ℕ} (h : length (bytes (entry_from route U G heads found codes)) ≤ room) where
-      solved_room : 6 + size all ≤ room
-      unfolding bytes
-      solved_room = let p : 6 + (size all + 0) ≤ room = rw (parts_length, e) at h in omega arith
+  -- the room that the parts ask for
+  pub front_room : {room : ℕ} → length (bytes (entry_from route U G heads found codes)) ≤ room → 4 + size found.all ≤ room
+  front_room h = omega (arith, parts_length)
 
-      pub solved_front : 4 + size all ≤ room
-      solved_front = omega (arith, solved_room)
+  module _ {a : ℕ} {l₀ l₁ : List ℕ} (p : Put l₀ 0 (front found.all) a l₁) where
+    pub end_room : length (bytes (entry_from route U G heads found codes)) ≤ length l₀ → a + length end ≤ length l₁
+    end_room h = omega (arith, parts_length, p.place, front_length found.all, put_length p)
 
-    pub solved_end : {a : ℕ} {l₀ l₁ : List ℕ} → length (bytes (entry_from route U G heads found codes)) ≤ length l₀
-        → Put l₀ 0 (front all) a l₁ → a + 2 ≤ length l₁
-    solved_end h p = omega (arith, solved_room h, p.place, front_length all, put_length p)
-
-  module _ {told s : ℕ} (e : found ≡ None told s) where
-    pub none_put : {a b r : ℕ} {l₀ l₁ l₂ l₃ : List ℕ} → Put l₀ 0 (front told) a l₁
-        → Put l₁ a (5 ∷ s ∷ []) b l₂ → Put l₂ b (4 ∷ route ∷ []) r l₃ → Put l₀ 0 (bytes (entry_from route U G heads found codes)) r l₃
-    unfolding bytes fields body_of low_first
-    none_put p s q = put_same (put_both p (put_both s q)) (sym (entry_parts ∙ rw e))
-
-    module _ {room : ℕ} (h : length (bytes (entry_from route U G heads found codes)) ≤ room) where
-      none_room : 6 + (size told + 2) ≤ room
-      unfolding bytes fields body_of low_first
-      none_room = rw (parts_length, e) at h
-
-      pub none_front : 4 + size told ≤ room
-      none_front = omega (arith, none_room)
-
-    pub none_behind : {a : ℕ} {l₀ l₁ : List ℕ} → length (bytes (entry_from route U G heads found codes)) ≤ length l₀
-        → Put l₀ 0 (front told) a l₁ → a + 2 ≤ length l₁
-    none_behind h p = omega (arith, none_room h, p.place, front_length told, put_length p)
-
-    pub none_end : {a b : ℕ} {l₀ l₁ l₂ : List ℕ} → length (bytes (entry_from route U G heads found codes)) ≤ length l₀
-        → Put l₀ 0 (front told) a l₁ → Put l₁ a (5 ∷ s ∷ []) b l₂ → b + 2 ≤ length l₂
-    none_end h p q = omega (arith, none_room h, p.place, front_length told, put_length p, q.place, put_length q)
-
--- the numbers of which the parts are made
-pub solved_part : {found : Listing} {told all : ℕ} (codes : List ℕ) → found ≡ Solved told all → count_of found ≤ length codes
-    → all ≡ length (take all codes)
-solved_part {all = all} codes e h = sym (length-take-le all codes (rw e at h))
-
-pub none_part : {found : Listing} {told s : ℕ} (codes : List ℕ) → found ≡ None told s → count_of found ≤ length codes
-    → told ≡ length (take told codes)
-none_part {told = told} codes e h = sym (length-take-le told codes (rw e at h))
-
--- ---- its length
-module _ {found : Listing} (h : told_of found ≤ count_of found) (m : size_of found ≤ 27709) where
-  pub solved_size : {told all : ℕ} → found ≡ Solved told all
-      → (told ≤ all) × (3 * told + 4 * (all - told) ≤ 27709) × (3 * told + 4 * (all - told) ≡ size_of found)
-  solved_size e = (rw e at h, rw e at m, sym (ap size_of e))
-
-  pub none_size : {told s : ℕ} → found ≡ None told s → (3 * told + 2 ≤ 27709) × (3 * told + 2 ≡ size_of found)
-  none_size e = (rw e at m, sym (ap size_of e))
+    pub whole_put : {r : ℕ} {l₂ : List ℕ} → Put l₁ a end r l₂ → Put l₀ 0 (bytes (entry_from route U G heads found codes)) r l₂
+    whole_put q = put_same (put_both p q) (sym entry_parts)
 
 -- the masks for n letters stand at the front of the buffer that they were filled into
 pub ordered : (n : ℕ) {k : ℕ} {last : List ℕ} (rest : List ℕ) → k ≡ 2 ^ n → last ≡ written_order n ++ rest → take k last ≡ written_order n

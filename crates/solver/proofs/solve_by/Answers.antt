@@ -1,46 +1,21 @@
--- `solver::solve_by` meets its contract: the scratch has the length that the work needs.
+-- `solver::solve_by` meets its contract: 22 and 23, then the verdict by the values of f*(1 + g), and a method's tables if there is a
+-- solution.
 -- Assumes nothing.
-use mathlib.Core.Path.{sym, ap, ◌∙◌}
-use Prim.Native.Nat.{ℕ, ◌*◌, ◌≤◌}
-use native.Mathlib.Omega.{arith}
-use lib.Seq.{length-take-le}
-use Rattle.words.proofs.Letters.{count_small}
-use Rattle.solver.proofs.Tables.{words_fit}
+use Rattle.std.proofs.lemmas.Result.{err_from_is_err_and}
+use Rattle.solver.proofs.OnWords.{fact_refused, none_by, solved_by}
 use Rattle.solver.proofs.solve_by.Goals as goal
 
-pub overflow_mul-all : goal.overflow_mul-all
-overflow_mul-all c = let one : c.word_count-k.result ≤ 16 = count_small _ _ c.word_count-k.ensures c.requires.1 in
-    let each : c.args.u * c.word_count-k.result ≤ 96 = words_fit _ _ c.requires.0 (one) in
-    omega (arith, each)
+pub returns-in_err-take_where_zero : goal.returns-in_err-take_where_zero
+returns-in_err-take_where_zero c =
+    let no = err_from_is_err_and c.from_residual.result c.from_residual.ensures.1 in
+    rw (no.1, no.2) (fact_refused _ c.args.ordered _ _ _ _ c.in_err-take_where_zero.ensures.value)
 
-pub slice_bounds-values-end : goal.slice_bounds-values-end
-slice_bounds-values-end c = let one : c.word_count-k.result ≤ 16 = count_small _ _ c.word_count-k.ensures c.requires.1 in
-    one
+pub returns-in-Solved : goal.returns-in-Solved
+returns-in-Solved c =
+    solved_by _ c.args.ordered _ _ _ c.in_ok-take_where_zero.ensures.value _ _ c.copy.ensures c.in_ok-take_where_zero.ensures.values_after
+    (c.solve_values.ensures _ _) c.in-Solved.is (c.write_by.ensures.0 _ _ _) c.write_by.ensures.1 c.requires.2
 
-pub slice_bounds-solve_with-end : goal.slice_bounds-solve_with-end
-slice_bounds-solve_with-end c = let one : c.word_count-k.result ≤ 16 = count_small _ _ c.word_count-k.ensures c.requires.1 in
-    sym (length-take-le _ _ (one))
-
-pub slice_bounds-used-end : goal.slice_bounds-used-end
-slice_bounds-used-end c = let one : c.word_count-k.result ≤ 16 = count_small _ _ c.word_count-k.ensures c.requires.1 in
-    one
-
-pub slice_bounds-solve_with-end-2 : goal.slice_bounds-solve_with-end-2
-slice_bounds-solve_with-end-2 c = let one : c.word_count-k.result ≤ 16 = count_small _ _ c.word_count-k.ensures c.requires.1 in
-    sym (length-take-le _ _ (one))
-
-pub slice_bounds-found-end : goal.slice_bounds-found-end
-slice_bounds-found-end c = let one : c.word_count-k.result ≤ 16 = count_small _ _ c.word_count-k.ensures c.requires.1 in
-    let each : c.args.u * c.word_count-k.result ≤ 96 = words_fit _ _ c.requires.0 (one) in
-    each
-
-pub slice_bounds-solve_with-end-3 : goal.slice_bounds-solve_with-end-3
-slice_bounds-solve_with-end-3 c = let one : c.word_count-k.result ≤ 16 = count_small _ _ c.word_count-k.ensures c.requires.1 in
-    let each : c.args.u * c.word_count-k.result ≤ 96 = words_fit _ _ c.requires.0 (one) in
-    sym (length-take-le _ _ (each))
-
-pub solve_with-requires : goal.solve_with-requires
-solve_with-requires c = let one : c.word_count-k.result ≤ 16 = count_small _ _ c.word_count-k.ensures c.requires.1 in
-    let each : c.args.u * c.word_count-k.result ≤ 96 = words_fit _ _ c.requires.0 (one) in
-    let length_one = length-take-le _ _ (one) ∙ c.word_count-k.ensures in
-    let length-each = length-take-le _ _ (each) ∙ ap (λ (k : ℕ). c.args.u * k) c.word_count-k.ensures in record { u_bound = c.requires; values_len = (length_one, length_one, length-each) }
+pub returns-in-None : goal.returns-in-None
+returns-in-None c =
+    none_by _ c.args.ordered _ _ _ c.in_ok-take_where_zero.ensures.value _ _ c.copy.ensures c.in_ok-take_where_zero.ensures.values_after
+    (c.solve_values.ensures _ _) c.in-None.is

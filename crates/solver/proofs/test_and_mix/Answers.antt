@@ -1,44 +1,30 @@
--- `solver::test_and_mix` meets its contract: the scratch has the length that the work needs.
+-- `solver::test_and_mix` meets its contract: 22 and 23, the values of f*(1 + g), the handed polynomials put into a copy of them, and
+-- Löwenheim's formula if nothing is left.
 -- Assumes nothing.
-use mathlib.Core.Path.{sym, ap, ◌∙◌}
-use Prim.Native.Nat.{ℕ, ◌*◌, ◌≤◌}
-use native.Mathlib.Omega.{arith}
-use lib.Seq.{length-take-le}
+use Rattle.std.proofs.lemmas.Result.{err_from_is_err_and}
 use Rattle.words.proofs.Letters.{count_small}
+use Rattle.solver.proofs.Handed.{fact_refused_by, refused_by, mixed_by}
 use Rattle.solver.proofs.test_and_mix.Goals as goal
 
-pub overflow_mul-all : goal.overflow_mul-all
-overflow_mul-all c = let one : c.word_count-k.result ≤ 16 = count_small _ _ c.word_count-k.ensures c.requires.1 in
-    omega (arith, one)
+pub returns-in_err-take_where_zero : goal.returns-in_err-take_where_zero
+returns-in_err-take_where_zero c =
+    let no = err_from_is_err_and c.from_residual.result c.from_residual.ensures.1 in
+    rw (no.1, no.2) (fact_refused_by c.args.letters _ _ _ _ _ c.in_err-take_where_zero.ensures.value)
 
-pub slice_bounds-values-end : goal.slice_bounds-values-end
-slice_bounds-values-end c = let one : c.word_count-k.result ≤ 16 = count_small _ _ c.word_count-k.ensures c.requires.1 in
-    one
+pub first_one-requires : goal.first_one-requires
+first_one-requires c = count_small _ _ c.put_handed.ensures.1 c.args.letters.n_fits
 
-pub slice_bounds-test_and_mix_with-end : goal.slice_bounds-test_and_mix_with-end
-slice_bounds-test_and_mix_with-end c = let one : c.word_count-k.result ≤ 16 = count_small _ _ c.word_count-k.ensures c.requires.1 in
-    sym (length-take-le _ _ (one))
+pub returns-in_err-require : goal.returns-in_err-require
+returns-in_err-require c =
+    let no = err_from_is_err_and c.from_residual-in_err-require.result c.from_residual-in_err-require.ensures.1 in
+    let handed = c.in_err-require.ensures in
+    rw (no.1, no.2, handed.0)
+    (refused_by c.args.letters _ c.args.condition.now c.args.handed.now _ c.in_ok-take_where_zero.ensures.value _ _ _ _
+    c.in_ok-take_where_zero.ensures.values_after c.copy.ensures c.put_handed.ensures.1 c.first_one.ensures c.put_handed.ensures.0 handed.1)
 
-pub slice_bounds-own-end : goal.slice_bounds-own-end
-slice_bounds-own-end c = let one : c.word_count-k.result ≤ 16 = count_small _ _ c.word_count-k.ensures c.requires.1 in
-    one
-
-pub slice_bounds-test_and_mix_with-end-2 : goal.slice_bounds-test_and_mix_with-end-2
-slice_bounds-test_and_mix_with-end-2 c = let one : c.word_count-k.result ≤ 16 = count_small _ _ c.word_count-k.ensures c.requires.1 in
-    sym (length-take-le _ _ (one))
-
-pub slice_bounds-parts-end : goal.slice_bounds-parts-end
-slice_bounds-parts-end c = let one : c.word_count-k.result ≤ 16 = count_small _ _ c.word_count-k.ensures c.requires.1 in
-    let six : 6 * c.word_count-k.result ≤ 96 = omega (arith, one) in
-    six
-
-pub slice_bounds-test_and_mix_with-end-3 : goal.slice_bounds-test_and_mix_with-end-3
-slice_bounds-test_and_mix_with-end-3 c = let one : c.word_count-k.result ≤ 16 = count_small _ _ c.word_count-k.ensures c.requires.1 in
-    let six : 6 * c.word_count-k.result ≤ 96 = omega (arith, one) in
-    sym (length-take-le _ _ (six))
-
-pub test_and_mix_with-requires : goal.test_and_mix_with-requires
-test_and_mix_with-requires c = let one : c.word_count-k.result ≤ 16 = count_small _ _ c.word_count-k.ensures c.requires.1 in
-    let six : 6 * c.word_count-k.result ≤ 96 = omega (arith, one) in
-    let length_one = length-take-le _ _ (one) ∙ c.word_count-k.ensures in
-    let length-six = length-take-le _ _ (six) ∙ ap (λ (k : ℕ). 6 * k) c.word_count-k.ensures in record { u_bound = c.requires; values_len = (length_one, length_one, length-six) }
+pub returns : goal.returns
+returns c =
+    mixed_by c.args.letters _ c.args.condition.now c.args.handed.now _ c.in_ok-take_where_zero.ensures.value _ _ _ _
+    c.in_ok-take_where_zero.ensures.values_after c.copy.ensures c.put_handed.ensures.1 c.first_one.ensures c.put_handed.ensures.0
+    c.in_ok-require.ensures _ _ _ c.word_count-k.ensures.0 c.put_handed.ensures.2 c.write_mixed.ensures.0 _ c.write_mixed.ensures.1
+    c.requires.4

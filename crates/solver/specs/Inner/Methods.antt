@@ -1,12 +1,12 @@
 -- The three methods that ask question 9, and what solving by one of them does; the same on words of truth values.
 -- Assumes nothing.
-use Rattle.std.specs.Prelude.{cond, List, [], ◌∷◌, ◌++◌, ℕ, ◌-◌, ◌^◌}
+use Rattle.std.specs.Prelude.{cond, List, [], ◌∷◌, ◌++◌, ℕ, ◌-◌, ◌^◌, take}
 use Rattle.ring.specs.Polynomial.{value}
 use Rattle.tables.specs.declared.Question.TheVariants.{Letters, Order}
 use Rattle.tables.specs.Questions.{Asked, asks, letters_fit, buffer_questions}
 use Rattle.tables.specs.Answered.{Reply, Answered}
 use Rattle.words.specs.Inner.Words.{words_of, answer_words}
-use Rattle.solution.specs.Condition.{Condition, width, polynomial}
+use Rattle.solution.specs.Condition.{Condition, width, polynomial, under_fact}
 use Rattle.solution.specs.Order.{order_fits}
 use Rattle.solution.specs.Elimination.{boole_answers, boole_table, particular_table, lowenheim_table, smallest_blocked, solvable}
 use Rattle.solution.specs.Elimination.{solved, none, Verdict as Said}
@@ -14,8 +14,13 @@ use Rattle.calls.specs.declared.Verdict.{Verdict}
 use Rattle.calls.specs.declared.Verdict.TheVariants.{Solved, None}
 use Rattle.calls.specs.Questions.{fact_questions, asks_solution, solving_buffers}
 use Rattle.calls.specs.Counted.{answers_call}
+use Rattle.solver.specs.declared.ordered.OrderedLetters.{OrderedLetters}
 use Rattle.solver.specs.declared.Method.{Method}
 use Rattle.solver.specs.declared.Method.TheVariants.{Boole, Particular, Lowenheim}
+
+-- a condition over these letters, its unknowns in their order, with the tables of its fact and of its own
+abbrev pub posed : OrderedLetters → List ℕ → List ℕ → Condition
+posed o fact t = under_fact o.letters.unknowns o.letters.givens (take o.letters.unknowns o.order) fact t
 
 -- questions 1, 17, 4 and 8 of a call that solves
 unfoldable pub table_questions : ℕ → ℕ → List ℕ → List ℕ → List ℕ → ℕ → List Asked

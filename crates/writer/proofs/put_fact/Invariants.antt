@@ -1,12 +1,6 @@
--- The invariant: the records of the first p masks are put. As long as bytes are missing there are masks left, and the measure is how many.
--- Assumes nothing.
-use Prim.Native.Nat.{◌-◌}
-use lib.ListN.{length}
+-- The invariant: the records of the masks so far are put. Assumes nothing.
 use Rattle.writer.proofs.Parts.{Facts}
 use Rattle.writer.proofs.put_fact.Given as goal
 
-abbrev pub invariant-loop-at : goal.invariant-loop-at
-invariant-loop-at l = Facts l.n l.fact l.initial.out l.from l.p l.at l.out
-
-abbrev pub decreases-loop-at : goal.decreases-loop-at
-decreases-loop-at l = length l.masks - l.p
+abbrev pub invariant-loop-m : goal.invariant-loop-m
+invariant-loop-m l = Facts l.heads.ordered.letters.n l.heads.fact.now l.initial.out l.from l.m-index l.at l.out

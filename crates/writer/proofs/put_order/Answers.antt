@@ -1,7 +1,6 @@
 -- Two parts. Assumes nothing.
-use native.Mathlib.Omega.{arith}
-use Rattle.writer.proofs.Parts.{order_put}
+use Rattle.tables.proofs.Put.{put_both}
 use Rattle.writer.proofs.put_order.Goals as goal
 
 pub returns : goal.returns
-returns c = order_put (omega arith) c.put4-half.ensures c.put3.ensures
+returns c = put_both c.put-kind.ensures c.put.ensures

@@ -1,6 +1,6 @@
 -- What the writer's inner functions list and put, and what they ask.
 -- Assumes nothing.
-use Rattle.std.specs.Prelude.{◌≡◌, true, cond, List, [], ◌∷◌, ◌++◌, map, ℕ, zero, suc, ◌+◌, ◌-◌, ◌*◌, ◌^◌, ◌≤◌, length, take, drop}
+use Rattle.std.specs.Prelude.{◌≡◌, true, cond, Option, None, Some, List, [], ◌∷◌, ◌++◌, map, ℕ, zero, suc, ◌+◌, ◌-◌, ◌*◌, ◌^◌, ◌≤◌, length, take, drop}
 use Rattle.ring.specs.Polynomial.{value}
 use Rattle.ring.specs.Table.{IsTable, present, table}
 use Rattle.tables.specs.declared.Question.TheVariants.{Letters, Route, Output, Order}
@@ -10,17 +10,17 @@ use Rattle.words.specs.Inner.Words.{bit_at}
 use Rattle.order.specs.Order.{order, monomials}
 use Rattle.order.specs.Inner.Listing.{tagged}
 use Rattle.solution.specs.Fact.{has_no_unknown}
-use Rattle.solution.specs.Condition.{Condition, under_fact}
+use Rattle.solution.specs.Condition.{Condition}
 use Rattle.solution.specs.Order.{order_fits}
 use Rattle.facts.specs.Inner.Kept.{kept_words}
-use Rattle.solver.specs.Inner.Methods.{value_words}
+use Rattle.solver.specs.declared.ordered.OrderedLetters.{OrderedLetters}
+use Rattle.solver.specs.Inner.Methods.{posed, value_words}
 use Rattle.entry.specs.Record.{Record, start_record, end_record, none_record, fact_record, is_default, bytes}
 use Rattle.entry.specs.Inner.Codes.{listed_record}
 use Rattle.entry.specs.Entry.{order_records, fact_records, archived_records, entry}
 use Rattle.entry.specs.Questions.{route_fits}
 use Rattle.calls.specs.Questions.{fact_questions, output_fits}
 use Rattle.writer.specs.declared.Listing.{Listing}
-use Rattle.writer.specs.declared.Listing.TheVariants.{Solved, None}
 
 -- ---- listing
 -- the words of answer j, of k words each
@@ -35,23 +35,28 @@ answer_codes (suc j) n answers =
 
 -- how many monomials were listed
 abbrev pub count_of : Listing → ℕ
-count_of (Solved told all) = all
-count_of (None told state) = told
+count_of found = found.all
 
 -- how many of them are the condition's
 abbrev pub told_of : Listing → ℕ
-told_of (Solved told all) = told
-told_of (None told state) = told
+told_of found = found.of_condition
 
 -- 'or one kind 5'
+abbrev pub none_records : Option ℕ → List Record
+none_records None = []
+none_records (Some state) = none_record state ∷ []
+
 abbrev pub none_of : Listing → List Record
-none_of (Solved told all) = []
-none_of (None told state) = none_record state ∷ []
+none_of found = none_records found.none
+
+-- its bytes
+abbrev pub none_size : Option ℕ → ℕ
+none_size None = 0
+none_size (Some state) = 2
 
 -- the bytes of the monomials and of 'none': three for a monomial of the condition, four for one of an answer, two for 'none'
 abbrev pub size_of : Listing → ℕ
-size_of (Solved told all) = 3 * told + 4 * (all - told)
-size_of (None told state) = 3 * told + 2
+size_of found = 3 * found.of_condition + 4 * (found.all - found.of_condition) + none_size found.none
 
 -- 'A kind 6 record .. follows kind 1', of an order in six bytes, unless it is 0, 1, 2 and so on
 unfoldable pub archived_order : ℕ → List ℕ → List Record
@@ -65,9 +70,9 @@ archived_fact n fact = map fact_record (monomials n (present fact))
 unfoldable pub fact_part : List ℕ → ℕ → List ℕ
 fact_part fact m = cond (present fact m) (fact_record m) []
 
--- what stands between the start and the condition: the order, unless it is 0, 1, 2 and so on, and the fact
+-- what stands between the start and the condition: the order, unless it is 0, 1, 2 and so on, and the fact, in n letters
 abbrev pub archived_heads : ℕ → ℕ → List ℕ → List ℕ → List Record
-archived_heads U G order fact = archived_order U order ++ archived_fact (U + G) fact
+archived_heads U n order fact = archived_order U order ++ archived_fact n fact
 
 -- the records of an entry that was listed; `heads` stand between its start and its condition
 unfoldable pub entry_from : ℕ → ℕ → ℕ → List Record → Listing → List ℕ → List Record
@@ -82,41 +87,28 @@ pub record Lists (c : Condition) (found : Listing) (codes : List ℕ) : Type 0 w
   pub size : (route : ℕ) → 6 + (length (bytes (order_records c ++ fact_records c)) + size_of found) ≡ length (entry route c)
 
 -- the condition with these coefficients
-abbrev pub packed_condition : ℕ → ℕ → List ℕ → List ℕ → List ℕ → Condition
-packed_condition U G order fact coefficients = under_fact U G (take U order) fact (table (U + G) (bit_at coefficients))
+abbrev pub packed : OrderedLetters → List ℕ → List ℕ → Condition
+packed o fact coefficients = posed o fact (table (o.letters.unknowns + o.letters.givens) (bit_at coefficients))
 
--- U and G that pass question 1, a condition's coefficients and, under some fact, the values of f*(1 + g) in words, and the written order
-pub record Listable (U G : ℕ) (order₁ coefficients values masks : List ℕ) : Type 0 where
-  pub unknowns : U ≤ 6
-  pub givens : G ≤ 8
-  pub letters : U + G ≤ 10
-  pub words : length coefficients ≡ 2 ^ (U + G - 6)
+-- a condition's coefficients and, under some fact, the values of f*(1 + g) in words, and the written order
+pub record Listable (o : OrderedLetters) (coefficients values masks : List ℕ) : Type 0 where
+  pub givens : o.letters.givens ≤ 8
+  pub words : length coefficients ≡ 2 ^ (o.letters.n - 6)
   pub fact : List ℕ
-  pub values_are : values ≡ value_words (packed_condition U G order₁ fact coefficients)
-  pub ordered : masks ≡ order (U + G)
+  pub values_are : values ≡ value_words (packed o fact coefficients)
+  pub ordered : masks ≡ order o.letters.n
 
 -- the values of 1 + g, of some fact g in n letters
 pub record AreKept (n : ℕ) (kept : List ℕ) : Type 0 where
   pub fact : List ℕ
   pub are : kept ≡ kept_words n fact
 
--- a condition and a fact that pass questions 1, 17, 8 and 22, the order in six bytes
-pub record Ready (U G : ℕ) (order fact t : List ℕ) : Type 0 where
-  pub unknowns : U ≤ 6
-  pub givens : G ≤ 8
-  pub letters : U + G ≤ 10
-  pub in_order : order_fits U order ≡ true
-  pub of_fact : IsTable (U + G) fact
-  pub fact_letters : has_no_unknown U (U + G) (present fact) ≡ true
-  pub is-table : IsTable (U + G) t
-
--- U and G that pass question 1, a fact that passes 8, and the written order
-pub record Headed (U G : ℕ) (fact masks : List ℕ) : Type 0 where
-  pub unknowns : U ≤ 6
-  pub givens : G ≤ 8
-  pub letters : U + G ≤ 10
-  pub of_fact : IsTable (U + G) fact
-  pub ordered : masks ≡ order (U + G)
+-- a condition and a fact that pass questions 1, 17, 8 and 22
+pub record Ready (o : OrderedLetters) (fact t : List ℕ) : Type 0 where
+  pub givens : o.letters.givens ≤ 8
+  pub of_fact : IsTable o.letters.n fact
+  pub fact_letters : has_no_unknown o.letters.unknowns (o.letters.unknowns + o.letters.givens) (present fact) ≡ true
+  pub is-table : IsTable o.letters.n t
 
 -- a listing whose entry has the bytes `made`; 'The bound on an entry is now 27,709 bytes'
 pub record Sized (heads : List Record) (found : Listing) (codes made : List ℕ) : Type 0 where
