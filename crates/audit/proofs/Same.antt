@@ -1,12 +1,11 @@
 -- Question 13 as the code asks it: the values of the answers in words, an unknown at a time, and what an entry says against the verdict
 -- solved afresh. Answers that have the same values are the same, since the passage from coefficients to values leads back.
 -- Assumes nothing.
-use mathlib.Core.Path.{◌≡◌, refl, sym, ap, ap₂, ◌∙◌}
+use mathlib.Core.Path.{◌≡◌, sym, ap, ap₂, ◌∙◌}
 use mathlib.Core.Bool.{Bool, true, false}
 use mathlib.Core.List.{List}
 use mathlib.Core.Logic.{◌⊎◌, inl, inr}
 use Prim.Native.Nat.{ℕ, ◌+◌, ◌-◌, ◌*◌, ◌^◌, ◌≤◌, ◌<◌}
-use native.Mathlib.Nat.{mul-le-mul}
 use native.Mathlib.Omega.{arith}
 use lib.Arith.{digits_lt}
 use lib.Dec.{eqb}
@@ -21,35 +20,36 @@ use Rattle.ring.proofs.Lists.{listed-tabulate}
 use Rattle.ring.proofs.Table.{is-table, same_is_table, get_d_tabulate, present-tabulate, present-table, held-answer_table, answer_table_cong}
 use Rattle.ring.proofs.Table.{answers_length}
 use Rattle.ring.proofs.Value.{value_cong, involution}
-use Rattle.tables.proofs.Parts.{answers_fit}
 use Rattle.words.specs.Inner.Words.{words_of, bit_at, answer_words}
-use Rattle.words.proofs.Letters.{room, count_small}
+use Rattle.words.proofs.Letters.{room}
 use Rattle.words.proofs.Parts.{part_fits}
 use Rattle.words.proofs.Words.{words_cong, at_words}
 use Rattle.solution.specs.Condition.{Condition, polynomial, under_fact}
-use Rattle.solution.specs.Order.{order_fits}
 use Rattle.solution.specs.Fact.{no_fact}
 use Rattle.solution.proofs.UnderFact.{no_fact_lem}
-use Rattle.tables.specs.Questions.{first_no}
-use Rattle.tables.proofs.FirstNo.{asked_behind}
-use Rattle.calls.specs.Questions.{fact_questions, record_questions, entry_questions}
 use Rattle.calls.proofs.Questions.{passes_exactly}
-use Rattle.solution.specs.Elimination.{Verdict, solved, none, boole_answers, boole_table, solve}
 use Rattle.elimination.proofs.Slots.{part_listed, answer_part_lem}
 use Rattle.entry.specs.Record.{Record, same_bytes}
-use Rattle.entry.specs.Held.{records, unknowns_of, givens_of, order_in, condition_in, answers_in, held_condition, held_verdict}
 use Rattle.entry.specs.Questions.{same_verdict, answers_hold}
 use Rattle.entry.proofs.SameBytes.{bytes_same, same_bytes_lem}
-use Rattle.calls.specs.declared.Heading.{Heading}
-use Rattle.calls.specs.declared.Verdict.TheVariants.{Solved, None}
 use Rattle.facts.specs.Inner.Kept.{where_words}
-use Rattle.records.specs.Inner.Headings.{heading_of, said}
 use Rattle.records.specs.Inner.Filling.{Passed}
-use Rattle.records.proofs.Headings.{heading_u, heading_g, said_none, said_solved}
-use Rattle.calls.specs.declared.Verdict.{Verdict as Afresh}
-use Rattle.solver.specs.Inner.Methods.{verdict, solve_words}
 use Rattle.solver.proofs.OnWords.{solved_by_values, none_by_values}
 use Rattle.audit.specs.Inner.Answers.{AreAnswers}
+use Rattle.tables.specs.declared.Letters.{Letters}
+use Rattle.tables.specs.Inner.Passed.{NoneNo, AreLetters}
+use Rattle.tables.proofs.FirstNo.{asked_behind}
+use Rattle.solution.specs.Order.{order_fits}
+use Rattle.solution.specs.Elimination.{Verdict as Said, solved, none, boole_answers, boole_table, solve}
+use Rattle.entry.specs.Held.{records, unknowns_of, givens_of, order_in, condition_in, answers_in, unless_none, held_condition, held_verdict}
+use Rattle.entry.proofs.Canonical.{unless_cases}
+use Rattle.calls.specs.declared.Verdict.{Verdict}
+use Rattle.calls.specs.declared.Verdict.TheVariants.{Solved, None}
+use Rattle.calls.specs.Questions.{fact_questions, record_questions, entry_questions}
+use Rattle.records.specs.declared.Survey.{Survey}
+use Rattle.records.specs.Inner.Headings.{said}
+use Rattle.records.specs.Inner.Gathering.{IsSurvey}
+use Rattle.solver.specs.Inner.Methods.{value_words, boole_words, verdict, solve_words}
 
 -- ---- the values of one unknown's answer, held and solved afresh
 -- part j of the answers held is the table of what they hold for unknown j
@@ -76,23 +76,6 @@ module _ (u n : ℕ) (hs : List ℕ) (is : AreAnswers u n hs) where
         → own ≡ words_of (2 ^ (n - 6)) (value n (held n hs j))
     part_values own e =
         e ∙ rw part_table (words_cong (2 ^ (n - 6)) _ _ (λ p h. value_cong n _ _ p (λ m q. present-table n (held n hs j) m q)))
-
--- the parts lie within what is small
-pub every_small : (u n w : ℕ) → u ≤ 6 → n ≤ 10 → w ≡ 2 ^ (n - 6) → u * w ≤ 96
-every_small u n w hu hn ew = let l : w ≤ 16 = count_small w n ew hn in mul-le-mul hu l
-
-pub part_small : (u n j k : ℕ) → u ≤ 6 → n ≤ 10 → k ≡ 2 ^ n → j < u → j * k + k ≤ 6144
-part_small u n j k hu hn ek l =
-    let f : j * k + k ≤ u * k = part_fits u k j k (u * k) refl l refl in
-    omega (arith, answers_fit hu ek hn)
-
-pub words_small : (u n j w : ℕ) → u ≤ 6 → n ≤ 10 → w ≡ 2 ^ (n - 6) → j < u → j * w + w ≤ 96
-words_small u n j w hu hn ew l =
-    let f : j * w + w ≤ u * w = part_fits u w j w (u * w) refl l refl in
-    omega (arith, every_small u n w hu hn ew)
-
-pub are_answers : (u n : ℕ) (t : List ℕ) (a : ℕ → Polynomial) → t ≡ answer_table u n a → AreAnswers u n t
-are_answers u n t a e = record { polynomials = a; are = e }
 
 -- the values that agree have the same coefficients
 same_coefficients : (n : ℕ) (f g : Polynomial) → words_of (2 ^ (n - 6)) (value n f) ≡ words_of (2 ^ (n - 6)) (value n g) → (m : ℕ) → m < 2 ^ n
@@ -154,69 +137,93 @@ module _ (u n : ℕ) (hs fresh : List ℕ) (is : AreAnswers u n hs) (j : ℕ) (i
             ∙ sym (fresh_is b e) in
             never (rw (← c) (same_bytes_lem own)) s
 
--- ---- against the verdict solved afresh
-module _ (u g : ℕ) (o f t hs fresh : List ℕ) {v : Afresh} (e : verdict v fresh ≡ solve_words (under_fact u g o f t)) where
-  pub against_solved : {b : Bool} → v ≡ Solved
-      → ((p : ℕ → Polynomial) → fresh ≡ answer_words u (2 ^ (u + g - 6)) (λ j. value (u + g) (p j))
-      → b ≡ same_bytes hs (answer_table u (u + g) p))
-      → b ≡ same_verdict (solved hs) (solve (under_fact u g o f t))
-  unfolding boole_table
-  against_solved told same =
-      let w = solved_by_values (under_fact u g o f t) fresh (rw told at e) in
-      same (boole_answers (u + g) (polynomial (under_fact u g o f t)) o) w.1 ∙ rw w.0
+-- ---- what an entry says
+said_none : {A : Type 0} (v : Said A) (state : State) → said v ≡ None state → v ≡ none state
+said_none (solved a) state e = let z : ◌≡◌ {A = ℕ} 0 1 = (cc) in absurd (omega arith)
+said_none (none s) state e = let f : s ≡ state = (cc) in ap none f
 
-  pub against_none : {state : State} → v ≡ None state → false ≡ same_verdict (solved hs) (solve (under_fact u g o f t))
-  against_none {state} told = rw (none_by_values (under_fact u g o f t) state (rw told at e))
+said_solved : {A : Type 0} (a : A) (rs : List Record) → said (unless_none a rs) ≡ Solved → unless_none a rs ≡ solved a
+said_solved a rs e = go (unless_cases a rs)
+  where
+    go : (unless_none a rs ≡ solved a) ⊎ ((state : State) × (unless_none a rs ≡ none state)) → unless_none a rs ≡ solved a
+    go (inl f) = f
+    go (inr f) =
+        let g : None f.0 ≡ Solved = sym (ap said f.1) ∙ e in
+        let z : ◌≡◌ {A = ℕ} 0 1 = (cc) in
+        absurd (omega arith)
 
-against_state : (c : Condition) (held : State) (w : Verdict (List ℕ)) → w ≡ solve_words c
-    → same_verdict (none held) w ≡ same_verdict (none held) (solve c)
-against_state c held (solved ws) e = rw (solved_by_values c ws e).0
-against_state c held (none state) e = rw (none_by_values c state e)
+-- ---- question 13, of an entry whose condition t was read, and solved afresh by its order under its fact
+module _ (rs : List Record) (l : Letters) (are : AreLetters (unknowns_of rs) (givens_of rs) l) (t : List ℕ)
+    (et : t ≡ (held_condition rs).table) where
+  pub condition_table : IsTable l.n t
+  unfolding held_condition table
+  condition_table = rw (et, l.n_is, are.unknowns, are.givens) (is-table _ (condition_in rs))
 
--- ---- question 13, of an entry whose condition t was read, and solved afresh by its values where the fact is 0
-module _ (rs : List Record) (h : Heading) (eh : h ≡ heading_of rs) (t : List ℕ)
-    (et : t ≡ table (h.unknowns + h.givens) (condition_in rs)) where
-  pub condition_table : IsTable (h.unknowns + h.givens) t
-  unfolding table
-  condition_table = rw et (is-table (h.unknowns + h.givens) (condition_in rs))
-
-  module _ (o : List ℕ) (eo : o ≡ order_in rs) where
+  module _ (order : List ℕ) (eo : order ≡ order_in rs) where
     abbrev afresh : Condition
-    afresh = under_fact h.unknowns h.givens (take h.unknowns o) (held_condition rs).fact t
+    afresh = under_fact l.unknowns l.givens (take l.unknowns order) (held_condition rs).fact t
 
-    read_back : afresh ≡ held_condition rs
+    read_back : under_fact l.unknowns l.givens (take l.unknowns order) (held_condition rs).fact t ≡ held_condition rs
     unfolding held_condition
-    read_back = rw (eo, et, heading_u rs eh, heading_g rs eh)
+    read_back = rw (are.unknowns, are.givens, eo, et)
 
-    pub hold_none : (state : State) (b : Bool) (w : Verdict (List ℕ))
-        → w ≡ solve_words (under_fact h.unknowns h.givens (take h.unknowns o) (held_condition rs).fact t)
-        → said (held_verdict rs) ≡ None state → b ≡ same_verdict (none state) w → b ≡ answers_hold rs
-    unfolding answers_hold
-    hold_none state b w ew es eb =
-        eb ∙ against_state afresh state w ew
-        ∙ ap₂ same_verdict (sym (said_none (held_verdict rs) state es)) (ap solve read_back)
+    pub values_taken : {values : List ℕ} → values ≡ where_words l.n t (held_condition rs).fact
+        → values ≡ value_words (under_fact l.unknowns l.givens (take l.unknowns order) (held_condition rs).fact t)
+    values_taken e = rw l.n_is at e
 
-    pub hold_solved : (a : List ℕ) (b : Bool) → said (held_verdict rs) ≡ Solved
-        → a ≡ answer_table h.unknowns (h.unknowns + h.givens) (answers_in rs)
-        → b ≡ same_verdict (solved a) (solve (under_fact h.unknowns h.givens (take h.unknowns o) (held_condition rs).fact t))
-        → b ≡ answers_hold rs
-    unfolding answers_hold held_verdict
-    hold_solved a b es ea eb =
-        eb ∙ ap₂ same_verdict (ap solved (ea ∙ rw (heading_u rs eh, heading_g rs eh)) ∙ sym (said_solved _ rs es)) (ap solve read_back)
+    module _ (v : Verdict) (fresh : List ℕ)
+        (e : verdict v fresh ≡ solve_words (under_fact l.unknowns l.givens (take l.unknowns order) (held_condition rs).fact t)) where
+      holds_is : (hv : Said (List ℕ)) → held_verdict rs ≡ hv → (sv : Said (List ℕ)) → solve afresh ≡ sv → same_verdict hv sv ≡ answers_hold rs
+      unfolding answers_hold
+      holds_is hv eh sv es = ap₂ same_verdict (sym eh) (sym es ∙ ap solve read_back)
 
--- question 17 was asked before
-pub order_passes : (bs : List ℕ) → first_no (entry_questions (records bs)) ≡ 0 → {h : Heading} → h ≡ heading_of (records bs)
-    → {o : List ℕ} → o ≡ order_in (records bs) → order_fits h.unknowns o ≡ true
-order_passes bs p eh eo = rw (heading_u (records bs) eh, eo) ((passes_exactly (records bs)).0 p).order
+      found_none : (state : State) → v ≡ None state → solve afresh ≡ none state
+      found_none state f = none_by_values afresh state (rw f at e)
 
--- 22 and 23 too
-pub facts_pass : (bs : List ℕ) → first_no (entry_questions (records bs)) ≡ 0 → {h : Heading} → h ≡ heading_of (records bs)
-    → first_no (fact_questions h.unknowns h.givens (held_condition (records bs)).fact) ≡ 0
-unfolding entry_questions
-facts_pass bs p eh = rw (heading_u (records bs) eh, heading_g (records bs) eh) (asked_behind (record_questions (records bs)) _ p)
+      found_solved : v ≡ Solved → (solve afresh ≡ solved (boole_table afresh)) × (fresh ≡ boole_words afresh)
+      found_solved f = solved_by_values afresh fresh (rw f at e)
+
+      pub both_none : {told found : State} → said (held_verdict rs) ≡ None told → v ≡ None found → eqb told.0 found.0 ≡ answers_hold rs
+      both_none et ef = holds_is _ (said_none (held_verdict rs) _ et) _ (found_none _ ef)
+
+      pub none_solved : {told : State} → said (held_verdict rs) ≡ None told → v ≡ Solved → false ≡ answers_hold rs
+      none_solved et ef = holds_is _ (said_none (held_verdict rs) _ et) _ (found_solved ef).0
+
+      module _ (es : said (held_verdict rs) ≡ Solved) where
+        told : held_verdict rs ≡ solved (answer_table (unknowns_of rs) (unknowns_of rs + givens_of rs) (answers_in rs))
+        unfolding held_verdict
+        told = said_solved _ rs es
+
+        pub solved_none : {found : State} → v ≡ None found → false ≡ answers_hold rs
+        solved_none ef = holds_is _ told _ (found_none _ ef)
+
+        pub both_solved : v ≡ Solved → {hs : List ℕ} → hs ≡ answer_table l.unknowns l.n (answers_in rs) → {b : Bool}
+            → ((p : ℕ → Polynomial) → fresh ≡ answer_words l.unknowns (2 ^ (l.n - 6)) (λ j. value l.n (p j))
+            → b ≡ same_bytes hs (answer_table l.unknowns l.n p))
+            → b ≡ answers_hold rs
+        unfolding boole_table
+        both_solved ef {hs} eh {b} same =
+            let w = found_solved ef in
+            let held : hs ≡ answer_table (unknowns_of rs) (unknowns_of rs + givens_of rs) (answers_in rs) =
+            eh ∙ rw (l.n_is, are.unknowns, are.givens) in
+            let by : b ≡ same_bytes hs (answer_table l.unknowns (l.unknowns + l.givens)
+            (boole_answers (l.unknowns + l.givens) (polynomial afresh) (take l.unknowns order))) =
+            (rw l.n_is at same) _ w.1 in
+            by ∙ holds_is (solved hs) (told ∙ ap solved (sym held)) _ w.0
+
+-- questions 17, 22 and 23 were asked before
+module _ (bs : List ℕ) {survey : Survey} (is : IsSurvey (records bs) survey) where
+  pub order_passes : order_fits survey.letters.unknowns survey.order ≡ true
+  order_passes = rw (is.letters.unknowns, is.order) ((passes_exactly (records bs)).0 is.none_no).order
+
+  pub facts_pass : NoneNo (fact_questions survey.letters.unknowns survey.letters.givens (held_condition (records bs)).fact)
+  unfolding entry_questions
+  facts_pass = rw (is.letters.unknowns, is.letters.givens) (asked_behind (record_questions (records bs)) _ is.none_no)
 
 -- without a fact every point counts
-pub all_count : (bs : List ℕ) {u g : ℕ} → Passed bs u g → (t values : List ℕ) → IsTable (u + g) t
+pub all_count : (bs : List ℕ) {l : Letters} → Passed bs l → (t values : List ℕ) → IsTable l.n t
     → (held_condition (records bs)).fact ≡ no_fact (unknowns_of (records bs) + givens_of (records bs))
-    → values ≡ words_of (2 ^ (u + g - 6)) (value (u + g) (present t)) → values ≡ where_words (u + g) t (held_condition (records bs)).fact
-all_count bs {u} {g} p t values is e ev = ev ∙ rw (e, ← p.of_unknowns, ← p.of_givens, no_fact_lem (u + g) t is)
+    → values ≡ words_of (2 ^ (l.n - 6)) (value l.n (present t)) → values ≡ where_words l.n t (held_condition (records bs)).fact
+all_count bs {l} p t values is e ev =
+    let n : unknowns_of (records bs) + givens_of (records bs) ≡ l.n = sym (l.n_is ∙ ap₂ ◌+◌ p.letters.unknowns p.letters.givens) in
+    ev ∙ rw (e, n, no_fact_lem l.n t is)

@@ -3,36 +3,44 @@
 -- Assumes nothing.
 use mathlib.Core.Path.{◌≡◌, refl, sym, ap, ◌∙◌}
 use mathlib.Core.Bool.{Bool, true, false, not, ◌||◌, or-false}
-use mathlib.Core.List.{List, [], ◌∷◌, ◌++◌}
+use mathlib.Core.List.{List, [], ◌∷◌}
 use mathlib.Core.Logic.{◌⊎◌, inl, inr}
-use Prim.Native.Nat.{ℕ, zero, suc, ◌+◌, ◌-◌, ◌*◌, ◌^◌, ◌≤◌, ◌<◌}
+use Prim.Native.Nat.{ℕ, zero, suc, ◌+◌, ◌^◌, ◌≤◌, ◌<◌}
 use native.Mathlib.Omega.{arith}
 use lib.Dec.{eqb}
-use lib.ListN.{length, get_or, take, drop, set, length-append}
-use lib.Seq.{take_at}
-use borrow.Author.Tests.{eqb-true, ne_eqb}
+use lib.ListN.{length, drop}
+use borrow.Author.Tests.{ne_eqb}
+use Rattle.std.proofs.Common.{Result, Ok, Err}
+use Rattle.std.specs.Result.{MatchResult}
 use Rattle.ring.specs.Polynomial.{every_below, constant}
 use Rattle.ring.specs.Lists.{has}
 use Rattle.ring.specs.Table.{IsTable, table}
 use Rattle.ring.proofs.Bool.{bool_cases, never}
 use Rattle.ring.proofs.Lists.{has_append}
 use Rattle.ring.proofs.Table.{is-table}
-use Rattle.tables.specs.Questions.{first_no, letters_fit}
-use Rattle.tables.proofs.FirstNo.{each_yes, none_no, first_counts, then_further}
+use Rattle.tables.specs.declared.Letters.{Letters}
+use Rattle.tables.specs.declared.Question.{Question}
+use Rattle.tables.specs.Questions.{letters_fit}
+use Rattle.tables.specs.Inner.Passed.{NoneNo, IsFirstNo}
+use Rattle.tables.proofs.FirstNo.{each_yes, none_no, then_further}
 use Rattle.tables.proofs.Questions.{letters_small, unknowns_small}
 use Rattle.solution.specs.Fact.{IsFact, no_fact}
 use Rattle.solution.proofs.UnderFact.{no_fact-is}
-use Rattle.entry.specs.Record.{Record, mask_field, fields, size, kind, among, is_end, is_order, is_fact, table_in}
-use Rattle.entry.specs.Held.{next, records, first, route_of, unknowns_of, givens_of, fact_in, held_condition}
+use Rattle.entry.specs.Record.{Record, fields, widths, size, kind, is_end, is_order, is_fact, table_in}
+use Rattle.entry.specs.Held.{records, first, route_of, unknowns_of, givens_of, fact_in, held_condition}
 use Rattle.entry.specs.Questions.{may_follow, kinds_follow, kinds_fit, numbers_fit}
-use Rattle.entry.proofs.Records.{first_next, here, there}
+use Rattle.entry.proofs.Records.{first_next}
 use Rattle.entry.proofs.Places.{numbers_by_places}
 use Rattle.entry.proofs.OrderRecord.{behind_none, behind_kinds}
 use Rattle.entry.proofs.Canonical.{ends_there, records_end, may, kinds_on, ends_on, nothing_behind, all_pass, each_follows, each_follows_lem}
 use Rattle.calls.specs.Questions.{fact_questions, record_questions, entry_questions}
-use Rattle.records.specs.Inner.Filling.{zeros, put_monomial, filled, Fitting, Filling, FactFilling, Passed}
-use Rattle.records.proofs.Runs.{size-start, size-order, size_fact, stands_long, stands_inside, kind_at, kind_of, byte_of}
-use Rattle.records.proofs.Filling.{cleared_length, put_none, put_fact, put_past, fill_start, fill_next, filled_first}
+use Rattle.records.specs.declared.kinds.Kind.{Kind}
+use Rattle.records.specs.declared.kinds.Kind.TheVariants as kinds
+use Rattle.records.specs.Inner.Kinds.{byte_of, stands_in_row, IsOf, Stands, stands}
+use Rattle.records.specs.Inner.Filling.{zeros, put_monomial, filled, Fitting, Filling, RowFilling, FactFilling, Passed}
+use Rattle.records.proofs.Standing.{stands_there, stands_inside}
+use Rattle.records.proofs.OneRecord.{no_monomial, whole_length}
+use Rattle.records.proofs.Filling.{cleared_length, put_none, put_past, fill_start, fill_then, fill_over, kinds_behind, filled_first}
 
 -- ---- no kind 7 stands behind another kind than 1, 6 and 7
 -- the kinds that follow the fact, none of which it follows
@@ -82,32 +90,9 @@ module _ (k route : ℕ) (t : List ℕ) (l : length t ≡ k) where
   no_more_facts (r ∷ rs) n o e = put_late 7 r rs (late_first (kind r) n (may 7 route r rs o)) o e (all_late (kind r) rs)
 
 -- ---- from the start of the entry to the end of the row
--- a record of kind k, which has n bytes and is no end, and what stands behind it
-module _ (bs : List ℕ) (at k : ℕ) {n : ℕ} (en : n ≡ size k) (some : 0 < n) {b : Bool} (eb : b ≡ eqb (kind (next (drop at bs))) k)
-    (s : b ≡ true) (goes_on : k ≡ 4 → ⊥) where
-  no_end : get_or bs at 0 ≡ 4 → ⊥
-  no_end z = goes_on (sym (kind_at bs at k en some eb s) ∙ z)
-
-  kinds_behind : (p route : ℕ) → kinds_follow p route (records (drop at bs)) ≡ true → kinds_follow k route (records (drop (at + n) bs)) ≡ true
-  kinds_behind p route o =
-      let l : n ≡ length (next (drop at bs)) = stands_long bs at k en eb s in
-      let is : kind (take n (drop at bs)) ≡ k = ap kind (sym (there bs at l)) ∙ eqb-true _ _ (sym eb ∙ s) in
-      let f : is_end (take n (drop at bs)) ≡ false = ne_eqb _ 4 (λ z. goes_on (sym is ∙ z)) in
-      ap (λ (x : ℕ). kinds_follow x route (records (drop (at + n) bs))) (sym is)
-      ∙ kinds_on p route (take n (drop at bs)) (records (drop (at + n) bs))
-      (rw (here bs at l (λ z. absurd (omega arith)), f) at o) f
-
-  module _ (u g : ℕ) (t₀ t : List ℕ) (w : Filling (put_monomial 0 (2 ^ (u + g))) bs u g t₀ 0 t at) where
-    put_behind : {t' : List ℕ} → t' ≡ put_monomial 0 (2 ^ (u + g)) (take (at + n - at) (drop at bs)) t
-        → Filling (put_monomial 0 (2 ^ (u + g))) bs u g t₀ 0 t' (at + n)
-    put_behind et =
-        fill_next 0 (2 ^ (u + g)) bs u g t₀ t 0 at w (stands_long bs at k en eb s) (λ z. absurd (omega arith)) refl et no_end
-
-    passed_over : among mask_field (fields k) ≡ false → Filling (put_monomial 0 (2 ^ (u + g))) bs u g t₀ 0 t (at + n)
-    unfolding kind
-    passed_over h =
-        let is : kind (take (at + n - at) (drop at bs)) ≡ k = kind_of bs at k en some eb s in
-        put_behind (put_none (2 ^ (u + g)) _ t 0 (rw is h))
+-- a kind without monomials changes no table
+nothing_put : (k : Kind) → stands_in_row k ≡ false → (base l : ℕ) (t : List ℕ) (r : Record) → IsOf k r → t ≡ put_monomial base l r t
+nothing_put k s base l t r w = put_none l r t base (no_monomial r w s)
 
 -- behind kind 6 may stand what may stand behind kind 7
 as_behind_fact : (route : ℕ) (rs : List Record) → kinds_follow 6 route rs ≡ true → kinds_follow 7 route rs ≡ true
@@ -117,142 +102,138 @@ as_behind_fact route (r ∷ rs) o = o
 
 -- where the row begins
 module _ (bs : List ℕ) (o : kinds_fit (records bs) ≡ true) where
-  starts : true ≡ eqb (kind (next (drop 0 bs))) 1
+  starts : Stands bs 0 kinds.Start
   unfolding kinds_fit kinds_follow may_follow
-  starts = sym (ap (λ (r : Record). may_follow 0 (kind r)) (sym (first_next bs)) ∙ first_may (records bs) o)
+  starts = stands_there bs 0 kinds.Start (ap (λ (r : Record). may_follow 0 (kind r)) (sym (first_next bs)) ∙ first_may (records bs) o)
     where
       first_may : (rs : List Record) → kinds_follow 0 (route_of (records bs)) rs ≡ true → may_follow 0 (kind (first rs)) ≡ true
       first_may [] h = never h refl
       first_may (r ∷ rs) h = may 0 _ r rs h
 
-  pub start_inside : 4 ≤ length bs
-  start_inside = stands_inside bs 0 1 size-start starts refl (omega arith)
+  no_end_start : kinds.Start ≡ kinds.End → ⊥
+  no_end_start e = let z : ◌≡◌ {A = ℕ} 0 1 = (cc) in omega arith
 
-  start_kinds : kinds_follow 1 (route_of (records bs)) (records (drop 4 bs)) ≡ true
-  unfolding kinds_fit
-  start_kinds = kinds_behind bs 0 1 size-start (omega arith) starts refl (λ z. absurd (omega arith)) 0 _ o
+  no_end_order : kinds.Order ≡ kinds.End → ⊥
+  no_end_order e = let z : ◌≡◌ {A = ℕ} 0 1 = (cc) in omega arith
 
-  module _ {b : Bool} (eb : b ≡ eqb (kind (next (drop 4 bs))) 6) (U G : ℕ) (t : List ℕ) (f : Fitting U G (records bs)) where
-    behind_start : Filling (put_monomial 0 (2 ^ (U + G))) bs U G t 0 t 4
-    unfolding among fields
-    behind_start =
-        passed_over bs 0 1 size-start (omega arith) starts refl (λ z. absurd (omega arith)) U G t t
-        (fill_start _ bs U G t 0 (omega arith) f) refl
+  module _ {at : ℕ} (ea : at ≡ size (byte_of kinds.Start)) where
+    pub start_inside : at ≤ length bs
+    unfolding size fields widths
+    start_inside = rw ea (stands_inside bs 0 kinds.Start starts (omega arith))
 
-    -- behind the start
-    pub row_first : b ≡ false → FactFilling bs U G t t 4
-    row_first n =
-        let no_order : is_order (first (records (drop 4 bs))) ≡ false = ap is_order (first_next (drop 4 bs)) ∙ sym eb ∙ n in
-        record {
-          filling = behind_start;
-          kinds = as_behind_fact _ _ (rw (behind_none (records (drop 4 bs)) no_order) at (behind_kinds _ (records (drop 4 bs)) start_kinds));
-        }
+    start_kinds : kinds_follow 1 (route_of (records bs)) (records (drop at bs)) ≡ true
+    unfolding kinds_fit size fields widths
+    start_kinds = rw ea (kinds_behind bs 0 kinds.Start starts no_end_start 0 _ o)
 
-    -- behind the order
-    pub row_second : b ≡ true → FactFilling bs U G t t 11
-    unfolding among fields
-    row_second y =
-        record {
-          filling = passed_over bs 4 6 size-order (omega arith) eb y (λ z. absurd (omega arith)) U G t t behind_start refl;
-          kinds = as_behind_fact _ _ (kinds_behind bs 4 6 size-order (omega arith) eb y (λ z. absurd (omega arith)) 1 _ start_kinds);
-        }
+    module _ (U G : ℕ) (t : List ℕ) (f : Fitting U G (records bs)) where
+      behind_start : Filling (put_monomial 0 (2 ^ (U + G))) bs U G t 0 t at
+      unfolding size fields widths
+      behind_start =
+          fill_over _ bs U G t t 0 0 (fill_start _ bs U G t 0 (omega arith) f) kinds.Start starts no_end_start ea (nothing_put kinds.Start refl 0 _ t)
 
--- one monomial of the row
-module _ (bs : List ℕ) (u g : ℕ) (t₀ t : List ℕ) (at : ℕ) (w : FactFilling bs u g t₀ t at) {b : Bool}
-    (eb : b ≡ eqb (kind (next (drop at bs))) 7) where
-  pub fact_next : b ≡ true → {m : ℕ} {t' : List ℕ} → m ≡ get_or bs (at + 1) 0 + 256 * get_or bs (at + 2) 0 → t' ≡ set t m 1
-      → FactFilling bs u g t₀ t' (at + 3)
-  fact_next s em et =
-      record {
-        filling = put_behind bs at 7 size_fact (omega arith) eb s (λ z. absurd (omega arith)) u g t₀ t w.filling
-            (put_fact (2 ^ (u + g)) _ t (kind_of bs at 7 size_fact (omega arith) eb s)
-            (em ∙ rw (byte_of bs at 3 1 (omega arith), byte_of bs at 3 2 (omega arith))) et);
-        kinds = kinds_behind bs at 7 size_fact (omega arith) eb s (λ z. absurd (omega arith)) 7 _ w.kinds;
-      }
+      -- behind the start
+      pub row_first : stands bs at kinds.Order ≡ false → FactFilling bs U G t t at
+      row_first n =
+          let no_order : is_order (first (records (drop at bs))) ≡ false = ap is_order (first_next (drop at bs)) ∙ n in
+          record {
+            filling = behind_start;
+            kinds = as_behind_fact _ _ (rw (behind_none (records (drop at bs)) no_order) at (behind_kinds _ (records (drop at bs)) start_kinds));
+          }
 
-  -- behind the last
-  fact_end : b ≡ false → length t₀ ≡ 2 ^ (u + g) → t ≡ filled (put_monomial 0 (2 ^ (u + g))) (records bs) t₀
-  fact_end n l =
-      let none_there : is_fact (first (records (drop at bs))) ≡ false = ap is_fact (first_next (drop at bs)) ∙ sym eb ∙ n in
-      sym (w.filling.same
-      ∙ no_more_facts (2 ^ (u + g)) _ t (w.filling.long ∙ l) (records (drop at bs)) none_there w.kinds (records_end (drop at bs)))
+      -- behind the order
+      pub row_second : Stands bs at kinds.Order → {behind : ℕ} → behind ≡ at + size (byte_of kinds.Order) → FactFilling bs U G t t behind
+      row_second st eb =
+          record {
+            filling = fill_over _ bs U G t t 0 at behind_start kinds.Order st no_end_order eb (nothing_put kinds.Order refl 0 _ t);
+            kinds = as_behind_fact _ _ (rw eb (kinds_behind bs at kinds.Order st no_end_order 1 _ start_kinds));
+          }
+
+-- behind the row
+fact_end : (bs : List ℕ) (u g : ℕ) (t₀ t : List ℕ) (at : ℕ) → FactFilling bs u g t₀ t at → stands bs at kinds.Fact ≡ false
+    → length t₀ ≡ 2 ^ (u + g)
+    → t ≡ filled (put_monomial 0 (2 ^ (u + g))) (records bs) t₀
+fact_end bs u g t₀ t at w n l =
+    let none_there : is_fact (first (records (drop at bs))) ≡ false = ap is_fact (first_next (drop at bs)) ∙ n in
+    sym (w.filling.same
+    ∙ no_more_facts (2 ^ (u + g)) _ t (w.filling.long ∙ l) (records (drop at bs)) none_there w.kinds (records_end (drop at bs)))
 
 -- ---- bytes that pass the questions before 22
-pub passed_kinds : (bs : List ℕ) → first_no (record_questions (records bs)) ≡ 0 → kinds_fit (records bs) ≡ true
+pub passed_kinds : (bs : List ℕ) → NoneNo (record_questions (records bs)) → kinds_fit (records bs) ≡ true
 unfolding record_questions
 passed_kinds bs z = (each_yes (record_questions (records bs)) z).1.0
 
--- how many letters they have, where nothing else is known of these
-own_letters_lem : (bs : List ℕ) → first_no (record_questions (records bs)) ≡ 0 → Passed bs (unknowns_of (records bs)) (givens_of (records bs))
-own_letters_lem bs z = record { yes = z; of_unknowns = refl; of_givens = refl }
+module _ (bs : List ℕ) (z : NoneNo (record_questions (records bs))) where
+  abbrev U : ℕ
+  U = unknowns_of (records bs)
 
-module _ (bs : List ℕ) {u g : ℕ} (p : Passed bs u g) where
-  letters : letters_fit u g ≡ true
+  abbrev G : ℕ
+  G = givens_of (records bs)
+
+  letters : letters_fit U G ≡ true
   unfolding record_questions
-  letters = rw (p.of_unknowns, p.of_givens) (each_yes (record_questions (records bs)) p.yes).1.1.0
+  letters = (each_yes (record_questions (records bs)) z).1.1.0
 
-  pub passed_fits : Fitting u g (records bs)
+  pub own_fits : Fitting U G (records bs)
   unfolding record_questions numbers_fit
-  passed_fits =
+  own_fits =
       record {
-        unknowns = unknowns_small u g letters;
-        letters = letters_small u g letters;
+        unknowns = unknowns_small U G letters;
+        letters = letters_small U G letters;
         from = 0;
-        fits = numbers_by_places u g (letters_small u g letters) (records bs)
-            ∙ rw (p.of_unknowns, p.of_givens) (each_yes (record_questions (records bs)) p.yes).1.1.1.1.0;
+        fits = numbers_by_places U G (letters_small U G letters) (records bs) ∙ (each_yes (record_questions (records bs)) z).1.1.1.1.0;
       }
 
   -- the row has been put into cleared bytes
-  pub fact_filled : (k : ℕ) → k ≡ 2 ^ (u + g) → (t₀ t : List ℕ) (at : ℕ) → t₀ ≡ zeros k → FactFilling bs u g t₀ t at → {b : Bool}
-      → b ≡ eqb (kind (next (drop at bs))) 7 → b ≡ false → t ≡ (held_condition (records bs)).fact
+  own_filled : (k : ℕ) → k ≡ 2 ^ (U + G) → (t₀ t : List ℕ) (at : ℕ) → t₀ ≡ zeros k → FactFilling bs U G t₀ t at
+      → stands bs at kinds.Fact ≡ false
+      → t ≡ (held_condition (records bs)).fact
   unfolding held_condition fact_in
-  fact_filled k ek t₀ t at e₀ w eb n =
-      let long : length t₀ ≡ 2 ^ (u + g) = cleared_length k e₀ ∙ ek in
-      filled_first 0 u g (records bs) passed_fits k e₀ (fact_end bs u g t₀ t at w eb n long) ek
-      ∙ rw (p.of_unknowns, p.of_givens)
+  own_filled k ek t₀ t at e₀ w n =
+      let long : length t₀ ≡ 2 ^ (U + G) = cleared_length k e₀ ∙ ek in
+      filled_first 0 U G (records bs) own_fits k e₀ (fact_end bs U G t₀ t at w n long) ek
 
-  -- it is a table, also in front of the rest of a buffer
-  pub fact_table : IsTable (u + g) (held_condition (records bs)).fact
+  -- there is no row, and the fact is 0
+  pub no_row : (at : ℕ) → ((U G : ℕ) (t : List ℕ) → Fitting U G (records bs) → FactFilling bs U G t t at) → stands bs at kinds.Fact ≡ false
+      → (held_condition (records bs)).fact ≡ no_fact (U + G)
+  unfolding no_fact table constant
+  no_row at w n = sym (own_filled _ refl (zeros _) (zeros _) at refl (w _ _ (zeros _) own_fits) n)
+
+module _ (bs : List ℕ) {l : Letters} (p : Passed bs l) where
+  pub passed_fits : Fitting l.unknowns l.givens (records bs)
+  passed_fits = rw (p.letters.unknowns, p.letters.givens) (own_fits bs p.yes)
+
+  -- the row, put in from where it begins
+  pub fact_filled : (k : ℕ) → k ≡ l.table_len → {t₀ t : List ℕ} {from at : ℕ} → t₀ ≡ zeros k → FactFilling bs l.unknowns l.givens t₀ t₀ from
+      → RowFilling kinds.Fact bs l.unknowns l.givens t₀ from t at
+      → stands bs at kinds.Fact ≡ false
+      → t ≡ (held_condition (records bs)).fact
+  fact_filled k ek {t₀} {t} {at = at} e₀ w v n =
+      let all : FactFilling bs l.unknowns l.givens t₀ t at =
+      record { filling = fill_then _ bs l.unknowns l.givens w.filling v.own; kinds = v.kinds _ w.kinds } in
+      let own : FactFilling bs (unknowns_of (records bs)) (givens_of (records bs)) t₀ t at = rw (← p.letters.unknowns, ← p.letters.givens) all in
+      own_filled bs p.yes k (ek ∙ whole_length l ∙ rw (p.letters.unknowns, p.letters.givens)) t₀ t at e₀ own n
+
+  -- it is a table
+  pub fact_table : IsTable l.n (held_condition (records bs)).fact
   unfolding held_condition table
-  fact_table = rw (p.of_unknowns, p.of_givens) (is-table _ (fact_in (records bs)))
+  fact_table = rw (l.n_is, p.letters.unknowns, p.letters.givens) (is-table _ (fact_in (records bs)))
 
-  module _ {k : ℕ} (ek : k ≡ 2 ^ (u + g)) {t : List ℕ} (rest : List ℕ) (e : t ≡ (held_condition (records bs)).fact) where
-    long : length t ≡ k
-    long = ap length e ∙ fact_table.size ∙ sym ek
-
-    pub fact_within : k ≤ length (t ++ rest)
-    fact_within = omega (arith, length-append t rest, long)
-
-    pub fact_front : take k (t ++ rest) ≡ (held_condition (records bs)).fact
-    fact_front = take_at t rest k long ∙ e
-
-pub own_fits : (bs : List ℕ) → first_no (record_questions (records bs)) ≡ 0
-    → Fitting (unknowns_of (records bs)) (givens_of (records bs)) (records bs)
-own_fits bs z = passed_fits bs (own_letters_lem bs z)
-
--- there is no row, and the fact is 0
-pub no_row : (bs : List ℕ) (at : ℕ) → first_no (record_questions (records bs)) ≡ 0
-    → ((U G : ℕ) (t : List ℕ) → Fitting U G (records bs) → FactFilling bs U G t t at) → {b : Bool}
-    → b ≡ eqb (kind (next (drop at bs))) 7 → b ≡ false
-    → (held_condition (records bs)).fact ≡ no_fact (unknowns_of (records bs) + givens_of (records bs))
-unfolding no_fact table constant
-no_row bs at z w eb n = sym (fact_filled bs (own_letters_lem bs z) _ refl (zeros _) (zeros _) at refl (w _ _ (zeros _) (own_fits bs z)) eb n)
-
--- ---- questions 22 and 23
-module _ (bs : List ℕ) (u g : ℕ) (eu : u ≡ unknowns_of (records bs)) (eg : g ≡ givens_of (records bs)) {q : ℕ}
-    (eq : q ≡ first_no (record_questions (records bs))) where
-  pub refused_before : (q ≡ 0 → ⊥) → q ≡ first_no (entry_questions (records bs))
+  -- ---- questions 22 and 23
+  facts_passed : NoneNo (fact_questions l.unknowns l.givens (held_condition (records bs)).fact) → NoneNo (entry_questions (records bs))
   unfolding entry_questions
-  refused_before n = eq ∙ sym (first_counts (record_questions (records bs)) _ (λ z. n (eq ∙ z)))
+  facts_passed z = then_further (record_questions (records bs)) _ p.yes ∙ (rw (p.letters.unknowns, p.letters.givens) at z)
 
-  module _ (z : q ≡ 0) where
-    pub facts_asked : {r : ℕ} → r ≡ first_no (fact_questions u g (held_condition (records bs)).fact) → r ≡ first_no (entry_questions (records bs))
-    unfolding entry_questions
-    facts_asked er = er ∙ rw (eu, eg) (sym (then_further (record_questions (records bs)) _ (sym eq ∙ z)))
+  pub facts_asked : {A : Type 0} (r : Result A Question)
+      → MatchResult r (λ _. NoneNo (fact_questions l.unknowns l.givens (held_condition (records bs)).fact))
+      (IsFirstNo (fact_questions l.unknowns l.givens (held_condition (records bs)).fact))
+      → MatchResult r (λ _. NoneNo (entry_questions (records bs))) (IsFirstNo (entry_questions (records bs)))
+  unfolding entry_questions
+  facts_asked (Ok a) z = facts_passed z
+  facts_asked (Err q) e = e ∙ rw (p.letters.unknowns, p.letters.givens) (sym (then_further (record_questions (records bs)) _ p.yes))
 
-    pub nothing_asked : (held_condition (records bs)).fact ≡ no_fact (unknowns_of (records bs) + givens_of (records bs))
-        → 0 ≡ first_no (entry_questions (records bs))
-    unfolding fact_questions
-    nothing_asked e =
-        let w : IsFact u g (no_fact (u + g)) = no_fact-is u g in
-        facts_asked (rw (e, ← eu, ← eg) (sym (none_no (fact_questions u g (no_fact (u + g))) (w.givens, (w.states, tt)))))
+  pub nothing_asked : (held_condition (records bs)).fact ≡ no_fact (unknowns_of (records bs) + givens_of (records bs))
+      → NoneNo (entry_questions (records bs))
+  unfolding fact_questions
+  nothing_asked e =
+      let w : IsFact l.unknowns l.givens (no_fact (l.unknowns + l.givens)) = no_fact-is l.unknowns l.givens in
+      facts_passed (rw (e, ← p.letters.unknowns, ← p.letters.givens) (none_no (fact_questions l.unknowns l.givens (no_fact (l.unknowns + l.givens))) (w.givens, (w.states, tt))))

@@ -1,32 +1,44 @@
--- Filling a table from the records: each monomial sets its own byte, so that what stands there in the end is whether the records have it.
+-- Tables filled from records: what one record puts in, what filling keeps, and what is filled in the end.
 -- Assumes nothing.
-use mathlib.Core.Path.{◌≡◌, refl, sym, ap, ap₂, ◌∙◌}
-use mathlib.Core.Bool.{Bool, true, false, cond, ◌&&◌, ◌||◌, and-false}
+use mathlib.Core.Path.{◌≡◌, refl, sym, ap, ◌∙◌, ap₂}
+use mathlib.Core.Bool.{Bool, true, false, ◌&&◌, ◌||◌, cond, and-false}
 use mathlib.Core.List.{List, [], ◌∷◌}
 use mathlib.Core.Logic.{◌⊎◌, inl, inr}
-use Prim.Native.Nat.{ℕ, ◌+◌, ◌-◌, ◌*◌, ◌/◌, ◌%◌, ◌^◌, ◌≤◌, ◌<◌}
+use Prim.Native.Nat.{ℕ, ◌+◌, ◌-◌, ◌*◌, ◌^◌, ◌≤◌, ◌<◌, ◌/◌, ◌%◌}
 use native.Mathlib.Nat.{le_refl, add-zero, mul-le-mul, div-add-mod', div-eq_of_lt, mod-eq_of_lt}
 use native.Mathlib.Omega.{arith}
 use lib.Dec.{leb, eqb}
 use lib.Arith.{digits_div, digits_mod}
 use lib.ListN.{length, get_or, take, drop, set, length-set}
-use lib.Seq.{ext_get_or, get_or-take, get_or-drop, get_or-set_same, get_or-set_other, set_out}
+use lib.Seq.{ext_get_or, get_or-set_same, get_or-set_other, set_out}
 use borrow.Author.Tests.{le-leb, lt-leb, leb-true, leb-false, eq-eqb, ne_eqb, eqb-true, eqb-false}
 use Rattle.ring.specs.Letters.{digit}
 use Rattle.ring.specs.Table.{tabulate, table}
 use Rattle.ring.proofs.Bool.{bool_iff, and_left, and_right, both, bool_cases}
 use Rattle.ring.proofs.Table.{length-tabulate, get_d_tabulate, tabulate_cong}
-use Rattle.entry.specs.Record.{Record, mask_field, kind, fields, among, value_of, is_end, is_monomial, table_in, in_bounds}
+use Rattle.entry.specs.Record.{Record, mask_field, value_of, is_monomial, table_in}
 use Rattle.entry.specs.Held.{next, records, has_monomial}
 use Rattle.entry.specs.Inner.Places.{place_of, fits_behind}
-use Rattle.entry.proofs.Fields.{mask_alone}
 use Rattle.entry.proofs.Monomials.{mask_in_bounds}
-use Rattle.entry.proofs.Records.{records_none, here_none, here, fits_at}
+use Rattle.entry.proofs.Records.{here_none, fits_at}
 use Rattle.entry.proofs.Unique.{fits_bounds, fits_rest}
-use Rattle.records.specs.Inner.Filling.{zeros, put_monomial, filled, Fitting, Filling}
-use Rattle.records.proofs.Loops.{lent}
+use Rattle.tables.specs.declared.Letters.{Letters}
+use Rattle.entry.specs.Record.{size}
+use Rattle.entry.specs.Questions.{kinds_follow}
+use Rattle.entry.proofs.Canonical.{kinds_on}
+use Rattle.records.specs.declared.kinds.Kind.{Kind}
+use Rattle.records.specs.declared.kinds.Kind.TheVariants as kinds
+use Rattle.records.specs.Inner.Kinds.{byte_of, base_of, stands_in_row, IsOf, Stands}
+use Rattle.records.specs.Inner.Filling.{zeros, put_monomial, filled, Fitting, Filling, RowFilling}
+use Rattle.records.proofs.Standing.{lent, lent_of, is_no_last, here_end, here_more}
+use Rattle.records.proofs.OneRecord.{table_least, holds_monomial, whole_length}
+use Rattle.records.proofs.Loops.{row_more}
 
 -- ---- cleared bytes
+pub all_zero : (t : List ℕ) (k : ℕ) → length t ≡ k → ((i : ℕ) → i < k → get_or t i 0 ≡ 0) → t ≡ zeros k
+all_zero t k l z =
+    ext_get_or 0 t (zeros k) (l ∙ sym (length-tabulate k (λ i. false))) (λ i h. let b : i < k = omega arith in z i b ∙ sym (get_d_tabulate k (λ i. false) i b))
+
 pub cleared_length : (k : ℕ) {t : List ℕ} → t ≡ zeros k → length t ≡ k
 cleared_length k e = ap length e ∙ length-tabulate k (λ i. false)
 
@@ -37,21 +49,6 @@ module _ (k : ℕ) (r : Record) (t : List ℕ) where
       → put_monomial base k r t ≡ cond (leb base i) (set t ((i - base) * k + m) 1) t
   unfolding put_monomial
   put_is base i m h ei em = rw (h, ei, em)
-
-  -- a mask alone, in the first table
-  pub put_mask : (base : ℕ) → fields (kind r) ≡ mask_field ∷ [] → table_in r ≡ base → {m : ℕ} {t' : List ℕ}
-      → m ≡ get_or r 1 0 + 256 * get_or r 2 0 → t' ≡ set t m 1 → t' ≡ put_monomial base k r t
-  unfolding among
-  put_mask base ef ei {m} em et =
-      let here : leb base base ≡ true = le-leb base base (omega arith) in
-      let none_before : base - base ≡ 0 = omega arith in
-      let f : 0 * k + m ≡ m = omega arith in
-      et ∙ sym (put_is base base m (rw ef) ei (mask_alone r ef ∙ sym em) ∙ rw (here, none_before, f))
-
-  -- one of the fact
-  pub put_fact : get_or r 0 0 ≡ 7 → {m : ℕ} {t' : List ℕ} → m ≡ get_or r 1 0 + 256 * get_or r 2 0 → t' ≡ set t m 1 → t' ≡ put_monomial 0 k r t
-  unfolding kind fields
-  put_fact ek = let seven : kind r ≡ 7 = ek in put_mask 0 (rw seven) (rw seven)
 
   -- one without a monomial
   pub put_none : (base : ℕ) → is_monomial r ≡ false → t ≡ put_monomial base k r t
@@ -108,73 +105,82 @@ fill_then put bs u g v w =
       fitting = w.fitting;
     }
 
--- one record
+-- one record that is not the last
+pub kinds_behind : (bs : List ℕ) (at : ℕ) (k : Kind) → Stands bs at k → (k ≡ kinds.End → ⊥) → (p route : ℕ)
+    → kinds_follow p route (records (drop at bs)) ≡ true
+    → kinds_follow (byte_of k) route (records (drop (at + size (byte_of k)) bs)) ≡ true
+kinds_behind bs at k st n p route o =
+    let rs : List Record = records (drop (at + size (byte_of k)) bs) in
+    ap (λ (x : ℕ). kinds_follow x route rs) (sym st.is)
+    ∙ kinds_on p route (next (drop at bs)) rs (rw (here_more bs at k st n) at o) (is_no_last bs at k st n)
+
 module _ (put : Record → List ℕ → List ℕ) (bs : List ℕ) (u g : ℕ) (t₀ t : List ℕ) (from at : ℕ) (w : Filling put bs u g t₀ from t at)
-    {n : ℕ} (en : n ≡ length (next (drop at bs))) (s : n ≡ 0 → ⊥) {behind : ℕ} (eb : behind ≡ at + n) where
-  r : Record
-  r = take n (drop at bs)
+    (k : Kind) (st : Stands bs at k) where
+  module _ (n : k ≡ kinds.End → ⊥) {behind : ℕ} (eb : behind ≡ at + size (byte_of k)) where
+    fits_here : fits_behind u g w.fitting.from (next (drop at bs) ∷ records (drop (at + size (byte_of k)) bs)) ≡ true
+    fits_here = rw (here_more bs at k st n) at w.fitting.fits
 
-  fits_here : fits_behind u g w.fitting.from (r ∷ cond (is_end r) [] (records (drop (at + n) bs))) ≡ true
-  unfolding r
-  fits_here = rw (here bs at en s) at w.fitting.fits
-
-  pub bounds_here : in_bounds u g (take (behind - at) (drop at bs)) ≡ true
-  unfolding r
-  bounds_here = rw (lent bs at en eb) (fits_bounds u g w.fitting.from r _ fits_here)
-
-  kind_here : kind r ≡ get_or bs at 0
-  unfolding r kind
-  kind_here = get_or-take n (drop at bs) 0 0 (omega arith) ∙ get_or-drop at bs 0 0 ∙ ap (λ (i : ℕ). get_or bs i 0) (add-zero at)
-
-  module _ {t' : List ℕ} (et : t' ≡ put (take (behind - at) (drop at bs)) t) where
-    put_here : t' ≡ put r t
-    unfolding r
-    put_here = et ∙ rw (lent bs at en eb)
-
-    ended : get_or bs at 0 ≡ 4 → t' ≡ filled put (records (drop from bs)) t₀
-    unfolding filled r
-    ended e =
-        let end : is_end r ≡ true = eq-eqb (kind r) 4 (kind_here ∙ e) in
-        sym (w.same ∙ rw (here bs at en s, end) (sym put_here))
-
-    went_on : length t' ≡ length t → (get_or bs at 0 ≡ 4 → ⊥) → Filling put bs u g t₀ from t' behind
-    unfolding filled r
-    went_on l e =
-        let not_end : is_end r ≡ false = ne_eqb (kind r) 4 (λ k. e (sym kind_here ∙ k)) in
+    pub fill_next : {t' : List ℕ} → t' ≡ put (take (behind - at) (drop at bs)) t → length t' ≡ length t → Filling put bs u g t₀ from t' behind
+    unfolding filled
+    fill_next et l =
         record {
           onward = omega (arith, w.onward);
-          inside = rw eb (fits_at bs at w.inside en);
+          inside = rw eb (fits_at bs at w.inside (sym st.long));
           long = l ∙ w.long;
-          same = w.same ∙ rw (here bs at en s, not_end, eb) (ap (filled put (records (drop (at + n) bs))) (sym put_here));
+          same = w.same ∙ rw (here_more bs at k st n, eb) (ap (filled put (records (drop (at + size (byte_of k)) bs))) (sym (et ∙ rw (lent bs at k st eb))));
           fitting = record {
             unknowns = w.fitting.unknowns;
             letters = w.fitting.letters;
-            from = place_of r;
-            fits = rw eb (rw not_end at (fits_rest u g w.fitting.from r _ fits_here));
+            from = place_of (next (drop at bs));
+            fits = rw eb (fits_rest u g w.fitting.from (next (drop at bs)) _ fits_here);
           };
         }
 
-pub fill_next : (base k : ℕ) (bs : List ℕ) (u g : ℕ) (t₀ t : List ℕ) (from at : ℕ) → Filling (put_monomial base k) bs u g t₀ from t at → {n : ℕ}
-    → n ≡ length (next (drop at bs)) → (n ≡ 0 → ⊥) → {behind : ℕ} → behind ≡ at + n → {t' : List ℕ}
-    → t' ≡ put_monomial base k (take (behind - at) (drop at bs)) t → (get_or bs at 0 ≡ 4 → ⊥) → Filling (put_monomial base k) bs u g t₀ from t' behind
-fill_next base k bs u g t₀ t from at w en s eb et e =
-    went_on (put_monomial base k) bs u g t₀ t from at w en s eb et (put_long base k _ t et) e
+    -- the table has no place for it
+    pub fill_over : ((r : Record) → IsOf k r → t ≡ put r t) → Filling put bs u g t₀ from t behind
+    fill_over h = fill_next (h (take (behind - at) (drop at bs)) (lent_of bs at k st eb)) refl
 
--- the ways out
-module _ (put : Record → List ℕ → List ℕ) (bs : List ℕ) (u g : ℕ) (t₀ t : List ℕ) (at : ℕ) (w : Filling put bs u g t₀ 0 t at) where
-  pub fill_none : length bs ≤ at → t ≡ filled put (records bs) t₀
+  -- the last record
+  pub fill_end : k ≡ kinds.End → ((r : Record) → IsOf k r → t ≡ put r t) → t ≡ filled put (records (drop from bs)) t₀
   unfolding filled
-  fill_none h = sym (w.same ∙ rw (records_none bs at h))
+  fill_end e h = sym (w.same ∙ rw (here_end bs at k st e) (sym (h (next (drop at bs)) st)))
 
-  module _ {n : ℕ} (en : n ≡ length (next (drop at bs))) where
-    pub fill_broken : n ≡ 0 → t ≡ filled put (records bs) t₀
-    unfolding filled
-    fill_broken e = sym (w.same ∙ rw (here_none bs at en e))
+-- no record
+pub fill_out : (put : Record → List ℕ → List ℕ) (bs : List ℕ) (u g : ℕ) (t₀ t : List ℕ) (from at : ℕ) → Filling put bs u g t₀ from t at
+    → length (next (drop at bs)) ≡ 0
+    → t ≡ filled put (records (drop from bs)) t₀
+unfolding filled
+fill_out put bs u g t₀ t from at w z = sym (w.same ∙ rw (here_none bs at refl z))
 
-    pub fill_end : (n ≡ 0 → ⊥) → {behind : ℕ} → behind ≡ at + n → {t' : List ℕ} → t' ≡ put (take (behind - at) (drop at bs)) t
-        → get_or bs at 0 ≡ 4
-        → t' ≡ filled put (records bs) t₀
-    fill_end s eb et e = ended put bs u g t₀ t 0 at w en s eb et e
+-- a row
+pub row_start : (k : Kind) (bs : List ℕ) (u g : ℕ) (t : List ℕ) (from : ℕ) → from ≤ length bs → Fitting u g (records (drop from bs))
+    → RowFilling k bs u g t from t from
+row_start k bs u g t from h f =
+    record { own = fill_start _ bs u g t from h f; others = λ base s e. fill_start _ bs u g s from h f; kinds = λ route o. o }
+
+module _ (k : Kind) (row : stands_in_row k ≡ true) (bs : List ℕ) (l : Letters) (t₀ t : List ℕ) (from at : ℕ)
+    (w : RowFilling k bs l.unknowns l.givens t₀ from t at) (st : Stands bs at k) {behind : ℕ} (eb : behind ≡ at + size (byte_of k)) where
+  r : Record
+  r = take (behind - at) (drop at bs)
+
+  is : IsOf k r
+  unfolding r
+  is = lent_of bs at k st eb
+
+  pub row_put : {p : ℕ} → p ≡ (table_in (take (behind - at) (drop at bs)) - base_of k) * l.table_len + value_of mask_field (take (behind - at) (drop at bs))
+      → {t' : List ℕ} → t' ≡ set t p 1
+      → RowFilling k bs l.unknowns l.givens t₀ from t' behind
+  unfolding r
+  row_put {p} ep {t'} et =
+      let here : leb (base_of k) (table_in r) ≡ true = le-leb _ _ (table_least r is) in
+      let put : t' ≡ put_monomial (base_of k) (2 ^ (l.unknowns + l.givens)) r t =
+      et ∙ sym (put_is (2 ^ (l.unknowns + l.givens)) r t (base_of k) (table_in r) (value_of mask_field r) (holds_monomial r is row) refl refl
+      ∙ rw (here, ep, whole_length l)) in
+      record {
+        own = fill_next _ bs l.unknowns l.givens t₀ t from at w.own k st (row_more k row) eb put (put_long _ _ r t put);
+        others = λ base s h. fill_over _ bs l.unknowns l.givens s s from at (w.others base s h) k st (row_more k row) eb h;
+        kinds = λ route o. rw eb (kinds_behind bs at k st (row_more k row) (byte_of k) route (w.kinds route o));
+      }
 
 -- ---- what stands at x when all is filled
 hits : ℕ → ℕ → ℕ → List Record → Bool

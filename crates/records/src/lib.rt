@@ -4,42 +4,62 @@
 
 #![tactic(auto)]
 
-ghost use Rattle.std.specs.Prelude.{◌≡◌, true, false, ◌&&◌, ◌||◌, cond, List, ℕ, ◌+◌, ◌-◌, ◌*◌, ◌^◌, ◌≤◌, ◌<◌, eqb, length, drop, set};
-ghost use Rattle.tables.specs.Questions.{first_no};
+ghost use Rattle.std.specs.Prelude.{◌≡◌, true, false, ◌&&◌, cond, List, ℕ, ◌+◌, ◌-◌, ◌*◌, ◌^◌, ◌≤◌, ◌<◌, eqb, length, drop, set, Some, None, ⊤, MatchBool, MatchOption, MatchResult, OnOk};
+ghost use Rattle.tables.specs.Inner.Passed.{NoneNo, IsFirstNo};
 ghost use Rattle.order.specs.Inner.Place.{AreLetters};
 ghost use Rattle.solution.specs.Fact.{no_fact};
-ghost use Rattle.entry.specs.Record.{route_field, unknowns_field, givens_field, size, kind, value_of};
+ghost use Rattle.entry.specs.Record.{mask_field, kind, value_of, is_monomial, table_in, in_bounds};
 ghost use Rattle.entry.specs.Held.{next, records, unknowns_of, givens_of, held_condition};
 ghost use Rattle.entry.specs.Questions.{may_follow, kinds_fit};
-ghost use Rattle.entry.specs.Inner.Places.{place};
+ghost use Rattle.entry.specs.Inner.Places.{place, place_of};
 ghost use Rattle.calls.specs.Questions.{fact_questions, record_questions, entry_questions};
 ghost use Rattle.facts.specs.Inner.Kept.{kept_words};
+ghost use Rattle.records.specs.Inner.Kinds.{byte_of, byte_before, base_of, stands_in_row, IsOf, IsThere, stands, NoneStands};
 ghost use Rattle.records.specs.Inner.Headings.{start_of, order_behind};
-ghost use Rattle.records.specs.Inner.Gathering.{Whole, Bounds, said_first, seen_monomial, seen_record, gathered, said_by};
-ghost use Rattle.records.specs.Inner.Gathering.{Further, placed, gathered_questions, survey_of};
-ghost use Rattle.records.specs.Inner.Filling.{zeros, Fitting, FactFilling, Passed};
+ghost use Rattle.records.specs.Inner.Gathering.{seen_record, gathered, said_by, Further, PassedGathered, gathered_questions, IsSurvey};
+ghost use Rattle.records.specs.Inner.Filling.{zeros, Fitting, RowFilling, FactFilling, Passed};
 
-use calls::{Heading, Verdict};
+mod kinds;
+
+use calls::{Entry, Heading, Verdict};
+pub use kinds::Kind;
 use ring::State;
-use tables::Question;
+use tables::{Letters, Question};
 
-// What going over an entry gives: the first no of 10, 11, 1, 2, 12, 17, 22 and 23, or 0, and what the entry says.
+// What an entry says that passes 10, 11, 1, 2, 12, 17, 22 and 23, with its letters and its order.
 #[derive(Clone, Copy)]
 pub struct Survey {
-    pub refusal: u8,
-    pub heading: Heading,
-    pub verdict: Verdict,
+    pub entry: Entry,
+    pub letters: Letters,
     pub order: [u8; 6],
 }
 
-// What has been seen of the records up to a place.
+// What questions 11 and 12 hold against each record.
+#[derive(Drop)]
+struct Bounds {
+    route: u8,
+    letters: Letters,
+    states: usize,
+    counts: [u8; 32], // of the letters of masks
+    ghost states_are: { states ≡ 2 ^ letters.givens },
+    ghost counts_are: { AreLetters counts },
+}
+
+// A monomial and its table: 0 is the fact, 1 the condition, j + 2 the answer for unknown j.
+#[derive(Clone, Copy)]
+struct Monomial {
+    table: usize,
+    mask: usize,
+}
+
+// What has been seen of the records up to a place. The two flags answer a question each, with no value beside.
 #[derive(Clone, Copy)]
 pub struct Seen {
-    pub kind: u8, // of the last record, 0 at the start
-    pub place: usize, // of the last record's monomial, 0 if it has none
+    pub kind: Option<Kind>, // of the last record
+    pub place: usize, // of the last record's monomial, 0 if it has none: the specification's own number
     pub kinds: bool, // question 11 of the records so far
     pub numbers: bool, // question 12 of the records so far
-    pub none: usize, // 1 above the state that the first kind 5 says, 0 if there was none
+    pub none: Option<State>, // what the first kind 5 says
 }
 
 // A place in the bytes, and what has been seen of the records before it.
@@ -49,195 +69,65 @@ pub struct Position {
     pub seen: Seen,
 }
 
-// What has been seen when the records end, and the length used, 0 if there is no kind 4.
+// What has been seen when the records end, and the length used if there is a kind 4.
 #[derive(Clone, Copy)]
 pub struct Gathered {
-    pub used: usize,
-    pub kinds: bool,
-    pub numbers: bool,
-    pub none: usize,
-}
-
-pub fn wide(x: u8) -> usize
-    ensures { result ≡ x }
-{
-    x as usize
+    pub used: Option<usize>,
+    pub seen: Seen,
 }
 
 // 'Masks are two bytes, low byte first'
-pub fn mask_of(low: u8, high: u8) -> usize
+fn mask_of(low: u8, high: u8) -> usize
     ensures { result ≡ low + 256 * high }
 {
-    wide(low) + 256 * wide(high)
+    usize::from(u16::from_le_bytes([low, high]))
 }
 
-// 'one byte of kind, then a body whose length the kind fixes': the sizes of the kinds, 0 where there is no such kind.
-const SIZES: [usize; 8] = [0, 4, 3, 4, 2, 2, 7, 3];
-
-fn size_of(kind: u8) -> usize
-    ensures { result ≡ size kind }
-{
-    let k = wide(kind);
-    if k < 8 {
-        return SIZES[k];
-    }
-    0
-}
-
-// The size of the whole record at a place, 0 if there is none.
-pub fn size_at(s: &[u8], at: usize) -> usize
+// The kind of the whole record that stands at a place, if there is one.
+pub fn kind_at(s: &[u8], at: usize) -> Option<Kind>
     requires { at ≤ length s.now }
-    ensures { result ≡ length (next (drop at s.now)) }
+    ensures { MatchOption result (NoneStands s.now at) (IsThere s.now at) }
 {
     if s.len() <= at {
-        return 0;
+        return None;
     }
-    let n = size_of(s[at]);
-    if s.len() - at < n {
-        return 0;
+    let kind = Kind::try_from(s[at]).ok()?;
+    if s.len() - at < kind.size() {
+        return None;
     }
-    n
+    Some(kind)
 }
 
-// Does a whole record of kind k, which has n bytes, stand at a place?
-pub fn is_there(s: &[u8], at: usize, k: u8, n: usize) -> bool
-    requires { (at ≤ length s.now) × (n ≡ size k) × (0 < n) }
-    ensures { result ≡ eqb (kind (next (drop at s.now))) k }
+// Does a whole record of the kind stand at a place?
+#[inline(always)]
+fn is_there(s: &[u8], at: usize, kind: Kind) -> bool
+    requires { at ≤ length s.now }
+    ensures value { result ≡ stands s.now at kind }
+    ensures there { MatchBool result (IsThere s.now at kind) ⊤ }
 {
-    if s.len() - at < n {
-        return false;
-    }
-    s[at] == k
+    kind.size() <= s.len() - at && s[at] == kind.byte()
 }
 
-// The route that a record says, 0 if none.
-fn route_in(r: &[u8]) -> u8
-    requires { Whole r.now }
-    ensures { result ≡ value_of route_field r.now }
+// May the kind stand right behind the one before, or first, where there is none before?
+#[tactic(auto, unfolding(entry::specs::Questions::may_follow, ring::specs::Lists::has))]
+fn may_follow(before: Option<Kind>, kind: Kind) -> bool
+    ensures { result ≡ may_follow (byte_before before) (byte_of kind) }
 {
-    if r.len() == 0 {
-        return 0;
-    }
-    match r[0] {
-        1 => r[1],
-        4 => r[1],
-        _ => 0,
-    }
-}
-
-fn unknowns_in(r: &[u8]) -> usize
-    requires { Whole r.now }
-    ensures { result ≡ value_of unknowns_field r.now }
-{
-    if r.len() == 0 {
-        return 0;
-    }
-    match r[0] {
-        1 => wide(r[2]),
-        _ => 0,
-    }
-}
-
-fn givens_in(r: &[u8]) -> usize
-    requires { Whole r.now }
-    ensures { result ≡ value_of givens_field r.now }
-{
-    if r.len() == 0 {
-        return 0;
-    }
-    match r[0] {
-        1 => wide(r[3]),
-        _ => 0,
-    }
-}
-
-fn either(a: bool, b: bool) -> bool
-    ensures { result ≡ (a || b) }
-{
-    if a {
-        return true;
-    }
-    b
-}
-
-// May kind k stand right behind kind p, or first, where p is 0?
-fn may_follow(p: u8, k: u8) -> bool
-    ensures { result ≡ may_follow p k }
-{
-    match p {
-        0 => k == 1,
-        1 => either(
-            k == 2,
-            either(
-                k == 3,
-                either(k == 4, either(k == 5, either(k == 6, k == 7))),
-            ),
+    match before {
+        None => kind == Kind::Start,
+        Some(Kind::Start) => kind != Kind::Start,
+        Some(Kind::Condition) => matches!(
+            kind,
+            Kind::Condition | Kind::Answer | Kind::End | Kind::None
         ),
-        2 => either(k == 2, either(k == 3, either(k == 4, k == 5))),
-        3 => either(k == 3, k == 4),
-        5 => k == 4,
-        6 | 7 => either(
-            k == 2,
-            either(k == 3, either(k == 4, either(k == 5, k == 7))),
+        Some(Kind::Answer) => matches!(kind, Kind::Answer | Kind::End),
+        Some(Kind::End) => false,
+        Some(Kind::None) => kind == Kind::End,
+        Some(Kind::Order | Kind::Fact) => matches!(
+            kind,
+            Kind::Condition | Kind::Answer | Kind::End | Kind::None | Kind::Fact
         ),
-        _ => false,
     }
-}
-
-fn both(a: bool, b: bool) -> bool
-    ensures { result ≡ (a && b) }
-{
-    if a {
-        return b;
-    }
-    false
-}
-
-// 1 above the state that is said first.
-fn said_first(none: usize, state: u8) -> usize
-    ensures { result ≡ said_first none state }
-{
-    if none == 0 {
-        return wide(state) + 1;
-    }
-    none
-}
-
-fn seen_next(seen: Seen, k: u8, p: usize, follows: bool, fits: bool, none: usize) -> Seen
-    ensures { result ≡ record { kind = k; place = p; kinds = seen.kinds && follows; numbers = seen.numbers && fits; none = none } }
-{
-    let kinds = both(seen.kinds, follows);
-    let numbers = both(seen.numbers, fits);
-    Seen {
-        kind: k,
-        place: p,
-        kinds,
-        numbers,
-        none,
-    }
-}
-
-// The place of the monomial m of table i. One rising number tells it: the table, then the rank in the written order.
-fn place_of(counts: &[u8; 32], i: usize, m: usize) -> usize
-    requires { AreLetters counts.now × (i ≤ 257) × (m < 1024) }
-    ensures { result ≡ place i m }
-{
-    16384 * i + order::rank_of(counts, m) + 1
-}
-
-// A monomial of table i.
-fn see_monomial(seen: Seen, k: u8, i: usize, m: usize, fits: bool, counts: &[u8; 32]) -> Seen
-    requires { (i ≤ 257) × (fits ≡ true → m < 1024) × AreLetters counts.now }
-    ensures { result ≡ seen_monomial seen k i m fits }
-{
-    let follows = may_follow(seen.kind, k);
-    let none = seen.none;
-    if !fits {
-        return seen_next(seen, k, 0, follows, false, none);
-    }
-    let p = place_of(counts, i, m);
-    let rises = seen.place < p;
-    seen_next(seen, k, p, follows, rises, none)
 }
 
 // The bytes of an order, from its record.
@@ -248,286 +138,269 @@ fn order_in(r: &[u8]) -> [u8; 6]
     [r[1], r[2], r[3], r[4], r[5], r[6]]
 }
 
-// What has been seen with one more record.
-fn see(
-    seen: Seen,
-    route: u8,
-    u: usize,
-    g: usize,
-    masks: usize,
-    states: usize,
-    counts: &[u8; 32],
-    r: &[u8],
-) -> Seen
-    requires { Bounds u g masks states × Whole r.now × (0 < length r.now) × AreLetters counts.now }
-    ensures { result ≡ seen_record route u g seen r.now }
+// The monomial of a record that has one.
+#[inline(always)]
+#[tactic(auto, unfolding(entry::specs::Record::size, entry::specs::Record::fields, entry::specs::Record::widths))]
+fn monomial_in(kind: Kind, r: &[u8]) -> Monomial
+    requires { IsOf kind r.now × (stands_in_row kind ≡ true) }
+    ensures is { (result.table ≡ table_in r.now) × (result.mask ≡ value_of mask_field r.now) }
+    ensures small { (result.table ≤ 257) × (result.mask < 65536) }
 {
-    let k = r[0];
-    let none = seen.none;
-    match k {
-        2 => {
-            let m = mask_of(r[1], r[2]);
-            see_monomial(seen, 2, 1, m, m < masks, counts)
-        }
-        3 => {
-            let j = wide(r[1]);
-            let m = mask_of(r[2], r[3]);
-            see_monomial(seen, 3, j + 2, m, both(j < u, m < masks), counts)
-        }
-        4 => {
-            let follows = both(may_follow(seen.kind, 4), r[1] == route);
-            seen_next(seen, 4, 0, follows, true, none)
-        }
-        5 => {
-            let follows = may_follow(seen.kind, 5);
-            let said = said_first(none, r[1]);
-            seen_next(seen, 5, 0, follows, wide(r[1]) < states, said)
-        }
-        6 => {
-            let follows = may_follow(seen.kind, 6);
-            let is_default = entry::is_default(u, order_in(r));
-            seen_next(seen, 6, 0, follows, !is_default, none)
-        }
-        7 => {
-            let m = mask_of(r[1], r[2]);
-            see_monomial(seen, 7, 0, m, m < masks, counts)
-        }
-        _ => {
-            let follows = may_follow(seen.kind, k);
-            seen_next(seen, k, 0, follows, true, none)
-        }
-    }
-}
-
-fn gathered_at(used: usize, seen: Seen) -> Gathered
-    ensures { result ≡ record { used = used; kinds = seen.kinds; numbers = seen.numbers; none = seen.none } }
-{
-    let kinds = seen.kinds;
-    let numbers = seen.numbers;
-    let none = seen.none;
-    Gathered {
-        used,
-        kinds,
-        numbers,
-        none,
-    }
-}
-
-fn position_at(at: usize, seen: Seen, place: usize) -> Position
-    ensures { result ≡ record { at = at; seen = placed seen place } }
-{
-    let kind = seen.kind;
-    let kinds = seen.kinds;
-    let numbers = seen.numbers;
-    let none = seen.none;
-    Position {
-        at,
-        seen: Seen {
-            kind,
-            place,
-            kinds,
-            numbers,
-            none,
+    match kind {
+        Kind::Answer => Monomial {
+            table: usize::from(r[1]) + 2,
+            mask: mask_of(r[2], r[3]),
+        },
+        Kind::Condition => Monomial {
+            table: 1,
+            mask: mask_of(r[1], r[2]),
+        },
+        _ => Monomial {
+            table: 0,
+            mask: mask_of(r[1], r[2]),
         },
     }
 }
 
-// Goes over the records of kind 2 that stand behind one of kind 2, as long as each passes question 12: of what has been seen only the
-// place changes.
-fn pass_conditions(
-    s: &[u8],
-    from: usize,
-    seen: Seen,
+impl Bounds {
+    fn new(route: u8, letters: Letters) -> Self
+        ensures { (result.route ≡ route) × (result.letters ≡ letters) }
+    {
+        Bounds {
+            route,
+            letters,
+            states: tables::pow2(letters.givens),
+            counts: order::letter_counts(),
+        }
+    }
+
+    // The place of the monomial of a record that has one, if it is within its bounds. One rising number tells it: the table, then the rank
+    // in the written order.
+    #[inline(always)]
+    fn place_in(&self, kind: Kind, r: &[u8]) -> Option<usize>
+        requires { IsOf kind r.now × (stands_in_row kind ≡ true) }
+        ensures { MatchOption result (in_bounds self.now.letters.unknowns self.now.letters.givens r.now ≡ false)
+            (λ p. (in_bounds self.now.letters.unknowns self.now.letters.givens r.now ≡ true) × (p ≡ place_of r.now)) }
+    {
+        let monomial = monomial_in(kind, r);
+        if monomial.table < self.letters.unknowns + 2 && monomial.mask < self.letters.table_len {
+            Some(16384 * monomial.table + order::rank_of(&self.counts, monomial.mask) + 1)
+        } else {
+            None
+        }
+    }
+
+    // What has been seen with one more record.
+    #[tactic(auto, unfolding(entry::specs::Record::size, entry::specs::Record::fields, entry::specs::Record::widths))]
+    fn see(&self, seen: Seen, kind: Kind, r: &[u8]) -> Seen
+        requires { IsOf kind r.now }
+        ensures { result ≡ seen_record self.now.route self.now.letters.unknowns self.now.letters.givens seen r.now }
+    {
+        let next = Seen {
+            kind: Some(kind),
+            place: 0,
+            kinds: seen.kinds & may_follow(seen.kind, kind),
+            ..seen
+        };
+        match kind {
+            Kind::Start => next,
+            Kind::Condition | Kind::Answer | Kind::Fact => match self.place_in(kind, r) {
+                Some(place) => Seen {
+                    place,
+                    numbers: seen.numbers & (seen.place < place),
+                    ..next
+                },
+                None => Seen {
+                    numbers: false,
+                    ..next
+                },
+            },
+            Kind::End => Seen {
+                kinds: next.kinds & (r[1] == self.route),
+                ..next
+            },
+            Kind::None => Seen {
+                numbers: seen.numbers & (usize::from(r[1]) < self.states),
+                none: seen.none.or(Some(State(usize::from(r[1])))),
+                ..next
+            },
+            Kind::Order => Seen {
+                numbers: seen.numbers & !entry::is_default(self.letters.unknowns, order_in(r)),
+                ..next
+            },
+        }
+    }
+
+    // Goes over the records of a kind that stand behind one of it, as long as each passes question 12: of what has been seen only the
+    // place changes. Where it is called with a known kind it becomes a loop that asks no more than it must.
+    #[inline(always)]
+    fn pass_row(&self, s: &[u8], from: usize, seen: Seen, kind: Kind) -> Position
+        requires { (from ≤ length s.now) × (seen.kind ≡ Some kind) × (stands_in_row kind ≡ true) }
+        ensures { Further s.now self.now.route self.now.letters.unknowns self.now.letters.givens seen from result.seen result.at }
+    {
+        let mut at = from;
+        let mut place = seen.place;
+        // From record to record, as far as the row goes: no iterator walks these.
+        while is_there(s, at, kind) {
+            let Some(next) = self.place_in(kind, &s[at..at + kind.size()]) else {
+                break;
+            };
+            if next <= place {
+                break;
+            }
+            place = next;
+            at += kind.size();
+        }
+        Position {
+            at,
+            seen: Seen { place, ..seen },
+        }
+    }
+
+    // Most records are monomials behind one of their kind.
+    fn pass_monomials(&self, s: &[u8], from: usize, seen: Seen) -> Position
+        requires { from ≤ length s.now }
+        ensures { Further s.now self.now.route self.now.letters.unknowns self.now.letters.givens seen from result.seen result.at }
+    {
+        match seen.kind {
+            Some(Kind::Condition) => self.pass_row(s, from, seen, Kind::Condition),
+            Some(Kind::Answer) => self.pass_row(s, from, seen, Kind::Answer),
+            Some(Kind::Fact) => self.pass_row(s, from, seen, Kind::Fact),
+            _ => Position { at: from, seen },
+        }
+    }
+
+    // Goes over the records to the first kind 4, or to where no whole record stands.
+    fn gather(&self, s: &[u8]) -> Gathered
+        ensures { result ≡ gathered self.now.route self.now.letters.unknowns self.now.letters.givens (records s.now) }
+    {
+        let mut at = 0;
+        let mut seen = Seen {
+            kind: None,
+            place: 0,
+            kinds: true,
+            numbers: true,
+            none: None,
+        };
+        while let Some(kind) = kind_at(s, at) {
+            let behind = at + kind.size();
+            let next = self.see(seen, kind, &s[at..behind]);
+            if kind == Kind::End {
+                return Gathered {
+                    used: Some(behind),
+                    seen: next,
+                };
+            }
+            let to = self.pass_monomials(s, behind, next);
+            at = to.at;
+            seen = to.seen;
+        }
+        Gathered { used: None, seen }
+    }
+}
+
+// Questions 10, 11, 1, 2, 12 and 17, where 1 and 17 are answered: the letters, and the length used.
+#[tactic(auto, unfolding(tables::specs::Questions::first_no))]
+fn ask_gathered(
+    gathered: Gathered,
+    letters: Option<Letters>,
     route: u8,
-    u: usize,
-    g: usize,
-    masks: usize,
-    counts: &[u8; 32],
-) -> Position
-    requires { (from ≤ length s.now) × (seen.kind ≡ 2) × Bounds u g masks (2 ^ g) × AreLetters counts.now }
-    ensures { Further s.now route u g seen from result.seen result.at }
+    ordered: bool,
+) -> Result<(Letters, usize), Question>
+    ensures { MatchResult result (PassedGathered gathered letters route ordered)
+        (IsFirstNo (gathered_questions gathered letters route ordered)) }
 {
-    let mut at = from;
-    let mut place = seen.place;
-    while is_there(s, at, 2, 3) {
-        let m = mask_of(s[at + 1], s[at + 2]);
-        if masks <= m {
-            return position_at(at, seen, place);
-        }
-        let p = place_of(counts, 1, m);
-        if p <= place {
-            return position_at(at, seen, place);
-        }
-        place = p;
-        at += 3;
-    }
-    position_at(at, seen, place)
+    let used = gathered.used.ok_or(Question::Records)?;
+    tables::require(Question::Kinds, gathered.seen.kinds)?;
+    let letters = letters.ok_or(Question::Letters)?;
+    tables::require(Question::Route, entry::route_fits(usize::from(route)))?;
+    tables::require(Question::Numbers, gathered.seen.numbers)?;
+    tables::require(Question::Order, ordered)?;
+    Ok((letters, used))
 }
 
-// The same for kind 3.
-fn pass_answers(
-    s: &[u8],
-    from: usize,
-    seen: Seen,
-    route: u8,
-    u: usize,
-    g: usize,
-    masks: usize,
-    counts: &[u8; 32],
-) -> Position
-    requires { (from ≤ length s.now) × (seen.kind ≡ 3) × Bounds u g masks (2 ^ g) × AreLetters counts.now }
-    ensures { Further s.now route u g seen from result.seen result.at }
-{
-    let mut at = from;
-    let mut place = seen.place;
-    while is_there(s, at, 3, 4) {
-        let j = wide(s[at + 1]);
-        let m = mask_of(s[at + 2], s[at + 3]);
-        if !both(j < u, m < masks) {
-            return position_at(at, seen, place);
-        }
-        let p = place_of(counts, j + 2, m);
-        if p <= place {
-            return position_at(at, seen, place);
-        }
-        place = p;
-        at += 4;
-    }
-    position_at(at, seen, place)
-}
-
-// Most records are monomials behind one of their kind: each of the two kinds has a loop of its own, which asks no more than it must.
-fn pass_monomials(
-    s: &[u8],
-    from: usize,
-    seen: Seen,
-    route: u8,
-    u: usize,
-    g: usize,
-    masks: usize,
-    counts: &[u8; 32],
-) -> Position
-    requires { (from ≤ length s.now) × Bounds u g masks (2 ^ g) × AreLetters counts.now }
-    ensures { Further s.now route u g seen from result.seen result.at }
-{
-    let kind = seen.kind;
-    match kind {
-        2 => pass_conditions(s, from, seen, route, u, g, masks, counts),
-        3 => pass_answers(s, from, seen, route, u, g, masks, counts),
-        _ => Position { at: from, seen },
-    }
-}
-
-// Goes over the records to the first kind 4, or to where no whole record stands.
-fn gather(s: &[u8], route: u8, u: usize, g: usize, masks: usize, states: usize) -> Gathered
-    requires { Bounds u g masks states }
-    ensures { result ≡ gathered route u g (records s.now) }
-{
-    let counts = order::letter_counts();
-    let mut at = 0;
-    let mut seen = Seen {
-        kind: 0,
-        place: 0,
-        kinds: true,
-        numbers: true,
-        none: 0,
-    };
-    while at < s.len() {
-        let n = size_at(s, at);
-        if n == 0 {
-            return gathered_at(0, seen);
-        }
-        let behind = at + n;
-        let next = see(seen, route, u, g, masks, states, &counts, &s[at..behind]);
-        if next.kind == 4 {
-            return gathered_at(behind, next);
-        }
-        let to = pass_monomials(s, behind, next, route, u, g, masks, &counts);
-        at = to.at;
-        seen = to.seen;
-    }
-    gathered_at(0, seen)
-}
-
-// The first no of 10, 11, 1, 2, 12 and 17, or 0; `fits` answers 1, `ordered` 17.
-fn refusal_of(gathered: Gathered, fits: bool, route: u8, ordered: bool) -> u8
-    ensures { result ≡ first_no (gathered_questions gathered fits route ordered) }
-{
-    let q = tables::ask(0, Question::Records, 0 < gathered.used);
-    let q = tables::ask(q, Question::Kinds, gathered.kinds);
-    let q = tables::ask(q, Question::Letters, fits);
-    let q = tables::ask(q, Question::Route, entry::route_fits(wide(route)));
-    let q = tables::ask(q, Question::Numbers, gathered.numbers);
-    tables::ask(q, Question::Order, ordered)
-}
-
-fn verdict_of(none: usize) -> Verdict
+fn verdict_of(none: Option<State>) -> Verdict
     ensures { result ≡ said_by none }
 {
-    if none == 0 {
-        return Verdict::Solved;
+    match none {
+        None => Verdict::Solved,
+        Some(state) => Verdict::None(state),
     }
-    Verdict::None(State(none - 1))
 }
 
-// No number of letters where question 1 is answered no, so that the bounds of 12 can be formed.
-fn fitting(fits: bool, letters: usize) -> usize
-    ensures { result ≡ cond fits letters 0 }
+// No letters where question 1 is answered no, so that the bounds of 12 can be formed.
+fn bounding(letters: Option<Letters>) -> Letters
+    ensures { MatchOption letters ((result.unknowns ≡ 0) × (result.givens ≡ 0)) (λ l. result ≡ l) }
 {
-    if fits {
-        return letters;
+    match letters {
+        Some(letters) => letters,
+        None => Letters {
+            unknowns: 0,
+            givens: 0,
+            n: 0,
+            table_len: 1,
+        },
     }
-    0
 }
 
 // What the first record says.
+#[tactic(auto, unfolding(entry::specs::Record::size, entry::specs::Record::fields, entry::specs::Record::widths))]
 fn start_of(s: &[u8]) -> Heading
     ensures { result ≡ start_of (records s.now) }
 {
-    let n = size_at(s, 0);
-    let route = route_in(&s[..n]);
-    let unknowns = unknowns_in(&s[..n]);
-    let givens = givens_in(&s[..n]);
-    Heading {
-        route,
-        unknowns,
-        givens,
+    let nothing = Heading {
+        route: 0,
+        unknowns: 0,
+        givens: 0,
         used: 0,
+    };
+    if is_there(s, 0, Kind::Start) {
+        return Heading {
+            route: s[1],
+            unknowns: usize::from(s[2]),
+            givens: usize::from(s[3]),
+            ..nothing
+        };
     }
+    if is_there(s, 0, Kind::End) {
+        return Heading {
+            route: s[1],
+            ..nothing
+        };
+    }
+    nothing
 }
 
 // The order's bytes: those of a kind 6 that stands second, or the order 0, 1, 2, ..
 fn order_of(s: &[u8], u: usize) -> [u8; 6]
     ensures { result ≡ order_behind u (records s.now) }
 {
-    let n = size_at(s, 0);
-    if n == 0 {
-        return solution::default_order(u);
+    let default = solution::default_order(u);
+    let Some(first) = kind_at(s, 0) else {
+        return default;
+    };
+    if first == Kind::End {
+        return default;
     }
-    if s[0] == 4 {
-        return solution::default_order(u);
+    let at = first.size();
+    if !is_there(s, at, Kind::Order) {
+        return default;
     }
-    let m = size_at(s, n);
-    if m == 0 {
-        return solution::default_order(u);
-    }
-    if s[n] != 6 {
-        return solution::default_order(u);
-    }
-    let end = n + m;
-    order_in(&s[n..end])
+    let behind = at + Kind::Order.size();
+    order_in(&s[at..behind])
 }
 
+// The library's method, behind one equation, which the proofs of what is filled cite.
 pub fn clear(t: &mut [u8])
     ensures { t.new ≡ zeros (length t.old) }
 {
-    for i in 0..t.len() {
-        t[i] = 0;
-    }
+    t.fill(0);
 }
 
-// A monomial of another table may lie past the end.
-pub fn put_one(t: &mut [u8], p: usize)
+// Answers for which there is no room lie past the end.
+// By index, and not by `get_mut`: what a write through that leaves in the slice is not proved.
+#[inline]
+fn put_one(t: &mut [u8], p: usize)
     ensures { t.new ≡ set t.old p 1 }
 {
     if p < t.len() {
@@ -535,106 +408,109 @@ pub fn put_one(t: &mut [u8], p: usize)
     }
 }
 
+// The byte of a record's monomial in the tables of its kind, of k bytes each, which lie one behind another.
+#[inline(always)]
+fn byte_in(kind: Kind, r: &[u8], k: usize) -> usize
+    requires { IsOf kind r.now × (stands_in_row kind ≡ true) × (k ≤ 1024) }
+    ensures { result ≡ (table_in r.now - base_of kind) * k + value_of mask_field r.now }
+{
+    let monomial = monomial_in(kind, r);
+    (monomial.table - kind.first_table()) * k + monomial.mask
+}
+
+// The monomials in the records of a kind that stand one behind another become 1 in the tables of that kind; answers the place behind them.
+// Where it is called with a known kind it becomes a loop for that kind.
+#[inline(always)]
+pub fn put_row(s: &[u8], from: usize, kind: Kind, letters: Letters, t: &mut [u8]) -> usize
+    requires { (from ≤ length s.now) × (stands_in_row kind ≡ true) × Fitting letters.unknowns letters.givens (records (drop from s.now)) }
+    ensures row { RowFilling kind s.now letters.unknowns letters.givens t.old from t.new result }
+    ensures ended { stands s.now result kind ≡ false }
+    ensures onward { stands s.now from kind ≡ true → from < result }
+{
+    let mut at = from;
+    // From record to record, as far as the row goes: no iterator walks these.
+    while is_there(s, at, kind) {
+        let behind = at + kind.size();
+        put_one(t, byte_in(kind, &s[at..behind], letters.table_len));
+        at = behind;
+    }
+    at
+}
+
 // Where the monomials of the fact stand in a row, if there are any: behind the start, and behind the kind 6 if there is one.
 fn fact_at(s: &[u8]) -> usize
     requires { kinds_fit (records s.now) ≡ true }
     ensures { (U G : ℕ) (t : List ℕ) → Fitting U G (records s.now) → FactFilling s.now U G t t result }
 {
-    if is_there(s, 4, 6, 7) {
-        return 11;
+    let at = Kind::Start.size();
+    if is_there(s, at, Kind::Order) {
+        return at + Kind::Order.size();
     }
-    4
+    at
 }
 
 // Has an entry that passes the questions before 22 a record of its fact? If not, the fact is 0; that is all that is needed of it.
 pub fn has_fact(s: &[u8]) -> bool
-    requires { first_no (record_questions (records s.now)) ≡ 0 }
+    requires { NoneNo (record_questions (records s.now)) }
     ensures { result ≡ false → (held_condition (records s.now)).fact
         ≡ no_fact (unknowns_of (records s.now) + givens_of (records s.now)) }
 {
     let at = fact_at(s);
-    is_there(s, at, 7, 3)
+    is_there(s, at, Kind::Fact)
 }
 
 // The fact that an entry holds which passes the questions before 22.
-pub fn fill_fact(s: &[u8], u: usize, g: usize, fact: &mut [u8])
-    requires { Passed s.now u g × (length fact.old ≡ 2 ^ (u + g)) }
+pub fn fill_fact(s: &[u8], letters: Letters, fact: &mut [u8])
+    requires { Passed s.now letters × (length fact.old ≡ letters.table_len) }
     ensures { fact.new ≡ (held_condition (records s.now)).fact }
 {
     clear(fact);
-    let mut at = fact_at(s);
-    while is_there(s, at, 7, 3) {
-        put_one(fact, mask_of(s[at + 1], s[at + 2]));
-        at += 3;
-    }
+    let at = fact_at(s);
+    put_row(s, at, Kind::Fact, letters, fact);
 }
 
-// Questions 22 and 23: the first no, or 0 and the values of 1 + g in `kept`. The table lives here, so that an entry without a fact does
-// not clear it.
-pub fn keep_fact(s: &[u8], u: usize, g: usize, kept: &mut [u64]) -> u8
-    requires { Passed s.now u g × (length kept.old ≡ 2 ^ (u + g - 6)) }
-    ensures value { result ≡ first_no (fact_questions u g (held_condition (records s.now)).fact) }
-    ensures kept_after { result ≡ 0 → kept.new ≡ kept_words (u + g) (held_condition (records s.now)).fact }
+// Questions 22 and 23, and the values of 1 + g in `kept`. The table lives here, so that an entry without a fact does not clear it.
+pub fn keep_fact(s: &[u8], letters: Letters, kept: &mut [u64]) -> Result<(), Question>
+    requires { Passed s.now letters × (length kept.old ≡ 2 ^ (letters.n - 6)) }
+    ensures value { MatchResult result (λ _. NoneNo (fact_questions letters.unknowns letters.givens (held_condition (records s.now)).fact))
+        (IsFirstNo (fact_questions letters.unknowns letters.givens (held_condition (records s.now)).fact)) }
+    ensures kept_after { OnOk result (kept.new ≡ kept_words letters.n (held_condition (records s.now)).fact) }
 {
-    let k = tables::pow2(u + g);
-    let mut fact = [0u8; 1024];
-    fill_fact(s, u, g, &mut fact[..k]);
-    facts::keep(u, g, &fact[..k], kept)
+    let mut scratch = [0u8; 1024];
+    let fact = &mut scratch[..letters.table_len];
+    fill_fact(s, letters, fact);
+    facts::keep(letters, fact, kept)
 }
 
-// The answer alone.
-fn fact_refusal(s: &[u8], u: usize, g: usize) -> u8
-    requires { Passed s.now u g }
-    ensures { result ≡ first_no (fact_questions u g (held_condition (records s.now)).fact) }
+// Questions 22 and 23 behind those before them. Most entries have no fact to ask about.
+fn ask_fact(s: &[u8], letters: Letters) -> Result<(), Question>
+    requires { Passed s.now letters }
+    ensures { MatchResult result (λ _. NoneNo (entry_questions (records s.now))) (IsFirstNo (entry_questions (records s.now))) }
 {
-    let w = words::word_count(u + g);
-    let mut kept = [0u64; 16];
-    keep_fact(s, u, g, &mut kept[..w])
-}
-
-// Questions 22 and 23 behind those before them: the first no counts, and most entries have no fact to ask about.
-fn then_facts(s: &[u8], refusal: u8, u: usize, g: usize) -> u8
-    requires { (u ≡ unknowns_of (records s.now)) × (g ≡ givens_of (records s.now))
-        × (refusal ≡ first_no (record_questions (records s.now))) }
-    ensures { result ≡ first_no (entry_questions (records s.now)) }
-{
-    if refusal != 0 {
-        return refusal;
-    }
     if !has_fact(s) {
-        return 0;
+        return Ok(());
     }
-    fact_refusal(s, u, g)
+    let w = words::word_count(letters.n);
+    let mut kept = [0u64; 16];
+    keep_fact(s, letters, &mut kept[..w])
 }
 
-// Goes over the entry that the bytes begin with.
-pub fn survey_entry(s: &[u8]) -> Survey
-    ensures { result ≡ survey_of (records s.now) }
+// Goes over the entry that the bytes begin with, and asks 10, 11, 1, 2, 12, 17, 22 and 23.
+pub fn survey_entry(s: &[u8]) -> Result<Survey, Question>
+    ensures { MatchResult result (IsSurvey (records s.now)) (IsFirstNo (entry_questions (records s.now))) }
 {
     let start = start_of(s);
-    let route = start.route;
-    let unknowns = start.unknowns;
-    let givens = start.givens;
-    let fits = tables::letters_fit(unknowns, givens);
-    let u = fitting(fits, unknowns);
-    let g = fitting(fits, givens);
-    let gathered = gather(s, route, u, g, tables::pow2(u + g), tables::pow2(g));
-    let order = order_of(s, unknowns);
-    let ordered = solution::order_fits(unknowns, order);
-    let before = refusal_of(gathered, fits, route, ordered);
-    let refusal = then_facts(s, before, unknowns, givens);
-    let used = gathered.used;
-    let heading = Heading {
-        route,
-        unknowns,
-        givens,
-        used,
-    };
-    let verdict = verdict_of(gathered.none);
-    Survey {
-        refusal,
-        heading,
-        verdict,
+    let letters = Letters::new(start.unknowns, start.givens).ok();
+    let gathered = Bounds::new(start.route, bounding(letters)).gather(s);
+    let order = order_of(s, start.unknowns);
+    let ordered = solution::order_fits(start.unknowns, order);
+    let (letters, used) = ask_gathered(gathered, letters, start.route, ordered)?;
+    ask_fact(s, letters)?;
+    let heading = Heading { used, ..start };
+    let verdict = verdict_of(gathered.seen.none);
+    Ok(Survey {
+        entry: Entry { heading, verdict },
+        letters,
         order,
-    }
+    })
 }

@@ -3,14 +3,15 @@
 
 #![tactic(auto)]
 
-ghost use Rattle.std.specs.Prelude.{◌≡◌, [], ◌≤◌, length, drop};
+ghost use Rattle.std.specs.Prelude.{◌≡◌, [], ◌≤◌, ◌<◌, length, drop};
 ghost use Rattle.tables.specs.Answered.{answered, call};
 ghost use Rattle.entry.specs.Held.{records};
 ghost use Rattle.calls.specs.Questions.{route_rises, walk_questions};
 ghost use Rattle.calls.specs.Entries.{reading, read_values};
+ghost use Rattle.volume.specs.Inner.Before.{route_before};
 ghost use Rattle.calls.specs.Walk.{walked, walk_call};
 
-use calls::{Read, Walked};
+use calls::{Entry, Stopped};
 use tables::Question;
 
 // 'A walk is made from a lent volume and a place in it'
@@ -20,53 +21,43 @@ pub struct Walk<'a> {
     pub place: usize,
 }
 
-// Question 15; 0 stands for no route before.
-fn route_rises(before: u8, route: u8) -> bool
-    ensures { result ≡ route_rises before route }
+// Question 15. A route that passes question 2 is not 0, so that 0 may stand for none before.
+fn route_rises(before: Option<u8>, route: u8) -> bool
+    requires { 0 < route }
+    ensures { result ≡ route_rises (route_before before) route }
 {
-    if before == 0 {
-        return true;
+    match before {
+        None => true,
+        Some(before) => before < route,
     }
-    before < route
 }
 
 // The audit's questions, then 15, of the entry that stands at a place.
-fn audit_at(volume: &[u8], at: usize, before: u8) -> Read
+fn audit_at(volume: &[u8], at: usize, before: Option<u8>) -> Result<Entry, Question>
     requires { at ≤ length volume.now }
     ensures { answered (reading result) []
-        ≡ call (walk_questions before (records (drop at volume.now))) (read_values (records (drop at volume.now))) [] }
+        ≡ call (walk_questions (route_before before) (records (drop at volume.now))) (read_values (records (drop at volume.now))) [] }
 {
-    match audit::audit(&volume[at..]) {
-        Read::Entry(heading, verdict) => {
-            if !route_rises(before, heading.route) {
-                return Read::Refused(tables::number(Question::Rising));
-            }
-            Read::Entry(heading, verdict)
-        }
-        Read::Refused(found) => Read::Refused(found),
-    }
+    let entry = audit::audit(&volume[at..])?;
+    tables::require(Question::Rising, route_rises(before, entry.heading.route))?;
+    Ok(entry)
 }
 
 // The walk, on the slice and the number.
-fn walk_at(volume: &[u8], place: usize) -> Walked
+fn walk_at(volume: &[u8], place: usize) -> Result<usize, Stopped>
     ensures { answered (walked result) [] ≡ walk_call volume.now place }
 {
     let mut at = place;
-    let mut before = 0;
+    let mut before = None;
     let mut passed = 0;
+    // Each entry says where the next begins: no iterator walks these.
     while at < volume.len() {
-        match audit_at(volume, at, before) {
-            Read::Entry(heading, _) => {
-                before = heading.route;
-                passed += 1;
-                at += heading.used;
-            }
-            Read::Refused(found) => {
-                return Walked::Refused(found, passed);
-            }
-        }
+        let entry = audit_at(volume, at, before).map_err(|question| Stopped { question, passed })?;
+        before = Some(entry.heading.route);
+        passed += 1;
+        at += entry.heading.used;
     }
-    Walked::Count(passed)
+    Ok(passed)
 }
 
 pub fn walk_from<'a>(volume: &'a [u8], place: usize) -> Walk<'a>
@@ -75,14 +66,14 @@ pub fn walk_from<'a>(volume: &'a [u8], place: usize) -> Walk<'a>
     Walk { volume, place }
 }
 
-pub fn answer<'a>(walk: Walk<'a>) -> Walked
+pub fn answer<'a>(walk: Walk<'a>) -> Result<usize, Stopped>
     ensures { answered (walked result) [] ≡ walk_call walk.entry.volume.now walk.entry.place }
 {
     walk_at(walk.volume, walk.place)
 }
 
 // The walk, for callers that hold no `Walk`.
-pub fn walk_volume(volume: &[u8], place: usize) -> Walked
+pub fn walk_volume(volume: &[u8], place: usize) -> Result<usize, Stopped>
     ensures { answered (walked result) [] ≡ walk_call volume.now place }
 {
     answer(walk_from(volume, place))

@@ -1,21 +1,40 @@
--- Refused by a question before 4, or as `read_into` answers.
--- Assumes nothing.
-use mathlib.Core.Path.{sym, ap, ◌∙◌}
-use Rattle.records.specs.declared.Survey.{Survey}
-use Rattle.reader.proofs.Buffers.{read_refused}
+-- Refused before question 4, or by it, or with the tables written. Assumes nothing.
+use mathlib.Core.Path.{◌≡◌, ◌∙◌}
+use Prim.Native.Nat.{◌≤◌}
+use lib.ListN.{length}
+use lib.Seq.{length-take-le}
+use native.Mathlib.Omega.{arith}
+use Rattle.std.proofs.Common.{rules}
+use Rattle.std.proofs.lemmas.Result.{err_from_is_err_and}
+use Rattle.records.proofs.Facts.{passed_fits}
+use Rattle.reader.proofs.Buffers.{read_refused, read_short, survey_passed, size_small, read_done}
+use Rattle.reader.proofs.Filling.{table_held}
 use Rattle.reader.proofs.read_entry.Goals as goal
 
-pub returns-then-survey-ne0 : goal.returns-then-survey-ne0
-returns-then-survey-ne0 c = read_refused _ _ _ _ _ (ap (λ (x : Survey). x.refusal) c.survey_entry-survey.ensures) c.if-survey-ne0.true
+pub returns-in_err-survey : goal.returns-in_err-survey
+returns-in_err-survey c =
+    let no = err_from_is_err_and c.from_residual.result c.from_residual.ensures.1 in
+    rw (no.1, no.2) (read_refused _ _ _ _ _ _ c.in_err-survey.ensures)
 
-pub read_into-requires : goal.read_into-requires
-read_into-requires c = let e = c.survey_entry-survey.ensures in (
-  sym (ap (λ (x : Survey). x.refusal) e)
-      ∙ c.if-survey-ne0.false,
-  ap (λ (x : Survey). x.heading) e,
-  ap (λ (x : Survey). x.verdict) e,
-  ap (λ (x : Survey). x.order) e,
-)
+pub returns-in_err-ask_room : goal.returns-in_err-ask_room
+returns-in_err-ask_room c =
+    let no = err_from_is_err_and c.from_residual-in_err-ask_room.result c.from_residual-in_err-ask_room.ensures.1 in
+    rw (no.1, no.2) (read_short _ c.in_ok-survey.ensures _ _ _ _ _ c.in_err-ask_room.ensures)
+
+pub overflow_mul-size : goal.overflow_mul-size
+overflow_mul-size c = omega (arith, size_small _ c.in_ok-survey.ensures)
+
+pub fill_fact-requires : goal.fill_fact-requires
+fill_fact-requires c = (survey_passed _ c.in_ok-survey.ensures, length-take-le _ _ c.in_ok-ask_room.ensures.fact_room)
+
+pub fill_tables-requires : goal.fill_tables-requires
+fill_tables-requires c = (passed_fits _ (survey_passed _ c.in_ok-survey.ensures), length-take-le _ _ c.in_ok-ask_room.ensures.condition_room)
 
 pub returns : goal.returns
-returns c = c.read_into.ensures
+returns c =
+    let six : length c.in_ok-survey.survey.order ≡ 6 = search rules in
+    let fits : c.answer_room-room.result ≤ length c.args.answers.now = omega (arith, c.in_ok-ask_room.ensures.answer_room) in
+    let lent = length-take-le c.answer_room-room.result c.args.answers.now fits in
+    read_done _ c.in_ok-survey.ensures _ _ _ _ c.in_ok-ask_room.ensures c.answer_room-room.ensures.is c.fill_fact.ensures
+    (table_held _ (survey_passed _ c.in_ok-survey.ensures) c.fill_tables.ensures.condition_after) (λ e. c.fill_tables.ensures.answers_after (lent ∙ e)) (c.fill_tables.ensures.answers_len ∙ lent) six
+    c.told-order

@@ -1,15 +1,7 @@
--- The loop fills the bytes from the front. Assumes nothing.
-use mathlib.Core.Path.{refl, ◌∙◌}
-use borrow.Author.Rules.{rules}
-use Rattle.ring.proofs.Lists.{listed-tabulate}
-use Rattle.tables.proofs.Filled.{filled-start, filled_more, filled_end}
+-- Each byte is 0. Assumes nothing.
+use mathlib.Core.Path.{refl}
+use Rattle.records.proofs.Filling.{all_zero}
 use Rattle.records.proofs.clear.Goals as goal
 
-pub loop-i-init : goal.loop-i-init
-loop-i-init c = (search rules, filled-start _ _ _ refl, refl)
-
-pub loop-i-preserved : goal.loop-i-preserved
-loop-i-preserved c = (search rules, filled_more _ _ _ _ c.loop-i.invariant.1 _ c.loop-i-test.true refl, search rules)
-
 pub returns : goal.returns
-returns c = filled_end _ _ _ _ c.loop-i.invariant.1 c.loop-i.invariant.0 c.loop-i-test.false ∙ listed-tabulate _ _ _ (λ i l. refl)
+returns c = all_zero _ _ c.fill.ensures.len (λ k h. c.fill.ensures.clones k 0 h refl)

@@ -1,25 +1,13 @@
--- The first record, as far as it is whole.
--- Assumes nothing.
-use Rattle.records.proofs.Answers.{start_long, start_whole, start_is}
+-- The first record, if it is of a kind that says something. Assumes nothing.
+use mathlib.Core.Path.{sym}
+use Rattle.records.proofs.Answers.{start_says, end_says, nothing_said}
 use Rattle.records.proofs.start_of.Goals as goal
 
-pub slice_bounds-route_in-end : goal.slice_bounds-route_in-end
-slice_bounds-route_in-end c = search start_long
+pub returns-then-is_there : goal.returns-then-is_there
+returns-then-is_there c = start_says _ c.if-is_there.ensures.there.stands c.from.ensures c.from-then-is_there.ensures
 
-pub route_in-route-requires : goal.route_in-route-requires
-route_in-route-requires c = search start_whole
-
-pub slice_bounds-unknowns_in-end : goal.slice_bounds-unknowns_in-end
-slice_bounds-unknowns_in-end c = search start_long
-
-pub unknowns_in-unknowns-requires : goal.unknowns_in-unknowns-requires
-unknowns_in-unknowns-requires c = search start_whole
-
-pub slice_bounds-givens_in-end : goal.slice_bounds-givens_in-end
-slice_bounds-givens_in-end c = search start_long
-
-pub givens_in-givens-requires : goal.givens_in-givens-requires
-givens_in-givens-requires c = search start_whole
+pub returns-then-is_there-2 : goal.returns-then-is_there-2
+returns-then-is_there-2 c = end_says _ (sym c.if-is_there.ensures.value) c.if-is_there-2.ensures.there.stands
 
 pub returns : goal.returns
-returns c = search start_is
+returns c = nothing_said _ (sym c.if-is_there.ensures.value) (sym c.if-is_there-2.ensures.value)

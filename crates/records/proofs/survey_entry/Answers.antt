@@ -1,29 +1,21 @@
--- The bounds of question 12 are formed of letters that fit, so that they are small.
--- Assumes nothing.
-use native.Mathlib.Omega.{arith}
-use Prim.Native.Nat.{◌+◌, ◌≤◌}
-use Rattle.records.proofs.Answers.{few_letters, survey_bounds, asked_before_facts, survey_is}
+-- The first no, or what an entry says that passes. Assumes nothing.
+use Rattle.std.proofs.lemmas.Result.{err_from_is_err_and}
+use Rattle.records.proofs.Answers.{gathered_no, gathered_passed, survey_is}
 use Rattle.records.proofs.survey_entry.Goals as goal
 
-pub overflow_add-u : goal.overflow_add-u
-overflow_add-u c = let few : c.fitting-u.result + c.fitting-g.result ≤ 10 = search few_letters in
-    omega (arith, few)
+pub returns-in_err-letters : goal.returns-in_err-letters
+returns-in_err-letters c =
+    let no = err_from_is_err_and c.from_residual.result c.from_residual.ensures.1 in
+    rw (no.1, no.2)
+    (gathered_no _ c.start_of-start.ensures _ c.new.ensures c.ok-letters.ensures.value c.bounding.ensures c.new-2.result c.new-2.ensures c.gather-gathered.ensures
+    c.order_of-order.ensures c.order_fits-ordered.ensures _ c.in_err-letters.ensures)
 
-pub pow2-requires : goal.pow2-requires
-pow2-requires c = let few : c.fitting-u.result + c.fitting-g.result ≤ 10 = search few_letters in
-    few
-
-pub pow2-requires-2 : goal.pow2-requires-2
-pow2-requires-2 c = let few : c.fitting-u.result + c.fitting-g.result ≤ 10 = search few_letters in
-    omega (arith, few)
-
-pub gather-gathered-requires : goal.gather-gathered-requires
-gather-gathered-requires c = search survey_bounds
-
-pub then_facts-refusal-requires : goal.then_facts-refusal-requires
-then_facts-refusal-requires c = asked_before_facts _ c.start_of-start.ensures c.letters_fit-fits.ensures
-    c.fitting-u.ensures c.fitting-g.ensures c.gather-gathered.ensures
-    c.order_of-order.ensures c.order_fits-ordered.ensures c.refusal_of-before.ensures
+pub ask_fact-requires : goal.ask_fact-requires
+ask_fact-requires c =
+    gathered_passed _ c.start_of-start.ensures _ c.new.ensures c.ok-letters.ensures.value c.bounding.ensures c.new-2.result c.new-2.ensures
+    c.gather-gathered.ensures c.order_of-order.ensures c.order_fits-ordered.ensures c.in_ok-letters.ensures
 
 pub returns : goal.returns
-returns c = search survey_is
+returns c =
+    survey_is _ c.start_of-start.ensures _ c.new.ensures c.ok-letters.ensures.value c.bounding.ensures c.new-2.result c.new-2.ensures c.gather-gathered.ensures
+    c.order_of-order.ensures c.order_fits-ordered.ensures c.in_ok-letters.ensures c.in_ok-ask_fact.ensures c.verdict_of-verdict.ensures

@@ -2,12 +2,15 @@
 -- Assumes nothing.
 use Rattle.std.specs.Prelude.{◌≡◌, true, false, ◌&&◌, cond, List, [], ◌∷◌, ℕ, ◌+◌, ◌-◌, ◌*◌, ◌^◌, ◌≤◌, leb, length, drop, set}
 use Rattle.ring.specs.Table.{tabulate}
-use Rattle.tables.specs.Questions.{first_no}
+use Rattle.tables.specs.declared.Letters.{Letters}
+use Rattle.tables.specs.Inner.Passed.{NoneNo, AreLetters}
 use Rattle.entry.specs.Record.{Record, mask_field, value_of, is_monomial, table_in}
 use Rattle.entry.specs.Held.{records, route_of, unknowns_of, givens_of}
 use Rattle.entry.specs.Questions.{kinds_follow}
 use Rattle.entry.specs.Inner.Places.{fits_behind}
 use Rattle.calls.specs.Questions.{record_questions}
+use Rattle.records.specs.declared.kinds.Kind.{Kind}
+use Rattle.records.specs.Inner.Kinds.{byte_of, base_of, IsOf}
 
 -- k bytes 0
 abbrev pub zeros : ℕ → List ℕ
@@ -42,8 +45,16 @@ pub record FactFilling (bs : List ℕ) (U G : ℕ) (t₀ t : List ℕ) (at : ℕ
   pub filling : Filling (put_monomial 0 (2 ^ (U + G))) bs U G t₀ 0 t at
   pub kinds : kinds_follow 7 (route_of (records bs)) (records (drop at bs)) ≡ true
 
--- bytes that pass the questions before 22, and how many letters they have
-pub record Passed (bs : List ℕ) (U G : ℕ) : Type 0 where
-  pub yes : first_no (record_questions (records bs)) ≡ 0
-  pub of_unknowns : U ≡ unknowns_of (records bs)
-  pub of_givens : G ≡ givens_of (records bs)
+-- the same for the tables of a kind and a row of its records. Tables that the kind's monomials do not change stay as they are, and what may
+-- stand behind the row is what may stand behind one of its records
+pub record RowFilling (k : Kind) (bs : List ℕ) (U G : ℕ) (t₀ : List ℕ) (from : ℕ) (t : List ℕ) (at : ℕ) : Type 0 where
+  pub own : Filling (put_monomial (base_of k) (2 ^ (U + G))) bs U G t₀ from t at
+  pub others : (base : ℕ) (s : List ℕ) → ((r : Record) → IsOf k r → s ≡ put_monomial base (2 ^ (U + G)) r s)
+      → Filling (put_monomial base (2 ^ (U + G))) bs U G s from s at
+  pub kinds : (route : ℕ) → kinds_follow (byte_of k) route (records (drop from bs)) ≡ true
+      → kinds_follow (byte_of k) route (records (drop at bs)) ≡ true
+
+-- bytes that pass the questions before 22, and their letters
+pub record Passed (bs : List ℕ) (l : Letters) : Type 0 where
+  pub yes : NoneNo (record_questions (records bs))
+  pub letters : AreLetters (unknowns_of (records bs)) (givens_of (records bs)) l

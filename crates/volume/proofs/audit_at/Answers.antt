@@ -1,30 +1,26 @@
 -- What is left of the volume is all that stands from the place on; the audit's answer there, then 15. Assumes nothing.
-use mathlib.Core.Path.{◌≡◌, ap, ◌∙◌}
-use mathlib.Core.List.{[]}
-use lib.ListN.{drop}
-use Rattle.tables.proofs.Questions.{failed, passed}
+use mathlib.Core.Path.{ap, ◌∙◌}
+use Rattle.std.proofs.lemmas.Result.{err_from_is_err_and}
 use Rattle.tables.proofs.Slices.{rest_of}
-use Rattle.tables.specs.Answered.{answered}
-use Rattle.calls.specs.Entries.{reading, audit_call}
-use Rattle.volume.proofs.Turns.{refused_first, refused_rising, passed_all}
-use mathlib.Core.Bool.{not}
+use Rattle.calls.specs.Entries.{audit_call}
+use Rattle.volume.proofs.Turns.{some_route, refused_first, refused_rising, passed_all}
 use Rattle.volume.proofs.audit_at.Goals as goal
 
-pub returns-then-not-route_rises : goal.returns-then-not-route_rises
-returns-then-not-route_rises c = let answer : answered (reading c.audit.result) []
-    ≡ audit_call (drop c.args.at c.args.volume.now) = let a = c.args in
-    c.audit.ensures ∙ ap audit_call (rest_of a.at a.volume.now) in
-    refused_rising _ _ _ (answer) c.in-Entry.is c.number.ensures
-    (failed c.route_rises.ensures (ap not c.if-not-route_rises.true))
+pub returns-in_err-entry : goal.returns-in_err-entry
+returns-in_err-entry c =
+    let no = err_from_is_err_and c.from_residual.result c.from_residual.ensures.1 in
+    rw (no.1, no.2) (refused_first _ _ _ (c.in_err-entry.ensures ∙ ap audit_call (rest_of c.args.at c.args.volume.now)))
 
-pub returns-else-not-route_rises : goal.returns-else-not-route_rises
-returns-else-not-route_rises c = let answer : answered (reading c.audit.result) []
-    ≡ audit_call (drop c.args.at c.args.volume.now) = let a = c.args in
-    c.audit.ensures ∙ ap audit_call (rest_of a.at a.volume.now) in
-    passed_all _ _ _ (answer) c.in-Entry.is (passed c.route_rises.ensures (ap not c.if-not-route_rises.false))
+pub route_rises-requires : goal.route_rises-requires
+route_rises-requires c = some_route 0 _ _ (c.in_ok-entry.ensures ∙ ap audit_call (rest_of c.args.at c.args.volume.now))
 
-pub returns-in-Refused : goal.returns-in-Refused
-returns-in-Refused c = let answer : answered (reading c.audit.result) []
-    ≡ audit_call (drop c.args.at c.args.volume.now) = let a = c.args in
-    c.audit.ensures ∙ ap audit_call (rest_of a.at a.volume.now) in
-    refused_first _ _ _ (answer) c.in-Refused.is
+pub returns-in_err-require : goal.returns-in_err-require
+returns-in_err-require c =
+    let no = err_from_is_err_and c.from_residual-in_err-require.result c.from_residual-in_err-require.ensures.1 in
+    rw (no.1, no.2)
+    (refused_rising _ _ _ (c.in_ok-entry.ensures ∙ ap audit_call (rest_of c.args.at c.args.volume.now)) c.route_rises.ensures _
+    c.in_err-require.ensures)
+
+pub returns : goal.returns
+returns c =
+    passed_all _ _ _ (c.in_ok-entry.ensures ∙ ap audit_call (rest_of c.args.at c.args.volume.now)) c.route_rises.ensures c.in_ok-require.ensures

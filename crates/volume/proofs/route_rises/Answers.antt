@@ -1,12 +1,12 @@
 -- Where there is no route before, the answer is yes; else the routes are compared. Assumes nothing.
-use borrow.Author.Tests.{eq-eqb, ne_eqb}
+use mathlib.Core.Path.{refl}
 use Rattle.calls.specs.Questions.{route_rises}
+use Rattle.volume.proofs.Turns.{rises}
 use Rattle.volume.proofs.route_rises.Goals as goal
 
-pub returns-then-before-eq0 : goal.returns-then-before-eq0
+pub returns-in-None : goal.returns-in-None
 unfolding route_rises
-returns-then-before-eq0 c = rw (eq-eqb c.args.before 0 c.if-before-eq0.true)
+returns-in-None c = rw c.in-None.is refl
 
-pub returns : goal.returns
-unfolding route_rises
-returns c = rw (ne_eqb c.args.before 0 c.if-before-eq0.false)
+pub returns-in-Some : goal.returns-in-Some
+returns-in-Some c = rw c.in-Some.is (rises c.in-Some.before c.args.route c.requires)

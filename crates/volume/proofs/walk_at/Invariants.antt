@@ -5,10 +5,11 @@ use mathlib.Core.Path.{◌≡◌}
 use Prim.Native.Nat.{◌-◌, ◌≤◌}
 use lib.ListN.{length, drop}
 use Rattle.calls.specs.Walk.{walk_behind, walk_reply}
+use Rattle.volume.specs.Inner.Before.{route_before}
 use Rattle.volume.proofs.walk_at.Given as goal
 
 abbrev pub invariant-loop-at : goal.invariant-loop-at
-invariant-loop-at l = (l.place ≤ l.at) × (l.passed ≤ l.at) × (walk_reply l.volume l.place ≡ walk_behind l.before l.passed (drop l.at l.volume))
+invariant-loop-at l = (l.place ≤ l.at) × (l.passed ≤ l.at) × (walk_reply l.volume l.place ≡ walk_behind (route_before l.before) l.passed (drop l.at l.volume))
 
 abbrev pub decreases-loop-at : goal.decreases-loop-at
 decreases-loop-at l = length l.volume - l.at

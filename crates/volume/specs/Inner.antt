@@ -1,0 +1,2 @@
+-- Inner work: what only proofs and inner functions cite.
+pub mod Before
