@@ -22,11 +22,13 @@ use Rattle.ring.specs.Length.{monomial_count, total_count}
 use Rattle.ring.proofs.Bool.{and_right, digit_lt}
 use Rattle.ring.proofs.Length.{total_most}
 use Rattle.ring.proofs.Parity.{count_most}
+use Rattle.std.specs.Prelude.{Result, Ok, Err}
+use Rattle.tables.specs.declared.Question.{Question}
 use Rattle.tables.specs.declared.Question.TheVariants.{Letters, Solution, Order}
 use Rattle.tables.specs.Questions.{Asked, asks, asks_giving, number, first_no, letters_fit, room_questions, bit_questions}
 use Rattle.tables.specs.Questions.{buffer_questions}
 use Rattle.tables.specs.Answered.{Reply, accepted, refused, reply}
-use Rattle.tables.proofs.FirstNo.{number_some, first_small, first_other, yes_to, asked_before}
+use Rattle.tables.proofs.FirstNo.{number_within, number_some, first_small, first_other, yes_to, asked_before}
 use Rattle.tables.proofs.Answered.{gives_nothing, reply_behind, reply_stops}
 use Rattle.tables.proofs.Questions.{letters_small, unknowns_small, givens_small}
 use Rattle.solution.specs.Condition.{polynomial}
@@ -53,7 +55,7 @@ use Rattle.calls.specs.Walk.{walk_refusal, walk_reply, Ends, at_end, refused_at,
 use Rattle.calls.proofs.Questions.{written_exactly, writable_archivable, passes_exactly}
 use Rattle.calls.proofs.Volume.{walk_exact, entries_most}
 use Rattle.session.specs.declared.Session.{Session}
-use Rattle.session.specs.Session.{new_session, asked_tables, under, added, marked, returned, stepped, start_step}
+use Rattle.session.specs.Session.{new_session, asked_tables, under, added, marked, returned, outcome_of, stepped, start_step}
 use Rattle.session.specs.History.{Action, adds, marks, returns, step_from}
 use Rattle.layodegi.specs.Codes.{narrow, code, heading_code, entry_code, numbered, state_in, plain_reply, value_reply, state_reply}
 use Rattle.layodegi.specs.Codes.{count_reply, entry_reply}
@@ -371,20 +373,21 @@ walk_decoded volume place are =
     ends_back (omega (arith, m)) w.ends
 
 -- ---- sessions: a start, and a step from any session
-step_back : (questions : List Asked) (after before : Session)
-    → plain_reply (code (outcome (stepped (first_no questions) after before).outcome)) ≡ outcome (stepped (first_no questions) after before).outcome
+step_back : (done : Result Unit Question) (after before : Session)
+    → plain_reply (code (outcome (stepped done after before).outcome)) ≡ outcome (stepped done after before).outcome
 unfolding numbered stepped
-step_back questions after before = go (first_no questions) (first_small questions)
+step_back (Ok done) after before = refl
+step_back (Err question) after before = go (number question) (number_within question).0 (number_within question).1
   where
-    go : (q : ℕ) → q < 256 → plain_reply (code (outcome (stepped q after before).outcome)) ≡ outcome (stepped q after before).outcome
-    go zero l = refl
-    go (suc n) l = let e : suc n % 256 ≡ suc n = omega arith in rw e
+    go : (q : ℕ) → 0 < q → q < 256 → plain_reply (code (refused q [])) ≡ refused q []
+    go zero some l = absurd (omega arith)
+    go (suc n) some l = let e : suc n % 256 ≡ suc n = omega arith in rw e
 
 pub start_decoded : (U G : ℕ) → plain_reply (code (outcome (start_step U G).outcome)) ≡ outcome (start_step U G).outcome
-start_decoded U G = step_back (start_questions U G) (new_session U G) (new_session 0 0)
+start_decoded U G = step_back (outcome_of (start_questions U G)) (new_session U G) (new_session 0 0)
 
 pub step_decoded : (s : Session) (action : Action) → plain_reply (code (outcome (step_from s action).outcome)) ≡ outcome (step_from s action).outcome
-step_decoded s (adds h) = step_back (add_questions s.unknowns s.givens (asked_tables s) h) (added s h) s
-step_decoded s (marks name) = step_back (mark_questions s.unknowns s.givens (asked_tables s) name) (marked s name) s
+step_decoded s (adds h) = step_back (outcome_of (add_questions s.unknowns s.givens (asked_tables s) h)) (added s h) s
+step_decoded s (marks name) = step_back (outcome_of (mark_questions s.unknowns s.givens (asked_tables s) name)) (marked s name) s
 step_decoded s (returns name) =
-    step_back (return_questions s.unknowns s.givens (asked_tables s) name (under s name).set) (returned s name) s
+    step_back (outcome_of (return_questions s.unknowns s.givens (asked_tables s) name (under s name).set)) (returned s name) s

@@ -6,88 +6,76 @@
 
 ghost use Rattle.std.specs.Prelude.{◌≡◌, [], ◌∷◌, ◌%◌, ◌<◌, ◌≤◌};
 ghost use Rattle.tables.specs.Answered.{answered, coded};
-ghost use Rattle.calls.specs.Counted.{counted};
-ghost use Rattle.calls.specs.Operations.{outcome, valued, value_call, sum_call, product_call, substitute_call, derivative_call};
+ghost use Rattle.calls.specs.Counted.{value_said};
+ghost use Rattle.calls.specs.Operations.{outcome, value_call, sum_call, product_call, substitute_call, derivative_call};
 ghost use Rattle.calls.specs.Text.{text_call};
 ghost use Rattle.calls.specs.Solving.{solving, boole_call, particular_call, lowenheim_call, handed_call};
 ghost use Rattle.calls.specs.Shorter.{shorter_said, shorter_refusal, which_shorter_call};
-ghost use Rattle.calls.specs.Entries.{written, write_call, state_said, reading, read_call, audit_call};
+ghost use Rattle.calls.specs.Entries.{write_call, state_said, reading, read_call, audit_call};
 ghost use Rattle.calls.specs.Walk.{walked, walk_call};
 ghost use Rattle.session_block.specs.Block.{start_block, add_block, mark_block, return_block};
 ghost use Rattle.layodegi.specs.Codes.{code, state_code, heading_code, entry_code};
 
-use calls::{Counted, Heading, Outcome, Read, Shorter, Solving, Valued, Verdict, Walked, Written};
+use calls::{Entry, Formula, Heading, Stopped, Unsolved, Verdict};
 use ring::{Choice, State};
+use tables::Question;
 
-// A value as 32 bits; every value that a call gives is smaller.
+// A value as 32 bits; every value that a call gives is smaller. A code cuts its values to their bits, and no conversion of the library cuts: so
+// here, and where the values of an entry's code are cut.
 fn narrow(v: usize) -> u64
     ensures { (result ≡ v % 4294967296) × (result < 4294967296) }
 {
     (v % 4294967296) as u64
 }
 
-fn outcome_code(r: Outcome) -> u64
-    ensures { result ≡ code (outcome r) }
+fn outcome_code(answer: Result<(), Question>) -> u64
+    ensures { result ≡ code (outcome answer) }
 {
-    match r {
-        Outcome::Done => 0,
-        Outcome::Refused(q) => q as u64,
+    match answer {
+        Ok(()) => 0,
+        Err(question) => u64::from(tables::number(question)),
     }
 }
 
-fn counted_code(r: Counted) -> u64
-    ensures { result ≡ code (counted r) }
+// Of a call that answers one value: a number of monomials, the value of a table, or a length. By itself: a map from the answers above would
+// have its own contract, and be no plainer.
+fn value_code(answer: Result<usize, Question>) -> u64
+    ensures { result ≡ code (value_said answer) }
 {
-    match r {
-        Counted::Monomials(number) => 256 * narrow(number),
-        Counted::Refused(q) => q as u64,
+    match answer {
+        Ok(value) => 256 * narrow(value),
+        Err(question) => u64::from(tables::number(question)),
     }
 }
 
-fn value_code(r: Valued) -> u64
-    ensures { result ≡ code (valued r) }
+fn solving_code(answer: Result<usize, Unsolved>) -> u64
+    ensures { result ≡ code (solving answer) }
 {
-    match r {
-        Valued::Value(v) => 256 * narrow(v as usize),
-        Valued::Refused(q) => q as u64,
+    match answer {
+        Ok(total) => 256 * narrow(total),
+        Err(Unsolved::None(state)) => 9 + 256 * narrow(state.0),
+        Err(Unsolved::Refused(question)) => u64::from(tables::number(question)),
     }
 }
 
-fn solving_code(r: Solving) -> u64
-    ensures { result ≡ code (solving r) }
+fn shorter_code(answer: Result<Formula, Question>) -> u64
+    ensures { result ≡ code (shorter_said answer) }
 {
-    match r {
-        Solving::Solved(total) => 256 * narrow(total),
-        Solving::None(state) => 9 + 256 * narrow(state.0),
-        Solving::Refused(q) => q as u64,
+    match answer {
+        Ok(Formula::Boole) => 0,
+        Ok(Formula::Lowenheim) => 256,
+        Err(question) => u64::from(tables::number(question)),
     }
 }
 
-fn shorter_code(r: Shorter) -> u64
-    ensures { result ≡ code (shorter_said r) }
+fn walk_code(answer: Result<usize, Stopped>) -> u64
+    ensures { result ≡ code (walked answer) }
 {
-    match r {
-        Shorter::Boole => 0,
-        Shorter::Lowenheim => 256,
-        Shorter::Refused(q) => q as u64,
-    }
-}
-
-fn written_code(r: Written) -> u64
-    ensures { result ≡ code (written r) }
-{
-    match r {
-        Written::Done(length) => 256 * narrow(length),
-        Written::Refused(q) => q as u64,
-    }
-}
-
-fn walk_code(r: Walked) -> u64
-    ensures { result ≡ code (walked r) }
-{
-    match r {
-        Walked::Count(count) => 256 * narrow(count),
-        Walked::Refused(q, passed) => q as u64 + 256 * narrow(passed),
+    match answer {
+        Ok(count) => 256 * narrow(count),
+        Err(stopped) => {
+            u64::from(tables::number(stopped.question)) + 256 * narrow(stopped.passed)
+        }
     }
 }
 
@@ -121,13 +109,12 @@ fn verdict_code(verdict: Verdict) -> u64
     }
 }
 
-fn read_code(r: Read) -> u64
-    ensures { result ≡ entry_code (reading r) }
+fn read_code(answer: Result<Entry, Question>) -> u64
+    ensures { result ≡ entry_code (reading answer) }
 {
-    match r {
-        Read::Entry(heading, verdict) => heading_code(heading)
-            + 281474976710656 * verdict_code(verdict),
-        Read::Refused(q) => q as u64,
+    match answer {
+        Ok(held) => heading_code(held.heading) + 281474976710656 * verdict_code(held.verdict),
+        Err(question) => u64::from(tables::number(question)),
     }
 }
 
@@ -143,7 +130,7 @@ pub extern "C" fn layodegi_value(
     ensures { answered result []
         ≡ coded code (value_call u g table.now (record { 0 = state }) (record { 0 = choice })) }
 {
-    value_code(operations::value(u, g, table, State(state), Choice(choice)))
+    value_code(operations::value(u, g, table, State(state), Choice(choice)).map(usize::from))
 }
 
 // The sum of two tables: the code has the number of its monomials.
@@ -152,7 +139,7 @@ pub extern "C" fn layodegi_sum(u: usize, g: usize, a: &[u8], b: &[u8], out: &mut
     ensures { answered result (out.new ∷ [])
         ≡ coded code (sum_call u g a.now b.now out.old) }
 {
-    counted_code(operations::sum(u, g, a, b, out))
+    value_code(operations::sum(u, g, a, b, out))
 }
 
 // The product of two tables: the code has the number of its monomials.
@@ -161,7 +148,7 @@ pub extern "C" fn layodegi_product(u: usize, g: usize, a: &[u8], b: &[u8], out: 
     ensures { answered result (out.new ∷ [])
         ≡ coded code (product_call u g a.now b.now out.old) }
 {
-    counted_code(operations::product(u, g, a, b, out))
+    value_code(operations::product(u, g, a, b, out))
 }
 
 // Handed polynomials put for the unknowns of a condition: the code has the number of monomials of what comes out.
@@ -176,7 +163,7 @@ pub extern "C" fn layodegi_substitute(
     ensures { answered result (out.new ∷ [])
         ≡ coded code (substitute_call u g condition.now handed.now out.old) }
 {
-    counted_code(operations::substitute(u, g, condition, handed, out))
+    value_code(operations::substitute(u, g, condition, handed, out))
 }
 
 // The derivative of a table by the letters of the mask s.
@@ -264,7 +251,7 @@ pub extern "C" fn layodegi_lowenheim_handed(
     ensures { answered result (answers.new ∷ [])
         ≡ coded code (handed_call u g fact.now condition.now handed.now answers.old) }
 {
-    counted_code(solver::lowenheim_handed(u, g, fact, condition, handed, answers))
+    value_code(solver::lowenheim_handed(u, g, fact, condition, handed, answers))
 }
 
 // The companion of the shorter of two answer tables: the number of the first no, or 0.
@@ -302,7 +289,7 @@ pub extern "C" fn layodegi_write_entry(
     ensures { answered result (out.new ∷ [])
         ≡ coded code (write_call route u g order.now fact.now condition.now out.old) }
 {
-    written_code(writer::write_entry(route, u, g, *order, fact, condition, out))
+    value_code(writer::write_entry(route, u, g, *order, fact, condition, out))
 }
 
 // Reads an entry: its order, its fact, its condition table and, if it is solved, its answer tables.

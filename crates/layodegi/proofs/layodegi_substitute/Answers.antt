@@ -5,4 +5,4 @@ use Rattle.layodegi.proofs.Coded.{coded-call}
 use Rattle.layodegi.proofs.layodegi_substitute.Goals as goal
 
 pub returns : goal.returns
-returns c = coded-call code c.counted_code.ensures c.substitute.ensures
+returns c = coded-call code c.value_code.ensures c.substitute.ensures

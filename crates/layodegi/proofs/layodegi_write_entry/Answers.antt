@@ -5,4 +5,4 @@ use Rattle.layodegi.proofs.Coded.{coded-call}
 use Rattle.layodegi.proofs.layodegi_write_entry.Goals as goal
 
 pub returns : goal.returns
-returns c = coded-call code c.written_code.ensures c.write_entry.ensures
+returns c = coded-call code c.value_code.ensures c.write_entry.ensures
