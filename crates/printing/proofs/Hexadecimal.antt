@@ -6,7 +6,7 @@ use Prim.Native.Nat.{ℕ, ◌+◌, ◌*◌, ◌/◌, ◌%◌, ◌≤◌, ◌<◌
 use native.Mathlib.Numerals.{add-one}
 use native.Mathlib.Omega.{arith}
 use lib.ListN.{length, get_or, set, take}
-use lib.Seq.{take-suc, take_all}
+use lib.Seq.{take-suc, length-take-le}
 use Rattle.tables.specs.Inner.Put.{Put}
 use Rattle.tables.proofs.Put.{put_length, put_both, put_two}
 use Rattle.printing.specs.Print.{digit_byte, hexadecimal}
@@ -16,24 +16,17 @@ unfolding hexadecimal
 hex_snoc [] x = refl
 hex_snoc (y ∷ xs) x = ap (λ (l : List ℕ). digit_byte (y / 16) ∷ digit_byte (y % 16) ∷ l) (hex_snoc xs x)
 
-pub hex_start : (old : List ℕ) (at : ℕ) → at ≤ length old → Put old at (hexadecimal []) (at + 2 * 0) old
-unfolding hexadecimal
-hex_start old at h = record { place = refl; inside = omega arith; bytes = refl }
-
 pub hex_length : (xs : List ℕ) → length (hexadecimal xs) ≡ 2 * length xs
 unfolding hexadecimal
 hex_length [] = refl
 hex_length (x ∷ xs) = omega (arith, hex_length xs)
 
-pub hex_more : (old bytes new : List ℕ) (at i : ℕ) {high low : ℕ} → i < length bytes → at + 2 * length bytes ≤ length old
-    → high ≡ digit_byte (get_or bytes i 0 / 16) → low ≡ digit_byte (get_or bytes i 0 % 16)
-    → Put old at (hexadecimal (take i bytes)) (at + 2 * i) new
-    → Put old at (hexadecimal (take (i + 1) bytes)) (at + 2 * (i + 1)) (set (set new (at + 2 * i) high) (at + 2 * i + 1) low)
-hex_more old bytes new at i {high} {low} l h eh el p =
-    let place : at + 2 * (i + 1) ≡ at + 2 * i + 2 = omega arith in
-    rw (place, add-one i, take-suc bytes i 0 l, hex_snoc, ← eh, ← el)
-    (put_both p (put_two new (at + 2 * i) high low (omega (arith, put_length p))))
+module _ (bytes : List ℕ) (i : ℕ) {old new : List ℕ} {at end : ℕ} (p : Put old at (hexadecimal (take i bytes)) end new) (l : i < length bytes)
+    (room : at + 2 * length bytes ≤ length old) where
+  pub hex_room : end + 2 ≤ length new
+  hex_room = omega (arith, p.place, put_length p, hex_length (take i bytes), length-take-le i bytes (omega arith))
 
-pub hex_all : (old bytes new : List ℕ) (at i : ℕ) → length bytes ≤ i → Put old at (hexadecimal (take i bytes)) (at + 2 * i) new
-    → Put old at (hexadecimal bytes) (at + 2 * i) new
-hex_all old bytes new at i l p = rw (take_all i bytes l) at p
+  pub hex_more : {high low : ℕ} → high ≡ digit_byte (get_or bytes i 0 / 16) → low ≡ digit_byte (get_or bytes i 0 % 16)
+      → Put old at (hexadecimal (take (i + 1) bytes)) (end + 2) (set (set new end high) (end + 1) low)
+  hex_more {high} {low} eh el =
+      rw (add-one i, take-suc bytes i 0 l, hex_snoc, ← eh, ← el) (put_both p (put_two new end high low hex_room))

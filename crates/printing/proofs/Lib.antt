@@ -1,3 +1,4 @@
+pub mod Parts
 pub mod Numbers
 pub mod Hexadecimal
 pub mod Records

@@ -14,12 +14,9 @@ fn put(out: &mut [u8], at: usize, bytes: &[u8]) -> usize
     requires { at + length bytes.now ≤ length out.old }
     ensures { Put out.old at bytes.now result out.new }
 {
-    let mut i = 0;
-    while i < bytes.len() {
-        out[at + i] = bytes[i];
-        i += 1;
-    }
-    at + i
+    let end = at + bytes.len();
+    out[at..end].copy_from_slice(bytes);
+    end
 }
 
 // A number has at most twenty digits.
@@ -34,6 +31,7 @@ fn put_decimal(out: &mut [u8], at: usize, n: u64) -> usize
 }
 
 // From 10 on the digits stand 39 further on. No branch: what a digit is cannot be foretold.
+#[tactic(auto, using(crate::proofs::Numbers::digit_at))]
 fn digit_byte(d: u8) -> u8
     requires { d < 16 }
     ensures { result ≡ digit_byte d }
@@ -45,15 +43,13 @@ fn put_hexadecimal(out: &mut [u8], at: usize, bytes: &[u8]) -> usize
     requires { at + 2 * length bytes.now ≤ length out.old }
     ensures { Put out.old at (hexadecimal bytes.now) result out.new }
 {
-    let mut i = 0;
-    while i < bytes.len() {
-        let byte = bytes[i];
-        let place = at + 2 * i;
-        out[place] = digit_byte(byte / 16);
-        out[place + 1] = digit_byte(byte % 16);
-        i += 1;
+    let mut end = at;
+    for byte in bytes {
+        out[end] = digit_byte(byte / 16);
+        out[end + 1] = digit_byte(byte % 16);
+        end += 2;
     }
-    at + 2 * i
+    end
 }
 
 // A record on a line.
@@ -66,15 +62,9 @@ pub fn put_line(out: &mut [u8], at: usize, bytes: &[u8]) -> usize
     end + 1
 }
 
-fn wide(x: u16) -> usize
-    ensures { result ≡ x }
-{
-    x as usize
-}
-
 // The line of a monomial's record.
-fn put_monomial(out: &mut [u8], at: usize, code: usize) -> usize
-    requires { (code < 65536) × (at + length (record_lines (listed_record code ∷ [])) ≤ length out.old) }
+fn put_monomial(out: &mut [u8], at: usize, code: u16) -> usize
+    requires { at + length (record_lines (listed_record code ∷ [])) ≤ length out.old }
     ensures { Put out.old at (record_lines (listed_record code ∷ [])) result out.new }
 {
     let i = code / 1024;
@@ -82,11 +72,10 @@ fn put_monomial(out: &mut [u8], at: usize, code: usize) -> usize
     let low = (m % 256) as u8;
     let high = (m / 256) as u8;
     if i == 0 {
-        let bytes = [2u8, low, high];
-        return put_line(out, at, &bytes);
+        put_line(out, at, &[2, low, high])
+    } else {
+        put_line(out, at, &[3, (i - 1) as u8, low, high])
     }
-    let bytes = [3u8, (i - 1) as u8, low, high];
-    put_line(out, at, &bytes)
 }
 
 // The lines of the monomials that numbers stand for.
@@ -95,8 +84,8 @@ pub fn put_monomials(out: &mut [u8], from: usize, codes: &[u16]) -> usize
     ensures { Put out.old from (record_lines (map listed_record codes.now)) result out.new }
 {
     let mut at = from;
-    for p in 0..codes.len() {
-        at = put_monomial(out, at, wide(codes[p]));
+    for &code in codes {
+        at = put_monomial(out, at, code);
     }
     at
 }
@@ -119,14 +108,14 @@ fn put_number(out: &mut [u8], at: usize, n: u64) -> usize
     put_decimal(out, at + 1, n)
 }
 
-// `refused` and the number, the line not ended.
+// `refused` and the number, which is all that the line says of a refusal; the line is not ended.
 fn put_refusal(out: &mut [u8], at: usize, number: u8) -> usize
     requires { at + 28 ≤ length out.old }
     ensures put { Put out.old at (refused_word ++ (32 ∷ decimal number)) result out.new }
     ensures upper_bound { result ≤ at + 28 }
 {
     let word = put(out, at, b"refused");
-    put_number(out, word, number as u64)
+    put_number(out, word, u64::from(number))
 }
 
 pub fn put_refused(out: &mut [u8], at: usize, number: u8) -> usize

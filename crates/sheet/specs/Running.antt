@@ -2,24 +2,28 @@
 -- No contract of the C library says which bytes a read gives and that those of a write go out, so what is said of a run is said of some
 -- input of as many bytes as were read, and of the number of bytes that were written.
 -- Assumes nothing.
-use Rattle.std.specs.Prelude.{◌≡◌, Bool, false, List, ℕ, ◌+◌, length}
-use Rattle.streams.specs.declared.Got.{Got}
-use Rattle.streams.specs.Inner.Got.{got_bytes, got_some, got_failed}
+use Rattle.std.specs.Prelude.{◌≡◌, List, ℕ, ◌+◌, ◌-◌, ◌<◌, length, take, Option, Some, None, Result, Ok, Err}
 use Rattle.sheet_lines.specs.Sheet.{sheet}
 use Rattle.sheet_lines.specs.Pieces.{Carried, carry_all, prints_all}
+use Rattle.sheet.specs.declared.Progress.{Progress}
 
--- what a piece of the input does, behind `read` bytes read, `written` bytes written and with c carried
-pub record Advances (read written : ℕ) (c : Carried) (piece : List ℕ) (read' written' : ℕ) (c' : Carried) : Type 0 where
-  pub all_read : read' ≡ read + length piece
-  pub all_written : written' ≡ written + length (prints_all c piece)
+-- what a piece of the input does, where the run has come to `before` and c is carried
+pub record Advances (before : Progress) (c : Carried) (piece : List ℕ) (after : Progress) (c' : Carried) : Type 0 where
+  pub all_read : after.read ≡ before.read + length piece
+  pub all_written : after.written ≡ before.written + length (prints_all c piece)
   pub carries : c' ≡ carry_all c piece
 
--- what is done with what a read gave, unless the run stops: all its bytes are printed, and the run goes on unless the input has ended
-pub record Takes (got : Got) (room : List ℕ) (read written : ℕ) (c : Carried) (going : Bool) (read' written' : ℕ)
-    (c' : Carried) : Type 0 where
-  pub no_failure : got_failed got ≡ false
-  pub goes_on : going ≡ got_some got
-  pub advances : Advances read written c (got_bytes got room) read' written' c'
+-- what is done with what a read gave, unless the run stops: all its bytes are printed, and at the end of the input, where it gave none, the
+-- run goes no further and all stays; a read that failed is never taken
+abbrev pub Takes : {E : Type 0} → Result ℕ E → List ℕ → Progress → Carried → Option Progress → Carried → Type 0
+Takes (Ok n) room before c (Some after) c' = (0 < n) × Advances before c (take n room) after c'
+Takes (Ok n) room before c None c' = (n ≡ 0) × (c' ≡ c)
+Takes (Err e) room before c step c' = ⊥
+
+-- what a read and its taking do: a piece at the front of the room is printed, or the input has ended
+abbrev pub Steps : List ℕ → Progress → Carried → Option Progress → Carried → Type 0
+Steps room before c (Some after) c' = (before.read < after.read) × Advances before c (take (after.read - before.read) room) after c'
+Steps room before c None c' = c' ≡ c
 
 -- a run that has ended has written what `sheet` prints for its input
 pub record Ran (read written : ℕ) : Type 0 where

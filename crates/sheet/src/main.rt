@@ -12,256 +12,151 @@
 
 #![tactic(auto)]
 
-ghost use Rattle.std.specs.Prelude.{true, false, ◌≡◌, ◌+◌, ◌-◌, ◌≤◌, ◌<◌, length, take};
-ghost use Rattle.sheet_lines.specs.Pieces.{kept_length};
-ghost use Rattle.sheet_lines.specs.Inner.Feeding.{line_room, carried};
-ghost use Rattle.streams.specs.Inner.Got.{got_within};
-ghost use Rattle.sheet.specs.Running.{Advances, Takes, Ran};
+ghost use Rattle.std.specs.Prelude.{◌≡◌, ◌+◌, ◌-◌, ◌≤◌, length, IfOk};
+ghost use Rattle.sheet_lines.specs.Inner.Feeding.{line_room};
+ghost use Rattle.sheet.specs.Running.{Advances, Takes, Steps, Ran};
 
+use sheet_lines::Printer;
+use std::io;
 use std::io::{Read, Write};
 use std::rt::Clock;
-use streams::Got;
+use thiserror::Error;
 
-// How far a run has come: whether the input goes on, whether a read or a write has failed, how many bytes were read and written, how
-// many bytes are kept of the line that has begun, and the last route printed.
+const INPUT_ROOM: usize = 65536;
+
+const OUTPUT_ROOM: usize = 262144;
+
+// How far a run has come: how many bytes were read and written.
 #[derive(Clone, Copy)]
 struct Progress {
-    going: bool,
-    failed: bool,
     read: usize,
     written: usize,
-    count: usize,
-    last: usize,
 }
 
-// What became of a write, and how many bytes are written with it.
-#[derive(Clone, Copy)]
-struct Written {
-    failed: bool,
-    total: usize,
+// Why a run stops before the end of its input. No run comes to more bytes than can be counted.
+#[derive(Clone, Copy, Debug, Error)]
+enum Failure {
+    #[error("standard input: {0}")]
+    Input(io::Error),
+    #[error("standard output: {0}")]
+    Output(io::Error),
+    #[error("more bytes than can be counted")]
+    Uncounted,
 }
 
-// The `ensures` gives only the length, which lending the array as a slice needs.
-fn kept_room() -> [u8; 301]
-    ensures { 301 ≡ length result }
-{
-    [0; 301]
-}
-
-fn input_room() -> [u8; 65536]
-    ensures { 65536 ≡ length result }
-{
-    [0; 65536]
-}
-
-fn output_room() -> [u8; 262144]
-    ensures { 262144 ≡ length result }
-{
-    [0; 262144]
-}
-
-// A run that stops: nothing more is read or printed.
-fn stopped() -> Progress
-    ensures { (result.failed ≡ true) × (result.count ≤ kept_length) }
-{
-    Progress {
-        going: false,
-        failed: true,
-        read: 0,
-        written: 0,
-        count: 0,
-        last: 0,
-    }
-}
-
-// Writes the first `n` bytes of `out`, behind `written` bytes. No run comes to where the sum does not fit.
-fn write_out<H: Clock + Eprint, W: Write>(
-    rt: &H,
+// Writes `bytes`, behind `written` bytes, and answers how many are written then.
+fn write_out<C: Clock, W: Write>(
+    clock: &C,
     sink: &mut W,
-    out: &[u8],
-    n: usize,
+    bytes: &[u8],
     written: usize,
-) -> Written
-    requires { n ≤ length out.now }
-    ensures { result.failed ≡ false → result.total ≡ written + n }
+) -> Result<usize, Failure>
+    ensures { IfOk result (λ total. total ≡ written + length bytes.now) }
 {
-    if usize::MAX - written < n {
-        return Written {
-            failed: true,
-            total: written,
-        };
-    }
-    if let Err(error) = streams::write_whole(rt, sink, &out[..n]) {
-        streams::complain(rt, "sheet: standard output", error);
-        return Written {
-            failed: true,
-            total: written,
-        };
-    }
-    Written {
-        failed: false,
-        total: written + n,
-    }
+    let total = written.checked_add(bytes.len()).ok_or(Failure::Uncounted)?;
+    streams::write_whole(clock, sink, bytes).map_err(Failure::Output)?;
+    Ok(total)
 }
 
-// Prints a piece of the input, as many lines at a time as `out` has room for. No run comes to where the sum does not fit.
-fn print_piece<H: Clock + Eprint, W: Write>(
-    rt: &H,
+// Prints a piece of the input, as many lines at a time as `out` has room for.
+fn print_piece<C: Clock, W: Write>(
+    clock: &C,
     sink: &mut W,
     piece: &[u8],
-    kept: &mut [u8],
-    kept_count: usize,
-    last_route: usize,
+    printer: &mut Printer,
     out: &mut [u8],
-    read: usize,
-    written_before: usize,
-) -> Progress
-    requires { (length kept.old ≡ kept_length) × (kept_count ≤ kept_length) × (line_room ≤ length out.old) }
-    ensures count_le_kept_length { result.count ≤ kept_length }
-    ensures going_value { result.failed ≡ false → result.going ≡ true }
-    ensures advances { result.failed ≡ false
-        → Advances read written_before (carried last_route kept_count kept.old) piece.now result.read result.written (carried result.last result.count kept.new) }
+    before: Progress,
+) -> Result<Progress, Failure>
+    requires { line_room ≤ length out.old }
+    ensures { IfOk result (λ after. Advances before printer.old piece.now after printer.new) }
 {
-    if usize::MAX - read < piece.len() {
-        return stopped();
+    let read = before
+        .read
+        .checked_add(piece.len())
+        .ok_or(Failure::Uncounted)?;
+    let mut written = before.written;
+    let mut rest = piece;
+    // As far as there is room for what is printed, over and over.
+    while !rest.is_empty() {
+        let fed = printer.feed(rest, out, 0);
+        written = write_out(clock, sink, &out[..fed.next], written)?;
+        rest = &rest[fed.used..];
     }
-    let mut count = kept_count;
-    let mut last = last_route;
-    let mut written = written_before;
-    let mut at = 0;
-    while at < piece.len() {
-        let fed = sheet_lines::feed(&piece[at..], kept, count, last, out, 0);
-        let next = fed.next;
-        let done = write_out(rt, sink, out, next, written);
-        if done.failed {
-            return stopped();
-        }
-        written = done.total;
-        count = fed.count;
-        last = fed.last;
-        at += fed.used;
-    }
-    Progress {
-        going: true,
-        failed: false,
-        read: read + piece.len(),
-        written,
-        count,
-        last,
-    }
+    Ok(Progress { read, written })
 }
 
 // Takes what a read gave: bytes are printed, the end leaves the line that has begun to `run`, and after a failure it is never answered.
-fn take_got<H: Clock + Eprint, W: Write>(
-    rt: &H,
+fn take_got<C: Clock, W: Write>(
+    clock: &C,
     sink: &mut W,
-    got: Got,
+    got: io::Result<usize>,
     input: &[u8],
-    kept: &mut [u8],
-    count: usize,
-    last: usize,
+    printer: &mut Printer,
     out: &mut [u8],
-    read: usize,
-    written: usize,
-) -> Progress
-    requires { got_within got (length input.now) × (length kept.old ≡ kept_length) × (count ≤ kept_length)
-        × (line_room ≤ length out.old) }
-    ensures count_le_kept_length { result.count ≤ kept_length }
-    ensures takes { result.failed ≡ false
-        → Takes got input.now read written (carried last count kept.old) result.going result.read result.written (carried result.last result.count kept.new) }
+    before: Progress,
+) -> Result<Option<Progress>, Failure>
+    requires { IfOk got (λ n. n ≤ length input.now) × (line_room ≤ length out.old) }
+    ensures { IfOk result (λ step. Takes got input.now before printer.old step printer.new) }
 {
-    match got {
-        Got::Bytes(n) => print_piece(rt, sink, &input[..n], kept, count, last, out, read, written),
-        Got::End => Progress {
-            going: false,
-            failed: false,
-            read,
-            written,
-            count,
-            last,
-        },
-        Got::Failed(error) => {
-            streams::complain(rt, "sheet: standard input", error);
-            stopped()
-        }
+    match got.map_err(Failure::Input)? {
+        0 => Ok(None),
+        n => Ok(Some(print_piece(clock, sink, &input[..n], printer, out, before)?)),
     }
 }
 
-// Reads a piece and takes it. At the end of the input the piece is empty.
-fn read_piece<H: Clock + Eprint, R: Read, W: Write>(
-    rt: &H,
+// Reads a piece and takes it. There is none at the end of the input.
+fn read_piece<C: Clock, R: Read, W: Write>(
+    clock: &C,
     source: &mut R,
     sink: &mut W,
     input: &mut [u8],
-    kept: &mut [u8],
-    count: usize,
-    last: usize,
+    printer: &mut Printer,
     out: &mut [u8],
-    read: usize,
-    written: usize,
-) -> Progress
-    requires { (length kept.old ≡ kept_length) × (count ≤ kept_length) × (line_room ≤ length out.old) }
-    ensures count_le_kept_length { result.count ≤ kept_length }
-    ensures advances { result.failed ≡ false
-        → Advances read written (carried last count kept.old) (take (result.read - read) input.new) result.read result.written (carried result.last result.count kept.new) }
-    ensures read_lt_read { result.failed ≡ false → result.going ≡ true → read < result.read }
+    before: Progress,
+) -> Result<Option<Progress>, Failure>
+    requires { line_room ≤ length out.old }
+    ensures { IfOk result (λ step. Steps input.new before printer.old step printer.new) }
 {
-    let got = streams::read_some(rt, source, input);
-    take_got(rt, sink, got, input, kept, count, last, out, read, written)
+    let got = streams::read_some(clock, source, input);
+    take_got(clock, sink, got, input, printer, out, before)
 }
 
 // Reads and prints to the end of the input.
-fn run<H: Clock + Eprint, R: Read, W: Write>(
-    rt: &H,
+fn run<C: Clock, R: Read, W: Write>(
+    clock: &C,
     source: &mut R,
     sink: &mut W,
-    input: &mut [u8],
-    kept: &mut [u8],
-    out: &mut [u8],
-) -> Progress
-    requires { (length kept.old ≡ kept_length) × (line_room ≤ length out.old) }
-    ensures { result.failed ≡ false → Ran result.read result.written }
+) -> Result<Progress, Failure>
+    ensures { IfOk result (λ end. Ran end.read end.written) }
 {
-    let mut going = true;
-    let mut count: usize = 0;
-    let mut last: usize = 0;
-    let mut read: usize = 0;
-    let mut written: usize = 0;
-    while going {
-        let progress = read_piece(
-            rt, source, sink, input, kept, count, last, out, read, written,
-        );
-        if progress.failed {
-            return stopped();
-        }
-        going = progress.going;
-        count = progress.count;
-        last = progress.last;
-        read = progress.read;
-        written = progress.written;
+    let mut input = [0; INPUT_ROOM];
+    let mut out = [0; OUTPUT_ROOM];
+    let mut printer = Printer::new();
+    let mut progress = Progress {
+        read: 0,
+        written: 0,
+    };
+    while let Some(next) = read_piece(
+        clock,
+        source,
+        sink,
+        &mut input,
+        &mut printer,
+        &mut out,
+        progress,
+    )? {
+        progress = next;
     }
-    let n = sheet_lines::finish(kept, count, last, out, 0);
-    let done = write_out(rt, sink, out, n, written);
-    Progress {
-        going: false,
-        failed: done.failed,
-        read,
-        written: done.total,
-        count: 0,
-        last,
-    }
+    let n = printer.finish(&mut out, 0);
+    let written = write_out(clock, sink, &out[..n], progress.written)?;
+    Ok(Progress {
+        read: progress.read,
+        written,
+    })
 }
 
 fn main(rt: HostRuntime) {
-    let mut input = input_room();
-    let mut kept = kept_room();
-    let mut out = output_room();
-    run(
-        &rt,
-        &mut rt.stdin(),
-        &mut rt.stdout(),
-        &mut input,
-        &mut kept,
-        &mut out,
-    );
+    if let Err(failure) = run(&rt, &mut rt.stdin(), &mut rt.stdout()) {
+        streams::complain(&rt, "sheet", &failure);
+    }
 }

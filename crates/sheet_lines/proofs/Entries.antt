@@ -16,6 +16,7 @@ use Rattle.ring.proofs.Bool.{and_right}
 use Rattle.ring.proofs.Table.{is-table, present-table, table_cong}
 use Rattle.ring.proofs.Value.{value_cong, involution}
 use Rattle.tables.specs.Inner.Put.{Put}
+use Rattle.tables.specs.declared.Letters.{Letters}
 use Rattle.tables.specs.Questions.{letters_fit}
 use Rattle.tables.proofs.Put.{put_length, put_both, put_same}
 use Rattle.tables.proofs.Questions.{letters_small, unknowns_small, givens_small, pow_small}
@@ -33,6 +34,7 @@ use Rattle.solution.specs.Order.{default_bytes, order_fits}
 use Rattle.solution.specs.Elimination.{solve}
 use Rattle.solution.proofs.Order.{default_each, default_fits, take-order_bytes}
 use Rattle.solution.proofs.UnderFact.{no_fact_lem, no_fact_empty}
+use Rattle.solver.specs.declared.ordered.OrderedLetters.{OrderedLetters}
 use Rattle.solver.specs.Inner.Methods.{value_words}
 use Rattle.entry.specs.Record.{Record, fields, low_first, body_of, start_record, end_record, none_record, bytes}
 use Rattle.entry.specs.Inner.Codes.{listed_record}
@@ -42,8 +44,8 @@ use Rattle.entry.proofs.Back.{written_whole}
 use Rattle.entry.proofs.OrderRecord.{default_left_out}
 use Rattle.entry.proofs.Bound.{length-bytes, entry_without}
 use Rattle.writer.specs.declared.Listing.{Listing}
-use Rattle.writer.specs.declared.Listing.TheVariants.{Solved, None}
-use Rattle.writer.specs.Inner.Steps.{count_of, none_of, entry_from, Lists, packed_condition, Listable}
+use Rattle.std.specs.Prelude.{Some, None}
+use Rattle.writer.specs.Inner.Steps.{none_records, entry_from, Lists, Listable}
 use Rattle.writer.proofs.Monomials.{transformed}
 use Rattle.writer.proofs.Parts.{ordered as masks-ordered}
 use Rattle.printing.specs.Print.{line_feed, hexadecimal, record_lines}
@@ -70,41 +72,42 @@ text_table_lem U G text {values} e = table_text U G text values _ e refl
 
 module _ (n : ℕ) (values : List ℕ) {coefficients : List ℕ}
     (e : coefficients ≡ words_of (2 ^ (n - 6)) (value (6 + (n - 6)) (bit_at values))) where
-  pub same_values : IsValues n values → values ≡ words_of (2 ^ (n - 6)) (value n (bit_at coefficients))
+  same_values : IsValues n values → values ≡ words_of (2 ^ (n - 6)) (value n (bit_at coefficients))
   same_values h = h ∙ words_cong (2 ^ (n - 6)) _ _ (λ p l. value_cong n _ _ p (λ m k. sym (transformed n values coefficients e m k)))
 
-  pub same_table : table n (bit_at coefficients) ≡ table_of n values
+  pub same_table : {points : ℕ} → n ≡ points → table points (bit_at coefficients) ≡ table_of n values
   unfolding table_of
-  same_table = table_cong n (bit_at coefficients) (value n (bit_at values)) (transformed n values coefficients e)
+  same_table is = rw (← is) (table_cong n (bit_at coefficients) (value n (bit_at values)) (transformed n values coefficients e))
 
-  pub coefficients_size : length coefficients ≡ 2 ^ (n - 6)
+  coefficients_size : length coefficients ≡ 2 ^ (n - 6)
   coefficients_size = size_words _ _ _ e
 
 pub values-size : (n : ℕ) {values : List ℕ} → IsValues n values → length values ≡ 2 ^ (n - 6)
 values-size n h = size_words _ _ _ h
 
 -- no fact is lent: the values are those of the condition itself
-pub without_facts : (U G : ℕ) (order₁ : List ℕ) {coefficients values : List ℕ}
-    → coefficients ≡ words_of (2 ^ (U + G - 6)) (value (6 + (U + G - 6)) (bit_at values))
-    → IsValues (U + G) values → values ≡ value_words (packed_condition U G order₁ (no_fact (U + G)) coefficients)
+pub without_facts : (l : Letters) (order₁ : List ℕ) {coefficients values : List ℕ}
+    → coefficients ≡ words_of (2 ^ (l.n - 6)) (value (6 + (l.n - 6)) (bit_at values)) → IsValues l.n values
+    → values ≡ value_words (ordered l.unknowns l.givens (take l.unknowns order₁) (table (l.unknowns + l.givens) (bit_at coefficients)))
 unfolding table
-without_facts U G order₁ {coefficients} {values} e h =
-    same_values (U + G) values e h
-    ∙ words_cong (2 ^ (U + G - 6)) _ _ (λ p l. value_cong (U + G) _ _ p (λ m k. sym (present-table (U + G) (bit_at coefficients) m k)))
-    ∙ ap (λ (t : List ℕ). words_of (2 ^ (U + G - 6)) (value (U + G) (present t)))
-    (sym (no_fact_lem (U + G) (table (U + G) (bit_at coefficients)) (is-table (U + G) (bit_at coefficients))))
+without_facts l order₁ {coefficients} {values} e h =
+    let n : ℕ = l.unknowns + l.givens in
+    let e' : coefficients ≡ words_of (2 ^ (n - 6)) (value (6 + (n - 6)) (bit_at values)) = rw l.n_is at e in
+    let h' : IsValues n values = rw l.n_is at h in
+    same_values n values e' h'
+    ∙ words_cong (2 ^ (n - 6)) _ _ (λ p l. value_cong n _ _ p (λ m k. sym (present-table n (bit_at coefficients) m k)))
+    ∙ ap (λ (t : List ℕ). words_of (2 ^ (n - 6)) (value n (present t)))
+    (sym (no_fact_lem n (table n (bit_at coefficients)) (is-table n (bit_at coefficients))))
 
-pub listable : {U G : ℕ} {order₁ coefficients values masks : List ℕ} → letters_fit U G ≡ true
-    → coefficients ≡ words_of (2 ^ (U + G - 6)) (value (6 + (U + G - 6)) (bit_at values))
-    → IsValues (U + G) values → masks ≡ order (U + G) → Listable U G order₁ coefficients values masks
-listable {U} {G} {order₁} {coefficients} {values} l e h m =
+pub listable : (o : OrderedLetters) {coefficients values masks : List ℕ} → letters_fit o.letters.unknowns o.letters.givens ≡ true
+    → coefficients ≡ words_of (2 ^ (o.letters.n - 6)) (value (6 + (o.letters.n - 6)) (bit_at values)) → IsValues o.letters.n values
+    → masks ≡ order o.letters.n → Listable o coefficients values masks
+listable o {coefficients} {values} l e h m =
     record {
-      unknowns = unknowns_small U G l;
-      givens = givens_small U G l;
-      letters = letters_small U G l;
-      words = coefficients_size (U + G) values e;
-      fact = no_fact (U + G);
-      values_are = without_facts U G order₁ e h;
+      givens = givens_small o.letters.unknowns o.letters.givens l;
+      words = coefficients_size o.letters.n values e;
+      fact = no_fact (o.letters.unknowns + o.letters.givens);
+      values_are = without_facts o.letters o.order e h;
       ordered = m;
     }
 
@@ -164,73 +167,55 @@ module _ (state route : ℕ) {at a : ℕ} {l₀ l₁ : List ℕ} (p : Put l₀ a
 -- the whole
 module _ (route U G : ℕ) (found : Listing) (codes : List ℕ) where
   -- the lines of a listed entry, part by part
+  abbrev end : List Record
+  end = none_records found.none ++ (end_record route ∷ [])
+
   lines_parts : record_lines (entry_from route U G [] found codes)
-      ≡ record_lines (start_record route U G ∷ map listed_record (take (count_of found) codes)) ++ record_lines
-      (none_of found ++ (end_record route ∷ []))
+      ≡ record_lines (start_record route U G ∷ map listed_record (take found.all codes)) ++ record_lines end
   unfolding entry_from
-  lines_parts = lines_append (start_record route U G ∷ map listed_record (take (count_of found) codes))
-      (none_of found ++ (end_record route ∷ []))
+  lines_parts = lines_append (start_record route U G ∷ map listed_record (take found.all codes)) end
 
   lines_length : length (record_lines (entry_from route U G [] found codes))
-      ≡ 9 + length (record_lines (map listed_record (take (count_of found) codes))) + length
-      (record_lines (none_of found ++ (end_record route ∷ [])))
+      ≡ 9 + length (record_lines (map listed_record (take found.all codes))) + length (record_lines end)
   lines_length =
       ap length lines_parts
-      ∙ length-append (record_lines (start_record route U G ∷ map listed_record (take (count_of found) codes)))
-      (record_lines (none_of found ++ (end_record route ∷ [])))
-      ∙ ap (λ (k : ℕ). k + length (record_lines (none_of found ++ (end_record route ∷ []))))
-      (front_length route U G (map listed_record (take (count_of found) codes)))
+      ∙ length-append (record_lines (start_record route U G ∷ map listed_record (take found.all codes))) (record_lines end)
+      ∙ ap (λ (k : ℕ). k + length (record_lines end)) (front_length route U G (map listed_record (take found.all codes)))
 
-  module _ {told all : ℕ} (e : found ≡ Solved told all) where
-    solved_length : length (record_lines (entry_from route U G [] found codes))
-        ≡ 14 + length (record_lines (map listed_record (take all codes)))
-    solved_length =
-        let p : length (record_lines (entry_from route U G [] found codes))
-        ≡ 9 + length (record_lines (map listed_record (take all codes))) + length (record_lines (end_record route ∷ [])) = lines_length
-        ∙ rw e in
-        omega (arith, end_length route)
+  pub front_fits : (at room : ℕ) → at + length (record_lines (entry_from route U G [] found codes)) ≤ room
+      → at + (9 + length (record_lines (map listed_record (take found.all codes)))) ≤ room
+  front_fits at room h = omega (arith, lines_length)
 
-    pub solved_front : (at room : ℕ) → at + length (record_lines (entry_from route U G [] found codes)) ≤ room
-        → at + (9 + length (record_lines (map listed_record (take all codes)))) ≤ room
-    solved_front at room h = omega (arith, solved_length)
+  module _ {at a : ℕ} {l₀ l₁ : List ℕ}
+      (p : Put l₀ at (record_lines (start_record route U G ∷ map listed_record (take found.all codes))) a l₁) where
+    end_fits : {k : ℕ} → length (record_lines end) ≡ k → at + length (record_lines (entry_from route U G [] found codes)) ≤ length l₀
+        → a + k ≤ length l₁
+    end_fits e h = omega (arith, lines_length, p.place, put_length p, front_length route U G (map listed_record (take found.all codes)))
 
-    module _ {at a : ℕ} {l₀ l₁ : List ℕ}
-        (p : Put l₀ at (record_lines (start_record route U G ∷ map listed_record (take all codes))) a l₁) where
-      pub solved_end : at + length (record_lines (entry_from route U G [] found codes)) ≤ length l₀ → a + 5 ≤ length l₁
-      solved_end h = omega (arith, solved_length, p.place, put_length p, front_length route U G (map listed_record (take all codes)))
+    pub solved_end : found.none ≡ None → at + length (record_lines (entry_from route U G [] found codes)) ≤ length l₀ → a + 5 ≤ length l₁
+    solved_end e = end_fits (rw e (end_length route))
 
-      pub solved_put : {r : ℕ} {l₂ : List ℕ} → Put l₁ a (record_lines (end_record route ∷ [])) r l₂
-          → Put l₀ at (record_lines (entry_from route U G [] found codes)) r l₂
-      solved_put q = put_same (put_both p q) (sym (lines_parts ∙ rw e))
+    pub solved_put : found.none ≡ None → {r : ℕ} {l₂ : List ℕ} → Put l₁ a (record_lines (end_record route ∷ [])) r l₂
+        → Put l₀ at (record_lines (entry_from route U G [] found codes)) r l₂
+    solved_put e q = put_same (put_both p q) (sym (lines_parts ∙ rw e))
 
-  module _ {told s : ℕ} (e : found ≡ None told s) where
-    unsolved_length : length (record_lines (entry_from route U G [] found codes))
-        ≡ 19 + length (record_lines (map listed_record (take told codes)))
-    unsolved_length =
-        let p : length (record_lines (entry_from route U G [] found codes))
-        ≡ 9 + length (record_lines (map listed_record (take told codes))) + length (record_lines (none_record s ∷ end_record route ∷ [])) =
-        lines_length ∙ rw e in
+    pub unsolved_end : {s : ℕ} → found.none ≡ Some s → at + length (record_lines (entry_from route U G [] found codes)) ≤ length l₀
+        → a + 10 ≤ length l₁
+    unsolved_end {s} e =
         let last : List ℕ = record_lines (end_record route ∷ []) in
-        omega (
+        let ten : length (record_lines (none_record s ∷ end_record route ∷ [])) ≡ 10 = omega (
           arith,
           ap length (lines_append (none_record s ∷ []) (end_record route ∷ [])),
           length-append (record_lines (none_record s ∷ [])) last,
           none_length s,
           end_length route,
-        )
+        ) in
+        end_fits (rw e ten)
 
-    pub unsolved_front : (at room : ℕ) → at + length (record_lines (entry_from route U G [] found codes)) ≤ room
-        → at + (9 + length (record_lines (map listed_record (take told codes)))) ≤ room
-    unsolved_front at room h = omega (arith, unsolved_length)
-
-    module _ {at a : ℕ} {l₀ l₁ : List ℕ}
-        (p : Put l₀ at (record_lines (start_record route U G ∷ map listed_record (take told codes))) a l₁) where
-      pub unsolved_end : at + length (record_lines (entry_from route U G [] found codes)) ≤ length l₀ → a + 10 ≤ length l₁
-      unsolved_end h = omega (arith, unsolved_length, p.place, put_length p, front_length route U G (map listed_record (take told codes)))
-
-      pub unsolved_put : {r : ℕ} {l₂ : List ℕ} → Put l₁ a (record_lines (none_record s ∷ end_record route ∷ [])) r l₂
-          → Put l₀ at (record_lines (entry_from route U G [] found codes)) r l₂
-      unsolved_put q = put_same (put_both p q) (sym (lines_parts ∙ rw e))
+    pub unsolved_put : {s : ℕ} → found.none ≡ Some s → {r : ℕ} {l₂ : List ℕ}
+        → Put l₁ a (record_lines (none_record s ∷ end_record route ∷ [])) r l₂
+        → Put l₀ at (record_lines (entry_from route U G [] found codes)) r l₂
+    unsolved_put e q = put_same (put_both p q) (sym (lines_parts ∙ rw e))
 
 -- ---- what was listed is what is archived, and has room
 -- the order 0, 1, 2, ..

@@ -15,7 +15,7 @@ use lib.Seq.{take_all}
 use borrow.Author.Tests.{lt-leb, ne_eqb}
 use Rattle.ring.proofs.Bool.{bool_cases}
 use Rattle.printing.specs.Print.{line_feed, unreadable_line}
-use Rattle.sheet_lines.specs.declared.Line.TheVariants.{Unreadable}
+use Rattle.std.specs.Prelude.{None}
 use Rattle.sheet_lines.specs.Fields.{is_readable, read_line}
 use Rattle.sheet_lines.specs.Sheet.{printed_for, last_for, printed, last_behind, in_front, lines_of, printed_lines, sheet}
 use Rattle.sheet_lines.specs.Pieces.{Carried, kept_length, carry, prints, carry_all, prints_all, prints_last, nothing_carried, joined}
@@ -35,12 +35,12 @@ prints-append c (x ∷ xs) ys =
     ∙ sym (append_assoc (prints c x) (prints_all (carry c x) xs) (prints_all (carry_all (carry c x) xs) ys))
 
 -- ---- a line that is too long
-too_long : (line : List ℕ) → 300 < length line → read_line line ≡ Unreadable
+too_long : (line : List ℕ) → 300 < length line → read_line line ≡ None
 unfolding read_line is_readable
 too_long line h = rw (lt-leb (length line) 300 h)
 
 -- cut or whole, such a line gives the same
-cut : {A : Type 0} (f : List ℕ → A) (a : A) → ((line : List ℕ) → read_line line ≡ Unreadable → f line ≡ a) → (begun line : List ℕ)
+cut : {A : Type 0} (f : List ℕ → A) (a : A) → ((line : List ℕ) → read_line line ≡ None → f line ≡ a) → (begun line : List ℕ)
     → f (take kept_length begun ++ line) ≡ f (begun ++ line)
 cut {A} f a unreadable begun line = go (dec_le (length begun) 301)
   where

@@ -23,7 +23,7 @@ use Rattle.entry.specs.Record.{fields as layout_fields, low_first, body_of, same
 use Rattle.entry.specs.Entry.{order_records, fact_records, condition_records, answer_records, verdict_records, entry_records}
 use Rattle.entry.specs.Questions.{route_fits}
 use Rattle.printing.specs.Print.{digit_byte, hexadecimal, record_lines}
-use Rattle.sheet_lines.specs.Fields.{is_digit, digits_ahead, number_behind, has_letters, is_readable, fields, read_line}
+use Rattle.sheet_lines.specs.Fields.{digits_ahead, number_behind, has_letters, is_readable, fields, read_line}
 use Rattle.sheet_lines.specs.Sheet.{line_questions, line_refusal, answer_lines, route_behind, printed_for, last_for, printed, last_behind}
 use Rattle.sheet_lines.specs.Sheet.{in_front, lines_of, printed_lines, sheet}
 
@@ -60,5 +60,5 @@ ten_lines =
     ∷ []
 
 pub sample_printed : sheet sample ≡ ten_lines
-unfolding sample ten_lines sheet printed_lines lines_of in_front printed printed_for last_behind last_for route_behind answer_lines line_refusal line_questions first_no letters_fit route_fits has_text_length all_signs all_declared every is_sign is_declared read_line fields is_readable has_letters number_behind digits_ahead is_digit record_lines hexadecimal digit_byte text_table table tabulate normal_form tree_of grammar_reads symbols symbol is_unknown is_given is_single reads read_with and_then entry_records order_records fact_records table_where_zero where_zero no_fact is_default same_bytes order_bytes condition_records answer_records verdict_records monomials order groups below keep letters solve solvable is_zero every_below remains next_condition product restrict odd count present held bit default_order listed answer_table boole_answers answer_from sum letter constant substitute monomial smallest_blocked smallest_below blocked point value within boole_table layout_fields low_first body_of
+unfolding sample ten_lines sheet printed_lines lines_of in_front printed printed_for last_behind last_for route_behind answer_lines line_refusal line_questions first_no letters_fit route_fits has_text_length all_signs all_declared every is_sign is_declared read_line fields is_readable has_letters number_behind digits_ahead record_lines hexadecimal digit_byte text_table table tabulate normal_form tree_of grammar_reads symbols symbol is_unknown is_given is_single reads read_with and_then entry_records order_records fact_records table_where_zero where_zero no_fact is_default same_bytes order_bytes condition_records answer_records verdict_records monomials order groups below keep letters solve solvable is_zero every_below remains next_condition product restrict odd count present held bit default_order listed answer_table boole_answers answer_from sum letter constant substitute monomial smallest_blocked smallest_below blocked point value within boole_table layout_fields low_first body_of
 sample_printed = refl

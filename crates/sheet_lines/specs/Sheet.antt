@@ -1,6 +1,6 @@
 -- What `sheet` prints for its input (document 01, 'Programs').
 -- Assumes nothing.
-use Rattle.std.specs.Prelude.{cond, List, [], ◌∷◌, ◌++◌, ℕ, zero, suc, eqb, ltb, drop}
+use Rattle.std.specs.Prelude.{cond, List, [], ◌∷◌, ◌++◌, ℕ, zero, suc, eqb, ltb, drop, Option, Some, None}
 use Rattle.tables.specs.declared.Question.TheVariants.{Letters, Route, TextLength, Signs, Declared, Grammar, Rising}
 use Rattle.tables.specs.Questions.{Asked, asks, first_no, letters_fit}
 use Rattle.grammar.specs.Symbols.{all_signs, all_declared}
@@ -13,7 +13,6 @@ use Rattle.entry.specs.Entry.{archived_records}
 use Rattle.entry.specs.Questions.{route_fits}
 use Rattle.printing.specs.Print.{line_feed, record_lines, unreadable_line, refused_line}
 use Rattle.sheet_lines.specs.declared.Line.{Line}
-use Rattle.sheet_lines.specs.declared.Line.TheVariants.{Readable, Unreadable}
 use Rattle.sheet_lines.specs.Fields.{read_line}
 
 -- 'in the order 1, 2, 3, 5, 6, 7, 15 (against the last route printed)', which is 0 before any
@@ -42,14 +41,15 @@ route_behind zero last route = route
 route_behind (suc number) last route = last
 
 -- what is printed for a line, behind an entry with the route `last`
-unfoldable pub printed_for : ℕ → List ℕ → Line → List ℕ
-printed_for last line (Readable route U G at) =
-    answer_lines (line_refusal last route U G (drop at line)) (archived_records route (condition_of U G (text_table U G (drop at line))))
-printed_for last line Unreadable = unreadable_line
+unfoldable pub printed_for : ℕ → List ℕ → Option Line → List ℕ
+printed_for last line (Some l) =
+    answer_lines (line_refusal last l.route l.unknowns l.givens (drop l.text line))
+    (archived_records l.route (condition_of l.unknowns l.givens (text_table l.unknowns l.givens (drop l.text line))))
+printed_for last line None = unreadable_line
 
-unfoldable pub last_for : ℕ → List ℕ → Line → ℕ
-last_for last line (Readable route U G at) = route_behind (line_refusal last route U G (drop at line)) last route
-last_for last line Unreadable = last
+unfoldable pub last_for : ℕ → List ℕ → Option Line → ℕ
+last_for last line (Some l) = route_behind (line_refusal last l.route l.unknowns l.givens (drop l.text line)) last l.route
+last_for last line None = last
 
 unfoldable pub printed : ℕ → List ℕ → List ℕ
 printed last line = printed_for last line (read_line line)

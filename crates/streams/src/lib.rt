@@ -4,21 +4,13 @@
 
 #![tactic(auto)]
 
-ghost use Rattle.std.specs.Prelude.{◌≡◌, ◌≤◌, length, IfOk};
-ghost use Rattle.streams.specs.Inner.Got.{got_of, got_within};
+ghost use Rattle.std.specs.Prelude.{◌≤◌, length, IfOk};
 
+use std::fmt::Display;
 use std::io::{ErrorKind, Read, Write};
 use std::rt::Clock;
 use std::time::Duration;
 use std::{io, thread};
-
-// What a read gave: so many bytes at the front of the room, the end of the input, or a failure, and why.
-#[derive(Clone, Copy)]
-pub enum Got {
-    Bytes(usize),
-    End,
-    Failed(io::Error),
-}
 
 // Waits for a two-hundredth of a second, so that waiting takes no processor time.
 fn pause(clock: &impl Clock) {
@@ -42,31 +34,19 @@ fn too_often() -> io::Error {
     io::Error::from(ErrorKind::TimedOut)
 }
 
-// A read that did not fail, by its count.
-fn got_of(n: usize) -> Got
-    ensures { result ≡ got_of n }
-{
-    if n == 0 {
-        return Got::End;
-    }
-    Got::Bytes(n)
-}
-
-// Reads once, at the front of `room`. A proved loop has to end, so the turns are counted, up to a number that no run uses up.
-pub fn read_some<C: Clock, R: Read>(clock: &C, file: &mut R, room: &mut [u8]) -> Got
-    ensures { got_within result (length room.old) }
+// Reads once, at the front of `room`, and answers how many bytes it read, 0 at the end of the input. A proved loop has to end, so the turns
+// are counted, up to a number that no run uses up. `write_some` has the same loop: with the call as a closure, the contract would have to
+// follow the lent room from call to call.
+pub fn read_some<C: Clock, R: Read>(clock: &C, file: &mut R, room: &mut [u8]) -> io::Result<usize>
+    ensures { IfOk result (λ n. n ≤ length room.old) }
 {
     for _ in 0..u64::MAX {
         match file.read(room) {
-            Ok(n) => return got_of(n),
-            Err(e) => {
-                if !again(clock, &e) {
-                    return Got::Failed(e);
-                }
-            }
+            Err(e) if again(clock, &e) => {}
+            result => return result,
         }
     }
-    Got::Failed(too_often())
+    Err(too_often())
 }
 
 // Writes once, from the front of `bytes`, and answers how many it took: an output that takes nothing more is an error.
@@ -75,12 +55,8 @@ fn write_some<C: Clock, W: Write>(clock: &C, file: &mut W, bytes: &[u8]) -> io::
 {
     for _ in 0..u64::MAX {
         match file.write(bytes) {
-            Ok(n) => return Ok(n),
-            Err(e) => {
-                if !again(clock, &e) {
-                    return Err(e);
-                }
-            }
+            Err(e) if again(clock, &e) => {}
+            result => return result,
         }
     }
     Err(too_often())
@@ -88,18 +64,18 @@ fn write_some<C: Clock, W: Write>(clock: &C, file: &mut W, bytes: &[u8]) -> io::
 
 // Writes all of `bytes`, or fails where the output takes nothing more.
 pub fn write_whole<C: Clock, W: Write>(clock: &C, file: &mut W, bytes: &[u8]) -> io::Result<()> {
-    let mut done = 0;
-    while done < bytes.len() {
-        let more = write_some(clock, file, &bytes[done..])?;
-        if more == 0 {
-            return Err(io::Error::from(ErrorKind::WriteZero));
+    let mut rest = bytes;
+    // A write says how many bytes were taken.
+    while !rest.is_empty() {
+        match write_some(clock, file, rest)? {
+            0 => return Err(io::Error::from(ErrorKind::WriteZero)),
+            n => rest = &rest[n..],
         }
-        done += more;
     }
     Ok(())
 }
 
 // Writes a line to standard error: what failed, as the caller names it, a colon and why.
-pub fn complain(rt: &impl Eprint, what: &str, error: io::Error) {
+pub fn complain(rt: &impl Eprint, what: &str, error: &impl Display) {
     let _ = eprintln!(rt; "{what}: {error}");
 }

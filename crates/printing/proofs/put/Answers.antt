@@ -1,20 +1,6 @@
--- The invariant: the bytes passed stand in their place. Assumes nothing.
-use mathlib.Core.Path.{refl}
-use native.Mathlib.Omega.{arith}
-use lib.ListN.{length-set}
-use Rattle.tables.proofs.Put.{put_start, put_more, put_all}
+-- All of the part is written. Assumes nothing.
+use Rattle.printing.proofs.Parts.{put_part}
 use Rattle.printing.proofs.put.Goals as goal
 
-pub loop-i-init : goal.loop-i-init
-loop-i-init c = (omega arith, refl, put_start _ _ (omega arith))
-
-pub loop-i-preserved : goal.loop-i-preserved
-loop-i-preserved c = (
-  omega arith,
-  simp length-set c.loop-i.invariant.1,
-  put_more _ _ _ _ _ (omega arith) (omega arith)
-      c.loop-i.invariant.2,
-)
-
 pub returns : goal.returns
-returns c = put_all _ _ _ _ _ c.loop-i-test.false c.loop-i.invariant.2
+returns c = put_part _ _ _ c.copy_from_slice.ensures.after c.requires

@@ -1,13 +1,8 @@
 -- The invariant: two digits for each of the bytes passed stand in their place. Assumes nothing.
-use mathlib.Core.Path.{◌≡◌}
-use Prim.Native.Nat.{◌+◌, ◌*◌, ◌≤◌, ◌-◌}
-use lib.ListN.{length, take}
-use Rattle.printing.specs.Print.{hexadecimal}
+use Rattle.std.proofs.Common.{take}
 use Rattle.tables.specs.Inner.Put.{Put}
+use Rattle.printing.specs.Print.{hexadecimal}
 use Rattle.printing.proofs.put_hexadecimal.Given as goal
 
-abbrev pub invariant-loop-i : goal.invariant-loop-i
-invariant-loop-i l = (l.i ≤ length l.bytes) × (length l.out ≡ length l.initial.out) × Put l.initial.out l.at (hexadecimal (take l.i l.bytes)) (l.at + 2 * l.i) l.out
-
-abbrev pub decreases-loop-i : goal.decreases-loop-i
-decreases-loop-i l = length l.bytes - l.i
+abbrev pub invariant-loop-byte : goal.invariant-loop-byte
+invariant-loop-byte l = Put l.initial.out l.at (hexadecimal (take l.byte-index l.bytes)) l.end l.out

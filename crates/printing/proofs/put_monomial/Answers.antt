@@ -8,8 +8,8 @@ put_line-requires c = search condition_room
 pub returns-then-i-eq0 : goal.returns-then-i-eq0
 returns-then-i-eq0 c = search condition_line
 
-pub put_line-requires-2 : goal.put_line-requires-2
-put_line-requires-2 c = search answer_room_lem
+pub put_line-requires-else-i-eq0 : goal.put_line-requires-else-i-eq0
+put_line-requires-else-i-eq0 c = search answer_room_lem
 
-pub returns : goal.returns
-returns c = search answer_line
+pub returns-else-i-eq0 : goal.returns-else-i-eq0
+returns-else-i-eq0 c = search answer_line

@@ -1,11 +1,6 @@
--- The invariant: the lines of the first p numbers are put. The measure is how many are left. Assumes nothing.
-use Prim.Native.Nat.{◌-◌}
-use lib.ListN.{length}
+-- The invariant: the lines of the numbers passed are put. Assumes nothing.
 use Rattle.printing.proofs.Records.{Printing}
 use Rattle.printing.proofs.put_monomials.Given as goal
 
-abbrev pub invariant-loop-p : goal.invariant-loop-p
-invariant-loop-p l = Printing l.codes l.initial.out l.from l.p l.at l.out
-
-abbrev pub decreases-loop-p : goal.decreases-loop-p
-decreases-loop-p l = length l.codes - l.p
+abbrev pub invariant-loop-code : goal.invariant-loop-code
+invariant-loop-code l = Printing l.codes l.initial.out l.from l.code-index l.at l.out

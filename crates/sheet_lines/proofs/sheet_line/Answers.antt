@@ -3,13 +3,13 @@ use Rattle.sheet_lines.proofs.Feeding.{text_inside, prints_answer, prints_unread
 use Rattle.sheet_lines.proofs.sheet_line.Goals as goal
 
 pub slice_bounds-answer_line-count : goal.slice_bounds-answer_line-count
-slice_bounds-answer_line-count c = text_inside _ c.read_line.ensures c.in-Readable.is
+slice_bounds-answer_line-count c = text_inside _ c.read_line.ensures c.in-Some.is
 
 pub slice_bounds-answer_line-start : goal.slice_bounds-answer_line-start
-slice_bounds-answer_line-start c = text_inside _ c.read_line.ensures c.in-Readable.is
+slice_bounds-answer_line-start c = text_inside _ c.read_line.ensures c.in-Some.is
 
-pub returns-in-Readable : goal.returns-in-Readable
-returns-in-Readable c = search prints_answer
+pub returns-in-Some : goal.returns-in-Some
+returns-in-Some c = search prints_answer
 
-pub returns-in-Unreadable : goal.returns-in-Unreadable
-returns-in-Unreadable c = search prints_unreadable
+pub returns-in-None : goal.returns-in-None
+returns-in-None c = search prints_unreadable

@@ -6,10 +6,10 @@ use Rattle.walk_file.proofs.walk_line.Goals as goal
 pub returns-then-volume-gt-LONGEST_VOLUME : goal.returns-then-volume-gt-LONGEST_VOLUME
 returns-then-volume-gt-LONGEST_VOLUME c = put_same c.put_unreadable.ensures (walk_long _ c.if-volume-gt-LONGEST_VOLUME.true)
 
-pub returns-in-Count : goal.returns-in-Count
-returns-in-Count c = put_same c.put_count.ensures
-    (walk_count _ c.if-volume-gt-LONGEST_VOLUME.false c.walk_volume.ensures c.in-Count.is)
+pub returns-in-Ok : goal.returns-in-Ok
+returns-in-Ok c = put_same c.put_count.ensures
+    (walk_count _ c.if-volume-gt-LONGEST_VOLUME.false c.walk_volume.ensures c.in-Ok.is)
 
-pub returns-in-Refused : goal.returns-in-Refused
-returns-in-Refused c = put_same c.put_refused_behind.ensures
-    (walk_refused _ c.if-volume-gt-LONGEST_VOLUME.false c.walk_volume.ensures c.in-Refused.is)
+pub returns-in-Err : goal.returns-in-Err
+returns-in-Err c = put_same c.put_refused_behind.ensures
+    (rw c.number-number.ensures (walk_refused _ c.if-volume-gt-LONGEST_VOLUME.false c.walk_volume.ensures c.in-Err.is))

@@ -1,2 +1,0 @@
--- Inner work: what only proofs and inner functions cite.
-pub mod Got
