@@ -4,22 +4,24 @@
 
 #![tactic(auto)]
 
-use calls::{Shorter, Valued};
+use calls::Formula;
+use std::alloc::Global;
 use std::io;
+use tables::Question;
 
-fn show_value(rt: &impl Print, r: Valued) -> io::Result<()> {
+fn show_value(rt: &impl Print, r: Result<u8, Question>) -> io::Result<()> {
     match r {
-        Valued::Value(v) => cases::show_number(rt, b"value", v as usize)?,
-        Valued::Refused(q) => cases::show_refused(rt, q)?,
+        Ok(value) => cases::show_number(rt, b"value", usize::from(value))?,
+        Err(question) => cases::show_refused(rt, question)?,
     }
     cases::show_line_end(rt)
 }
 
-fn show_which(rt: &impl Print, r: Shorter) -> io::Result<()> {
+fn show_which(rt: &impl Print, r: Result<Formula, Question>) -> io::Result<()> {
     match r {
-        Shorter::Boole => rt.write_all(b"boole"),
-        Shorter::Lowenheim => rt.write_all(b"lowenheim"),
-        Shorter::Refused(q) => cases::show_refused(rt, q),
+        Ok(Formula::Boole) => rt.write_all(b"boole"),
+        Ok(Formula::Lowenheim) => rt.write_all(b"lowenheim"),
+        Err(question) => cases::show_refused(rt, question),
     }
 }
 
@@ -34,7 +36,7 @@ fn show_shorter<'a>(
 ) -> io::Result<()> {
     show_which(rt, shorter::which_shorter(u, g, boole, lowenheim))?;
     let number = shorter::shorter_refusal(u, g, boole, lowenheim);
-    cases::show_number(rt, b"", number as usize)?;
+    cases::show_number(rt, b"", usize::from(number))?;
     let part = shorter::shorter(u, g, boole, lowenheim);
     cases::show_number(rt, b"", part.len())?;
     cases::show_digits(rt, part)?;
@@ -44,71 +46,49 @@ fn show_shorter<'a>(
 // One call on buffers of the stated lengths.
 fn call<'a>(
     rt: &impl Print,
-    f: cases::Fields,
+    f: cases::Fields<'_>,
     a: &'a [u8],
     b: &'a [u8],
     out: &mut [u8],
 ) -> io::Result<()> {
-    let name = f.call;
-    if name == b'v' {
-        return show_value(
+    match f.call {
+        b'v' => show_value(
             rt,
             operations::value(f.unknowns, f.givens, a, ring::State(f.x), ring::Choice(f.y)),
-        );
+        ),
+        b'+' => {
+            let r = operations::sum(f.unknowns, f.givens, a, b, out);
+            cases::show_counted(rt, r, out)
+        }
+        b'*' => {
+            let r = operations::product(f.unknowns, f.givens, a, b, out);
+            cases::show_counted(rt, r, out)
+        }
+        b's' => {
+            let r = operations::substitute(f.unknowns, f.givens, a, b, out);
+            cases::show_counted(rt, r, out)
+        }
+        b'd' => {
+            let r = operations::derivative(f.unknowns, f.givens, a, f.x, out);
+            cases::show_outcome(rt, r, out)
+        }
+        b'm' => show_shorter(rt, f.unknowns, f.givens, a, b),
+        _ => Ok(()),
     }
-    if name == b'+' {
-        let r = operations::sum(f.unknowns, f.givens, a, b, out);
-        return cases::show_counted(rt, r, out);
-    }
-    if name == b'*' {
-        let r = operations::product(f.unknowns, f.givens, a, b, out);
-        return cases::show_counted(rt, r, out);
-    }
-    if name == b's' {
-        let r = operations::substitute(f.unknowns, f.givens, a, b, out);
-        return cases::show_counted(rt, r, out);
-    }
-    if name == b'd' {
-        let r = operations::derivative(f.unknowns, f.givens, a, f.x, out);
-        return cases::show_outcome(rt, r, out);
-    }
-    if name == b'm' {
-        show_shorter(rt, f.unknowns, f.givens, a, b)?;
-    }
-    Ok(())
 }
 
 // A line, taken apart.
-fn run(rt: &impl Print, line: &[u8]) -> io::Result<()> {
-    if line.len() == 0 {
+fn run(rt: &impl Print, alloc: Global, line: &[u8]) -> io::Result<()> {
+    let Some(f) = cases::take_apart(line) else {
         return Ok(());
-    }
-    let f = cases::take_apart(line);
-    let mut a = cases::large_buffer();
-    let na = cases::digits(line, f.a, &mut a);
-    let mut b = cases::large_buffer();
-    let nb = cases::digits(line, f.b, &mut b);
-    let mut out = cases::large_buffer();
-    cases::mark(&mut out);
-    let size = f.size;
-    if size <= 65536 {
-        call(rt, f, &a[..na], &b[..nb], &mut out[..size])?;
-    }
-    Ok(())
-}
-
-fn run_all(rt: &impl Print, input: &[u8]) -> io::Result<()> {
-    let mut at: usize = 0;
-    while at < input.len() {
-        let end = cases::line_end(input, at);
-        run(rt, &input[at..end])?;
-        at = end + 1;
-    }
-    Ok(())
+    };
+    let a = cases::digits(alloc, f.a)?;
+    let b = cases::digits(alloc, f.b)?;
+    let mut out = cases::marked(alloc, f.size)?;
+    call(rt, f, &a, &b, &mut out)
 }
 
 fn main(rt: HostRuntime) -> io::Result<()> {
-    let mut input = cases::input();
-    let n = cases::read_full(&mut rt.stdin(), &mut input)?;
-    run_all(&rt, &input[..n])
+    let alloc = rt.alloc();
+    cases::for_each_line(alloc, &mut rt.stdin(), |line| run(&rt, alloc, line))
 }

@@ -5,10 +5,8 @@
 
 #![tactic(auto)]
 
-ghost use Rattle.std.specs.Prelude.{◌≤◌, length};
-
-use calls::Outcome;
 use session::{Mark, Session, Step};
+use std::alloc::Global;
 use std::io;
 
 // The largest prime below 2^32: a sum is a u32, and the product with 31 fits.
@@ -19,178 +17,88 @@ fn with_byte(sum: u32, byte: u8) -> u32 {
 }
 
 fn with_bytes(sum: u32, bytes: &[u8]) -> u32 {
-    let mut after = sum;
-    for i in 0..bytes.len() {
-        after = with_byte(after, bytes[i]);
-    }
-    after
+    bytes.iter().fold(sum, |sum, byte| with_byte(sum, *byte))
 }
 
-fn digit(set: bool) -> u8 {
-    if set { 1 } else { 0 }
-}
-
-fn with_mark(sum: u32, mark: Mark) -> u32 {
-    let t = mark.table;
-    with_bytes(with_byte(sum, digit(mark.set)), &t)
+fn with_mark(sum: u32, mark: &Mark) -> u32 {
+    with_bytes(with_byte(sum, u8::from(mark.set)), &mark.table)
 }
 
 // Over every byte of every table, and the marks: a step is seen that changes what it should leave alone, as bytes behind 2^n.
-fn checksum(s: Session) -> u32 {
-    let t = s.table;
-    let mut sum = with_bytes(0, &t);
-    for i in 0usize..4 {
-        sum = with_mark(sum, s.marks[i]);
-    }
-    sum
+fn checksum(s: &Session) -> u32 {
+    s.marks.iter().fold(with_bytes(0, &s.table), with_mark)
 }
 
-fn show_marks(rt: &impl Print, s: Session) -> io::Result<()> {
-    let mut marks = [0u8; 4];
-    for i in 0usize..4 {
-        let m = s.marks[i];
-        marks[i] = digit(m.set);
-    }
-    cases::show_digits(rt, &marks)
+fn show_marks(rt: &impl Print, s: &Session) -> io::Result<()> {
+    cases::show_digits(rt, &s.marks.map(|mark| u8::from(mark.set)))
 }
 
 // The present table, if the letters say how long it is.
-fn show_table(rt: &impl Print, s: Session) -> io::Result<()> {
+#[tactic(auto, using(tables::proofs::Questions::letters_small))]
+fn show_table(rt: &impl Print, s: &Session) -> io::Result<()> {
     if !tables::letters_fit(s.unknowns, s.givens) {
         return cases::show_digits(rt, b"");
     }
     let k = tables::pow2(s.unknowns + s.givens);
-    let t = s.table;
-    cases::show_digits(rt, &t[..k])
-}
-
-fn show_outcome(rt: &impl Print, outcome: Outcome) -> io::Result<()> {
-    match outcome {
-        Outcome::Done => rt.write_all(b"done"),
-        Outcome::Refused(q) => cases::show_refused(rt, q),
-    }
+    cases::show_digits(rt, s.table.get(..k).unwrap_or(b""))
 }
 
 // The session after the step is handed on, for the next line.
 fn show(rt: &impl Print, step: Step) -> io::Result<Session> {
-    let outcome = step.outcome;
-    show_outcome(rt, outcome)?;
+    cases::show_done(rt, step.outcome)?;
     let s = step.session;
     cases::show_number(rt, b"", s.unknowns)?;
     cases::show_number(rt, b"", s.givens)?;
-    cases::show_number(rt, b"", checksum(s) as usize)?;
-    show_marks(rt, s)?;
-    show_table(rt, s)?;
+    cases::show_number(rt, b"", checksum(&s) as usize)?;
+    show_marks(rt, &s)?;
+    show_table(rt, &s)?;
     cases::show_line_end(rt)?;
     Ok(s)
 }
 
 // At a place behind the table's end nothing is changed.
-fn put(table: [u8; 1024], place: usize, byte: u8) -> [u8; 1024] {
-    let mut after = table;
-    if place < 1024 {
-        after[place] = byte;
+fn put(table: &mut [u8], place: usize, byte: u8) {
+    if let Some(b) = table.get_mut(place) {
+        *b = byte;
     }
-    after
-}
-
-// The names are counted from 0; there are four.
-fn put_under_name(s: Session, i: usize, place: usize, byte: u8) -> Session {
-    if 4 <= i {
-        return s;
-    }
-    let m = s.marks[i];
-    let t = m.table;
-    let changed = put(t, place, byte);
-    let mut after = s;
-    after.marks[i] = Mark {
-        set: m.set,
-        table: changed,
-    };
-    after
-}
-
-fn set_name(s: Session, i: usize, set: bool) -> Session {
-    if 4 <= i {
-        return s;
-    }
-    let mut m = s.marks[i];
-    m.set = set;
-    let mut after = s;
-    after.marks[i] = m;
-    after
 }
 
 // `which` is 0 for U, 1 for G, 2 for the present table, 3 to 6 for the tables of `A` to `D`, 7 to 10 for whether these are marked.
-fn change(s: Session, which: usize, place: usize, byte: u8) -> Session {
-    let mut after = s;
-    if which == 0 {
-        after.unknowns = place;
-        return after;
+fn change(s: &mut Session, which: usize, place: usize, byte: u8) {
+    match which {
+        0 => s.unknowns = place,
+        1 => s.givens = place,
+        2 => put(&mut s.table, place, byte),
+        3..=6 => put(&mut s.marks[which - 3].table, place, byte),
+        7..=10 => s.marks[which - 7].set = byte == 1,
+        _ => {}
     }
-    if which == 1 {
-        after.givens = place;
-        return after;
-    }
-    if which == 2 {
-        let t = s.table;
-        let changed = put(t, place, byte);
-        after.table = changed;
-        return after;
-    }
-    if which < 7 {
-        return put_under_name(s, which - 3, place, byte);
-    }
-    set_name(s, which - 7, byte == 1)
-}
-
-fn add(s: Session, line: &[u8], at: usize) -> Step
-    requires { at ≤ length line.now }
-{
-    let mut h = cases::large_buffer();
-    let n = cases::digits(line, at, &mut h);
-    s.add(&h[..n])
 }
 
 // The session after a line.
-fn play(rt: &impl Print, s: Session, line: &[u8]) -> io::Result<Session> {
-    if line.len() == 0 {
+fn play(rt: &impl Print, alloc: Global, s: Session, line: &[u8]) -> io::Result<Session> {
+    let Some(f) = cases::take_apart(line) else {
         return Ok(s);
+    };
+    match f.call {
+        b's' => show(rt, Session::start(f.unknowns, f.givens)),
+        b'a' => show(rt, s.add(&cases::digits(alloc, f.a)?)),
+        b'm' => show(rt, s.mark(f.x)),
+        b'r' => show(rt, s.return_to(f.x)),
+        b'd' => {
+            let mut changed = s;
+            change(&mut changed, f.unknowns, f.givens, (f.x % 256) as u8);
+            Ok(changed)
+        }
+        _ => Ok(s),
     }
-    let f = cases::take_apart(line);
-    let name = f.call;
-    if name == b's' {
-        return show(rt, Session::start(f.unknowns, f.givens));
-    }
-    if name == b'a' {
-        return show(rt, add(s, line, f.a));
-    }
-    if name == b'm' {
-        return show(rt, s.mark(f.x));
-    }
-    if name == b'r' {
-        return show(rt, s.return_to(f.x));
-    }
-    if name == b'd' {
-        return Ok(change(s, f.unknowns, f.givens, (f.x % 256) as u8));
-    }
-    Ok(s)
-}
-
-fn run_all(rt: &impl Print, input: &[u8]) -> io::Result<()> {
-    let first = Session::start(0, 0);
-    let mut s = first.session;
-    let mut at: usize = 0;
-    while at < input.len() {
-        let end = cases::line_end(input, at);
-        s = play(rt, s, &input[at..end])?;
-        at = end + 1;
-    }
-    Ok(())
 }
 
 fn main(rt: HostRuntime) -> io::Result<()> {
-    let mut input = cases::input();
-    let n = cases::read_full(&mut rt.stdin(), &mut input)?;
-    run_all(&rt, &input[..n])
+    let alloc = rt.alloc();
+    let mut s = Session::start(0, 0).session;
+    cases::for_each_line(alloc, &mut rt.stdin(), |line| {
+        s = play(&rt, alloc, s, line)?;
+        Ok(())
+    })
 }

@@ -3,42 +3,20 @@
 
 #![tactic(auto)]
 
+use std::alloc::Global;
 use std::io;
 
-// One call on a buffer of the stated length.
-fn call(rt: &impl Print, f: cases::Fields, text: &[u8], out: &mut [u8]) -> io::Result<()> {
-    let r = notation::read_text(f.unknowns, f.givens, text, out);
-    cases::show_outcome(rt, r, out)
-}
-
 // A line, taken apart: the text is all behind the eighth space.
-fn run(rt: &impl Print, line: &[u8]) -> io::Result<()> {
-    if line.len() == 0 {
+fn run(rt: &impl Print, alloc: Global, line: &[u8]) -> io::Result<()> {
+    let Some(f) = cases::take_apart(line) else {
         return Ok(());
-    }
-    let f = cases::take_apart(line);
-    let at = f.b;
-    let size = f.size;
-    let mut out = cases::large_buffer();
-    cases::mark(&mut out);
-    if size <= 65536 {
-        call(rt, f, &line[at..], &mut out[..size])?;
-    }
-    Ok(())
-}
-
-fn run_all(rt: &impl Print, input: &[u8]) -> io::Result<()> {
-    let mut at: usize = 0;
-    while at < input.len() {
-        let end = cases::line_end(input, at);
-        run(rt, &input[at..end])?;
-        at = end + 1;
-    }
-    Ok(())
+    };
+    let mut out = cases::marked(alloc, f.size)?;
+    let r = notation::read_text(f.unknowns, f.givens, f.b, &mut out);
+    cases::show_outcome(rt, r, &out)
 }
 
 fn main(rt: HostRuntime) -> io::Result<()> {
-    let mut input = cases::input();
-    let n = cases::read_full(&mut rt.stdin(), &mut input)?;
-    run_all(&rt, &input[..n])
+    let alloc = rt.alloc();
+    cases::for_each_line(alloc, &mut rt.stdin(), |line| run(&rt, alloc, line))
 }

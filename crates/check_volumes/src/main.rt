@@ -3,78 +3,45 @@
 
 #![tactic(auto)]
 
-use calls::{Heading, Read, Verdict, Walked};
+use calls::{Entry, Stopped};
+use std::alloc::Global;
 use std::io;
+use tables::Question;
 
-fn show_heading(rt: &impl Print, h: Heading) -> io::Result<()> {
-    cases::show_number(rt, b"", h.route as usize)?;
-    cases::show_number(rt, b"", h.unknowns)?;
-    cases::show_number(rt, b"", h.givens)?;
-    cases::show_number(rt, b"", h.used)
-}
-
-fn show_verdict(rt: &impl Print, verdict: Verdict) -> io::Result<()> {
-    match verdict {
-        Verdict::Solved => rt.write_all(b"solved"),
-        Verdict::None(state) => cases::show_number(rt, b"none", state.0),
-    }
-}
-
-fn show_audited(rt: &impl Print, r: Read) -> io::Result<()> {
-    match r {
-        Read::Entry(h, verdict) => {
-            show_verdict(rt, verdict)?;
-            show_heading(rt, h)?;
-        }
-        Read::Refused(q) => cases::show_refused(rt, q)?,
-    }
+fn show_audited(rt: &impl Print, r: Result<Entry, Question>) -> io::Result<()> {
+    cases::show_entry(rt, r)?;
     cases::show_line_end(rt)
 }
 
-fn show_walked(rt: &impl Print, r: Walked) -> io::Result<()> {
+fn show_walked(rt: &impl Print, r: Result<usize, Stopped>) -> io::Result<()> {
     match r {
-        Walked::Count(count) => cases::show_number(rt, b"count", count)?,
-        Walked::Refused(q, passed) => {
-            cases::show_refused(rt, q)?;
-            cases::show_number(rt, b"", passed)?;
+        Ok(count) => cases::show_number(rt, b"count", count)?,
+        Err(stopped) => {
+            cases::show_refused(rt, stopped.question)?;
+            cases::show_number(rt, b"", stopped.passed)?;
         }
     }
     cases::show_line_end(rt)
 }
 
-fn call(rt: &impl Print, f: cases::Fields, bytes: &[u8]) -> io::Result<()> {
-    if f.call == b'a' {
-        return show_audited(rt, audit::audit(bytes));
+fn call(rt: &impl Print, f: cases::Fields<'_>, bytes: &[u8]) -> io::Result<()> {
+    match f.call {
+        b'a' => show_audited(rt, audit::audit(bytes)),
+        b'k' => show_walked(rt, volume::walk_volume(bytes, f.x)),
+        _ => Ok(()),
     }
-    if f.call == b'k' {
-        show_walked(rt, volume::walk_volume(bytes, f.x))?;
-    }
-    Ok(())
 }
 
 // A line, taken apart.
-fn run(rt: &impl Print, line: &[u8]) -> io::Result<()> {
-    if line.len() == 0 {
+fn run(rt: &impl Print, alloc: Global, line: &[u8]) -> io::Result<()> {
+    let Some(f) = cases::take_apart(line) else {
         return Ok(());
-    }
-    let f = cases::take_apart(line);
-    let mut bytes = cases::large_buffer();
-    let n = cases::hex_bytes(line, f.b, &mut bytes);
-    call(rt, f, &bytes[..n])
-}
-
-fn run_all(rt: &impl Print, input: &[u8]) -> io::Result<()> {
-    let mut at: usize = 0;
-    while at < input.len() {
-        let end = cases::line_end(input, at);
-        run(rt, &input[at..end])?;
-        at = end + 1;
-    }
-    Ok(())
+    };
+    let bytes = cases::hex_bytes(alloc, f.b)?;
+    call(rt, f, &bytes)
 }
 
 fn main(rt: HostRuntime) -> io::Result<()> {
-    let mut input = cases::input();
-    let n = cases::read_full(&mut rt.stdin(), &mut input)?;
-    run_all(&rt, &input[..n])
+    let alloc = rt.alloc();
+    cases::for_each_line(alloc, &mut rt.stdin(), |line| run(&rt, alloc, line))
 }
