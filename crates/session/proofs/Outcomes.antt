@@ -13,7 +13,7 @@ use Rattle.tables.proofs.FirstNo.{number_some}
 use Rattle.tables.proofs.Numbered.{number_injective}
 use Rattle.session.specs.declared.Session.{Session}
 use Rattle.session.specs.Session.{outcome_of, stepped}
-use Rattle.session.specs.Inner.Passed.{IsStep, step_to}
+use Rattle.session.specs.Inner.Passed.{IsStep}
 
 -- every question is answered yes
 outcome_yes : (questions : List Asked) → NoneNo questions → outcome_of questions ≡ Ok tt
@@ -56,8 +56,8 @@ outcome_behind (asks_giving question true given ∷ rest) further z = outcome_be
 outcome_behind (asks_giving question false given ∷ rest) further z = absurd (number_some question z)
 
 -- the step as the code makes it
-pub step_asked : (questions : List Asked) (after before : Session) (r : Result Session Question) → IsStep questions after r
-    → step_to before r ≡ stepped (outcome_of questions) after before
+pub step_asked : (questions : List Asked) (after before now : Session) (r : Result Unit Question) → IsStep questions after before r now
+    → record { session = now; outcome = r } ≡ stepped (outcome_of questions) after before
 unfolding stepped
-step_asked questions after before (Ok s) h = rw (outcome_yes questions h.0, h.1)
-step_asked questions after before (Err question) h = rw (outcome_no questions question h)
+step_asked questions after before now (Ok tt) h = rw (outcome_yes questions h.0, h.1)
+step_asked questions after before now (Err question) h = rw (outcome_no questions question h.0, h.1)

@@ -7,10 +7,10 @@ ghost use Rattle.std.specs.Prelude.{◌≡◌, [], ◌∷◌, ◌++◌, ◌≤�
 ghost use Rattle.ring.specs.Join.{join};
 ghost use Rattle.ring.specs.Table.{AreBits, present, table};
 ghost use Rattle.tables.specs.Inner.Passed.{NoneNo, IsFirstNo};
-ghost use Rattle.calls.specs.Questions.{start_questions, add_questions, is_name, mark_questions, return_questions};
+ghost use Rattle.calls.specs.Questions.{add_questions, is_name, mark_questions, return_questions};
 ghost use Rattle.session.specs.Session.{new_session, under, asked_tables, added, marked, returned, start_step, add_step, mark_step, return_step};
 ghost use Rattle.session.specs.Inner.Asking.{marked_questions};
-ghost use Rattle.session.specs.Inner.Passed.{own_questions, PassedOwn, PassedName, IsStep, step_to};
+ghost use Rattle.session.specs.Inner.Passed.{own_questions, PassedOwn, PassedName, IsStep};
 
 use tables::{Letters, Question};
 
@@ -101,33 +101,6 @@ fn joined_table(letters: Letters, t: [u8; 1024], h: &[u8]) -> [u8; 1024]
     out
 }
 
-// The new session, once question 1 is answered yes.
-#[tactic(auto, unfolding(calls::specs::Questions::start_questions, tables::specs::Questions::first_no))]
-fn started(u: usize, g: usize) -> Result<Session, Question>
-    ensures { IsStep (start_questions u g) (new_session u g) result }
-{
-    Letters::new(u, g)?;
-    Ok(new_session(u, g))
-}
-
-impl Step {
-    // The session after the step, or the one before it if the step is refused.
-    fn new(before: Session, after: Result<Session, Question>) -> Self
-        ensures { result ≡ step_to before after }
-    {
-        match after {
-            Ok(session) => Step {
-                session,
-                outcome: Ok(()),
-            },
-            Err(question) => Step {
-                session: before,
-                outcome: Err(question),
-            },
-        }
-    }
-}
-
 impl Session {
     // What every step first puts to the session handed in.
     #[tactic(auto, unfolding(calls::specs::Questions::session_questions, crate::specs::Inner::Asking::marked_questions, tables::specs::Questions::bit_questions, tables::specs::Questions::first_no))]
@@ -151,74 +124,92 @@ impl Session {
         Ok(name - FIRST_NAME)
     }
 
-    // The session with a condition added.
-    fn added(&self, h: &[u8]) -> Result<Session, Question>
-        ensures { IsStep (add_questions self.now.unknowns self.now.givens (asked_tables self.now) h.now)
-            (added self.now h.now) result }
+    // Adds a condition in place, so that the session is not copied once more; unless the step is refused.
+    fn try_add(&mut self, h: &[u8]) -> Result<(), Question>
+        ensures { IsStep (add_questions self.old.unknowns self.old.givens (asked_tables self.old) h.now)
+            (added self.old h.now) self.old result self.new }
     {
         let letters = self.ask()?;
         let k = letters.table_len;
         tables::require(Question::Room, tables::has_room(k, h.len()))?;
         tables::require(Question::Bits, tables::holds_bits(k, h))?;
-        let table = joined_table(letters, self.table, h);
-        Ok(Session { table, ..*self })
+        self.table = joined_table(letters, self.table, h);
+        Ok(())
     }
 
-    // The session with its present state stored under a name.
-    fn marked(&self, name: usize) -> Result<Session, Question>
-        ensures { IsStep (mark_questions self.now.unknowns self.now.givens (asked_tables self.now) name)
-            (marked self.now name) result }
+    // Stores the present state under a name, in place, unless the step is refused.
+    fn try_mark(&mut self, name: usize) -> Result<(), Question>
+        ensures { IsStep (mark_questions self.old.unknowns self.old.givens (asked_tables self.old) name)
+            (marked self.old name) self.old result self.new }
     {
         let i = self.ask_name(name)?;
-        let mut after = *self;
-        after.marks[i] = Mark {
+        self.marks[i] = Mark {
             set: true,
             table: self.table,
         };
-        Ok(after)
+        Ok(())
     }
 
-    // The session whose present state is the one that is stored under a name.
-    fn returned(&self, name: usize) -> Result<Session, Question>
-        ensures { IsStep (return_questions self.now.unknowns self.now.givens (asked_tables self.now) name (under self.now name).set)
-            (returned self.now name) result }
+    // Makes the state that is stored under a name the present one, in place, unless the step is refused.
+    fn try_return(&mut self, name: usize) -> Result<(), Question>
+        ensures { IsStep (return_questions self.old.unknowns self.old.givens (asked_tables self.old) name (under self.old name).set)
+            (returned self.old name) self.old result self.new }
     {
         let i = self.ask_name(name)?;
-        let mark = self.marks[i];
-        tables::require(Question::Marked, mark.set)?;
-        let table = mark.table;
-        Ok(Session { table, ..*self })
+        tables::require(Question::Marked, self.marks[i].set)?;
+        self.table = self.marks[i].table;
+        Ok(())
     }
 
     // A new session.
-    #[tactic(auto, using(crate::proofs::Outcomes::step_asked))]
     pub fn start(u: usize, g: usize) -> Step
         ensures { result ≡ start_step u g }
     {
-        Step::new(new_session(0, 0), started(u, g))
+        match Letters::new(u, g) {
+            Ok(_) => Step {
+                session: new_session(u, g),
+                outcome: Ok(()),
+            },
+            Err(question) => Step {
+                session: new_session(0, 0),
+                outcome: Err(question),
+            },
+        }
     }
 
     // A condition is added to those that are present.
     #[tactic(auto, using(crate::proofs::Outcomes::step_asked))]
-    pub fn add(self, h: &[u8]) -> Step
+    pub fn add(mut self, h: &[u8]) -> Step
         ensures { result ≡ add_step self h.now }
     {
-        Step::new(self, self.added(h))
+        let outcome = self.try_add(h);
+        Step {
+            session: self,
+            outcome,
+        }
     }
 
     // The present state is stored under a name.
     #[tactic(auto, using(crate::proofs::Outcomes::step_asked))]
-    pub fn mark(self, name: usize) -> Step
+    pub fn mark(mut self, name: usize) -> Step
         ensures { result ≡ mark_step self name }
     {
-        Step::new(self, self.marked(name))
+        let outcome = self.try_mark(name);
+        Step {
+            session: self,
+            outcome,
+        }
     }
 
     // The state that is stored under a name becomes the present one.
     #[tactic(auto, using(crate::proofs::Outcomes::step_asked))]
-    pub fn return_to(self, name: usize) -> Step
+    pub fn return_to(mut self, name: usize) -> Step
         ensures { result ≡ return_step self name }
     {
-        Step::new(self, self.returned(name))
+        let outcome = self.try_return(name);
+        Step {
+            session: self,
+            outcome,
+        }
     }
 }

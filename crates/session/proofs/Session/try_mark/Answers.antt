@@ -1,7 +1,7 @@
--- `session::Session::marked` meets its contract: what marking asks, and the name set.
+-- `session::Session::try_mark` meets its contract: what marking asks, and the name set.
 -- Assumes nothing.
 use Rattle.session.specs.Session.{marked}
-use Rattle.session.proofs.Session.marked.Goals as goal
+use Rattle.session.proofs.Session.try_mark.Goals as goal
 
 pub returns : goal.returns
 unfolding marked
