@@ -446,12 +446,27 @@ pub fn put_counted(n: usize, words: &mut [u64], out: &mut [u8]) -> usize
     count_each(words)
 }
 
-// The library's method, behind one equation.
+// The same of words that stay. The scratch words live here.
+pub fn put_copy(n: usize, slot: &[u64], out: &mut [u8]) -> usize
+    requires { (n ≤ 10) × (length slot.now ≡ 2 ^ (n - 6)) × (length out.old ≡ 2 ^ n) }
+    ensures { (out.new ≡ table n (value n (bit_at slot.now)))
+        × (result ≡ monomial_count n (present out.new)) }
+{
+    let k = word_count(n);
+    let mut room = [0u64; 16];
+    let own = &mut room[..k];
+    copy(own, slot);
+    put_counted(n, own, out)
+}
+
+// Word by word: by the library's method an archive for C would need one more function of the C library (`memmove`).
 pub fn copy(d: &mut [u64], s: &[u64])
     requires { length d.old ≡ length s.now }
     ensures { d.new ≡ s.now }
 {
-    d.copy_from_slice(s);
+    for (i, word) in d.iter_mut().enumerate() {
+        *word = s[i];
+    }
 }
 
 // The values of letter x.
