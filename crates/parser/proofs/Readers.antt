@@ -108,7 +108,7 @@ module _ (L : Loop) (U k : ℕ) (s : List ℕ) (at size : ℕ) where
             mid : length (put_mid k (length stack - k) stack rest) ≡ length stack
             mid = same_len_mid k (length stack - k) stack rest q.kept
 
-            both_room : k + k ≤ length (put_mid k (length stack - k) stack rest)
+            pub both_room : k + k ≤ length (put_mid k (length stack - k) stack rest)
             both_room = omega (arith, mid, g.kept, first.kept, g.past, q.past, q.inside)
 
             second : take k (rest ++ post_of k (length stack - k) stack) ≡ words_of k (at_point U q.tree)

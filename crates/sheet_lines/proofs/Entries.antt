@@ -72,14 +72,14 @@ text_table_lem U G text {values} e = table_text U G text values _ e refl
 
 module _ (n : ℕ) (values : List ℕ) {coefficients : List ℕ}
     (e : coefficients ≡ words_of (2 ^ (n - 6)) (value (6 + (n - 6)) (bit_at values))) where
-  same_values : IsValues n values → values ≡ words_of (2 ^ (n - 6)) (value n (bit_at coefficients))
+  pub same_values : IsValues n values → values ≡ words_of (2 ^ (n - 6)) (value n (bit_at coefficients))
   same_values h = h ∙ words_cong (2 ^ (n - 6)) _ _ (λ p l. value_cong n _ _ p (λ m k. sym (transformed n values coefficients e m k)))
 
   pub same_table : {points : ℕ} → n ≡ points → table points (bit_at coefficients) ≡ table_of n values
   unfolding table_of
   same_table is = rw (← is) (table_cong n (bit_at coefficients) (value n (bit_at values)) (transformed n values coefficients e))
 
-  coefficients_size : length coefficients ≡ 2 ^ (n - 6)
+  pub coefficients_size : length coefficients ≡ 2 ^ (n - 6)
   coefficients_size = size_words _ _ _ e
 
 pub values-size : (n : ℕ) {values : List ℕ} → IsValues n values → length values ≡ 2 ^ (n - 6)

@@ -100,11 +100,11 @@ pub eight_words : (a b c d e f g h first second third fours p q r s : ℕ)
 eight_words a b c d e f g h first second third fours p q r s e1 e2 e3 e4 ep eq er es = omega arith
 
 -- ---- several words
-count-start : (test : ℕ → Bool) (k : ℕ) → k ≡ 0 → 0 ≡ count (64 * k) test
+pub count-start : (test : ℕ → Bool) (k : ℕ) → k ≡ 0 → 0 ≡ count (64 * k) test
 unfolding count
 count-start test k e = rw e
 
-count_word : (ws : List ℕ) (i : ℕ) → count (64 * (i + 1)) (bit_at ws) ≡ count (64 * i) (bit_at ws) + ones_of (get_or ws i 0)
+pub count_word : (ws : List ℕ) (i : ℕ) → count (64 * (i + 1)) (bit_at ws) ≡ count (64 * i) (bit_at ws) + ones_of (get_or ws i 0)
 count_word ws i =
     let n : 64 * (i + 1) ≡ 64 * i + 64 = omega arith in
     ap (λ (x : ℕ). count x (bit_at ws)) n ∙ count_add (64 * i) 64 (bit_at ws)
@@ -189,7 +189,7 @@ counted-crossed n r ws ws' out size e eo er el =
     ∙ count-crossed (length ws) (bit_at ws) ∙ ap (λ (k : ℕ). count k (bit_at ws)) size)
 
 -- ---- the first one
-trailing_first : (k n : ℕ) → n < 2 ^ k → 0 < n → (count_trailing_zeros k n < k) × First k (bit n) (count_trailing_zeros k n)
+pub trailing_first : (k n : ℕ) → n < 2 ^ k → 0 < n → (count_trailing_zeros k n < k) × First k (bit n) (count_trailing_zeros k n)
 unfolding count_trailing_zeros low
 trailing_first zero n l p = absurd (omega arith)
 trailing_first (suc k) n l p = go (n % 2) refl (trailing_first k (n / 2) (omega (arith, pow-suc 2 k)))
@@ -227,7 +227,7 @@ unfolding bit_at
 none_below ws i none p l = ap (λ (x : ℕ). bit x (p % 64)) (none (p / 64) (omega arith)) ∙ zero_bit (p % 64)
 
 -- the first word that has one
-first_found : (ws : List ℕ) (i t : ℕ) → i < length ws → ((p : ℕ) → p < 64 * i → bit_at ws p ≡ false) → t < 64
+pub first_found : (ws : List ℕ) (i t : ℕ) → i < length ws → ((p : ℕ) → p < 64 * i → bit_at ws p ≡ false) → t < 64
     → First 64 (bit (get_or ws i 0)) t
     → First (64 * length ws) (bit_at ws) (64 * i + t)
 first_found ws i t l before h f =
