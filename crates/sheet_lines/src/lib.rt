@@ -43,10 +43,22 @@ pub struct Line {
 
 // The written order for ten letters, worked out once for all lines, and room for the monomials of an entry.
 #[derive(Drop)]
-struct Work {
+pub struct Work {
     masks: [u16; 1024],
     codes: [u16; 7168],
     ghost ordered: { masks ≡ order 10 },
+}
+
+impl Work {
+    // Works the order out. What a line asks of it stands in the type, so that it serves any line.
+    pub fn new() -> Self {
+        let mut masks = [0; 1024];
+        order::fill_order(10, &mut masks);
+        Work {
+            masks,
+            codes: [0; 7168],
+        }
+    }
 }
 
 // What became of a line: the last route printed, and the place behind what was printed.
@@ -311,8 +323,8 @@ fn answer_line(
     }
 }
 
-// What `sheet` prints for a line, behind an entry with the route `last`, 0 for none.
-fn sheet_line(out: &mut [u8], at: usize, last: usize, bytes: &[u8], work: &mut Work) -> Printed
+// What `sheet` prints for a line, its line feed left out, behind an entry with the route `last`, 0 for none.
+pub fn sheet_line(out: &mut [u8], at: usize, last: usize, bytes: &[u8], work: &mut Work) -> Printed
     requires { at + line_room ≤ length out.old }
     ensures { PrintsLine last bytes.now out.old at result out.new }
 {
@@ -353,19 +365,30 @@ impl Printer {
     pub fn resume(last: usize, begun: &[u8]) -> Self
         ensures { result ≡ record { last = last; begun = take kept_length begun.now } }
     {
-        let mut masks = [0; 1024];
-        order::fill_order(10, &mut masks);
         let first = &begun[..KEPT_LENGTH.min(begun.len())];
         let mut kept = ArrayVec::new();
         let _ = kept.try_extend_from_slice(first); // they fit
         Printer {
             last,
             begun: kept,
-            work: Work {
-                masks,
-                codes: [0; 7168],
-            },
+            work: Work::new(),
         }
+    }
+
+    // The last route printed.
+    pub fn last(&self) -> usize
+        ensures { result ≡ self.now.last }
+    {
+        self.last // 0 before any
+    }
+
+    // The line that has begun, up to the first byte that makes it too long: no byte where none has begun. With the last route it is all
+    // that is carried, so that `resume` goes on from here.
+    pub fn begun(&self) -> &[u8]
+        ensures value { result.now ≡ self.now.begun }
+        ensures fits { length result.now ≤ kept_length }
+    {
+        self.begun.as_slice()
     }
 
     // One more byte: a line feed prints the line that has begun, any other byte is kept while the line is not too long.
