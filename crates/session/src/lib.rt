@@ -8,9 +8,9 @@ ghost use Rattle.ring.specs.Join.{join};
 ghost use Rattle.ring.specs.Table.{AreBits, present, table};
 ghost use Rattle.tables.specs.Inner.Passed.{NoneNo, IsFirstNo};
 ghost use Rattle.calls.specs.Questions.{add_questions, is_name, mark_questions, return_questions};
-ghost use Rattle.session.specs.Session.{new_session, under, asked_tables, added, marked, returned, start_step, add_step, mark_step, return_step};
+ghost use Rattle.session.specs.Session.{new_session, under, asked_tables, added, marked, start_step, add_step, mark_step, return_step};
 ghost use Rattle.session.specs.Inner.Asking.{marked_questions};
-ghost use Rattle.session.specs.Inner.Passed.{own_questions, PassedOwn, PassedName, IsStep};
+ghost use Rattle.session.specs.Inner.Passed.{own_questions, PassedOwn, PassedName, IsStep, IsStored};
 
 use tables::{Letters, Question};
 
@@ -150,15 +150,16 @@ impl Session {
         Ok(())
     }
 
-    // Makes the state that is stored under a name the present one, in place, unless the step is refused.
-    fn try_return(&mut self, name: usize) -> Result<(), Question>
-        ensures { IsStep (return_questions self.old.unknowns self.old.givens (asked_tables self.old) name (under self.old name).set)
-            (returned self.old name) self.old result self.new }
+    // The table that is stored under a name. It is handed on by value: put in place it would be copied within the session, for which an
+    // archive for C would need one more function of the C library (`memmove`).
+    fn stored(&self, name: usize) -> Result<[u8; 1024], Question>
+        ensures { MatchResult result (IsStored self.now name)
+            (IsFirstNo (return_questions self.now.unknowns self.now.givens (asked_tables self.now) name (under self.now name).set)) }
     {
         let i = self.ask_name(name)?;
-        tables::require(Question::Marked, self.marks[i].set)?;
-        self.table = self.marks[i].table;
-        Ok(())
+        let mark = &self.marks[i];
+        tables::require(Question::Marked, mark.set)?;
+        Ok(mark.table)
     }
 
     // A new session.
@@ -202,14 +203,18 @@ impl Session {
     }
 
     // The state that is stored under a name becomes the present one.
-    #[tactic(auto, using(crate::proofs::Outcomes::step_asked))]
-    pub fn return_to(mut self, name: usize) -> Step
+    pub fn return_to(self, name: usize) -> Step
         ensures { result ≡ return_step self name }
     {
-        let outcome = self.try_return(name);
-        Step {
-            session: self,
-            outcome,
+        match self.stored(name) {
+            Ok(table) => Step {
+                session: Session { table, ..self },
+                outcome: Ok(()),
+            },
+            Err(question) => Step {
+                session: self,
+                outcome: Err(question),
+            },
         }
     }
 }
