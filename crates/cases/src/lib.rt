@@ -4,14 +4,15 @@
 // each. Where a call takes a fact, A is the fact and B the condition; where it fills one, X is the length of its buffer. Of the shorter of two
 // answer tables A is Boole's and B Löwenheim's.
 // Those that print promise nothing, since no contract says what standard output receives: what is printed is compared with stored output.
-// A write or a read that fails is handed up as the error, and ends the program, and so does memory that runs out.
+// A write or a read that fails is handed up as the error, and ends the program. Nothing is on the heap.
 
 #![tactic(auto)]
 
-ghost use Rattle.std.specs.Prelude.{◌≡◌, ◌<◌, length, replicate, IfOk};
+ghost use Rattle.std.specs.Prelude.{◌≡◌, ℕ, ◌<◌, ◌≤◌, ◌↔◌, List, length, replicate, Ok, IfOk, OnOk, IsSome};
+ghost use Rattle.cases.specs.Lines.{RunsEachLine};
 
+use arrayvec::ArrayVec;
 use calls::{Entry, Heading, Verdict};
-use std::alloc::{AllocError, Global};
 use std::io;
 use std::io::Read;
 use tables::Question;
@@ -19,23 +20,41 @@ use tables::Question;
 // Every byte of a result buffer is 7 before a call, so that one that the call should leave alone is seen.
 const MARK: u8 = 7;
 
-// Runs each line of the input, which is read to its end first.
-pub fn for_each_line<R: Read, F: FnMut(&[u8]) -> io::Result<()>>(
-    alloc: Global,
-    input: &mut R,
-    mut run: F,
-) -> io::Result<()>
-    requires { F.IsAlwaysCallable run }
+// So many bytes of the input are read at most, which is room for all cases of a program.
+const INPUT_ROOM: usize = 262144;
+
+// So many bytes a buffer of a call has at most.
+pub const BUFFER_ROOM: usize = 65536;
+
+// Reads until the buffer is full or the input ends; answers how many bytes it put at the front of `buffer`.
+pub fn read_full(input: &mut impl Read, buffer: &mut [u8]) -> io::Result<usize>
+    ensures { IfOk result (λ n. n ≤ length buffer.new) }
 {
-    let mut bytes = Vec::new(alloc);
-    input.read_to_end(&mut bytes)?;
-    for line in bytes.split(|byte| *byte == b'\n') {
-        run(line)?;
+    let mut done: usize = 0;
+    // A read says how many bytes came, and none at the end.
+    while done < buffer.len() {
+        match input.read(&mut buffer[done..])? {
+            0 => break,
+            n => done += n,
+        }
     }
-    Ok(())
+    Ok(done)
 }
 
-// The fields of a line: numbers, and the bytes of the order and of the last two.
+// Runs each line of the input, which is read first.
+pub fn for_each_line<R: Read, F: FnMut(&[u8]) -> io::Result<()>>(
+    input: &mut R,
+    run: F,
+) -> io::Result<()>
+    requires { F.IsAlwaysCallable run }
+    ensures { OnOk result ((bytes : List ℕ) × (length bytes ≤ 262144) × RunsEachLine F.FnMut run (Ok tt) bytes) }
+{
+    let mut bytes = [0; INPUT_ROOM];
+    let n = read_full(input, &mut bytes)?;
+    bytes[..n].split(|byte| *byte == b'\n').try_for_each(run)
+}
+
+// The fields of a line: numbers, and the line from where the order and the last two fields start, since what reads these finds their ends.
 #[derive(Clone, Copy)]
 pub struct Fields<'a> {
     pub call: u8,
@@ -50,20 +69,35 @@ pub struct Fields<'a> {
     pub b: &'a [u8],
 }
 
-// The decimal number that a field is, 0 where it is none.
+// The line behind its first space, nothing if it has none.
+fn next_field(line: &[u8]) -> &[u8] {
+    line.splitn(2, |byte| *byte == b' ').nth(1).unwrap_or(b"")
+}
+
+// The decimal number at the front of a field, modulo 2^64, and 0 where there is no digit.
 fn number(field: &[u8]) -> usize {
-    let text = str::from_utf8(field).unwrap_or("");
-    text.parse().unwrap_or(0)
+    field
+        .iter()
+        .map_while(|byte| char::from(*byte).to_digit(10))
+        .fold(
+            0,
+            |n: usize, digit| n.wrapping_mul(10).wrapping_add(digit as usize),
+        )
 }
 
 // The fields of a line, if it is not empty. Those that it lacks are empty, and the last is all that is left.
-pub fn take_apart(line: &[u8]) -> Option<Fields<'_>> {
+pub fn take_apart(line: &[u8]) -> Option<Fields<'_>>
+    ensures { IsSome result ↔ (0 < length line.now) }
+{
     let call = *line.first()?;
-    let mut fields = [&line[..0]; 9];
-    for (field, part) in fields.iter_mut().zip(line.splitn(9, |byte| *byte == b' ')) {
-        *field = part;
-    }
-    let [_, unknowns, givens, x, order, size, size2, a, b] = fields;
+    let unknowns = next_field(line);
+    let givens = next_field(unknowns);
+    let x = next_field(givens);
+    let order = next_field(x);
+    let size = next_field(order);
+    let size2 = next_field(size);
+    let a = next_field(size2);
+    let b = next_field(a);
     Some(Fields {
         call,
         unknowns: number(unknowns),
@@ -78,23 +112,23 @@ pub fn take_apart(line: &[u8]) -> Option<Fields<'_>> {
     })
 }
 
-// The bytes of a field, a digit each, `-` for none.
-pub fn digits(alloc: Global, field: &[u8]) -> Result<Vec<u8>, AllocError> {
-    let mut bytes = Vec::new(alloc);
+// The bytes of a field, a digit each, `-` for none. Those that a buffer of a call has no room for are left out.
+pub fn digits(field: &[u8]) -> ArrayVec<u8, BUFFER_ROOM> {
+    let mut bytes = ArrayVec::new();
     for digit in field {
-        if *digit < b'0' {
+        if *digit < b'0' || bytes.is_full() {
             break;
         }
-        bytes.push(*digit - b'0')?;
+        bytes.push(*digit - b'0');
     }
-    Ok(bytes)
+    bytes
 }
 
-// A result buffer of that length, before a call.
-pub fn marked(alloc: Global, length: usize) -> Result<Vec<u8>, AllocError>
-    ensures { IfOk result (λ buffer. buffer.items ≡ replicate length MARK) }
+// Makes every byte of a result buffer 7, before a call.
+pub fn mark(buffer: &mut [u8])
+    ensures { buffer.new ≡ replicate (length buffer.old) 7 }
 {
-    vec![in alloc; MARK; length]
+    buffer.fill(MARK);
 }
 
 fn digit_of(byte: u8) -> u8 {
@@ -148,25 +182,33 @@ fn from_hex(digit: u8) -> u8
     }
 }
 
-fn hex_byte(pair: &[u8; 2]) -> u8 {
+// The byte that two hexadecimal digits are. There is none where the first is a space or a `-`, behind a field.
+fn hex_byte(pair: &[u8; 2]) -> Option<u8> {
     let [high, low] = *pair;
-    16 * from_hex(high) + from_hex(low)
+    if high < b'0' {
+        return None;
+    }
+    Some(16 * from_hex(high) + from_hex(low))
 }
 
-// The bytes of a field, two hexadecimal digits each, `-` for none.
-pub fn hex_bytes(alloc: Global, field: &[u8]) -> Result<Vec<u8>, AllocError> {
-    let mut bytes = Vec::new(alloc);
-    for pair in field.as_chunks().0 {
-        bytes.push(hex_byte(pair))?;
+// The bytes of a field, two hexadecimal digits each, `-` for none. Those that a buffer of a call has no room for are left out.
+pub fn hex_bytes(field: &[u8]) -> ArrayVec<u8, BUFFER_ROOM> {
+    let mut bytes = ArrayVec::new();
+    for byte in field.as_chunks().0.iter().map_while(hex_byte) {
+        if bytes.is_full() {
+            break;
+        }
+        bytes.push(byte);
     }
-    Ok(bytes)
+    bytes
 }
 
 // The order that a field is.
 pub fn order(field: &[u8]) -> [u8; 6] {
     let mut order = [MARK; 6];
-    for (place, pair) in order.iter_mut().zip(field.as_chunks().0) {
-        *place = hex_byte(pair);
+    let bytes = field.as_chunks().0.iter().map_while(hex_byte);
+    for (place, byte) in order.iter_mut().zip(bytes) {
+        *place = byte;
     }
     order
 }
@@ -178,9 +220,9 @@ pub fn show_number(rt: &impl Print, word: &[u8], n: usize) -> io::Result<()> {
     rt.print(n)
 }
 
-pub fn show_refused(rt: &impl Print, question: Question) -> io::Result<()> {
+pub fn show_refused(rt: &impl Print, number: u8) -> io::Result<()> {
     rt.write_all(b"refused ")?;
-    rt.print(tables::number(question))
+    rt.print(number)
 }
 
 pub fn show_line_end(rt: &impl Print) -> io::Result<()> {
@@ -191,7 +233,7 @@ pub fn show_line_end(rt: &impl Print) -> io::Result<()> {
 pub fn show_done(rt: &impl Print, r: Result<(), Question>) -> io::Result<()> {
     match r {
         Ok(()) => rt.write_all(b"done"),
-        Err(question) => show_refused(rt, question),
+        Err(question) => show_refused(rt, tables::number(question)),
     }
 }
 
@@ -206,7 +248,7 @@ pub fn show_outcome(rt: &impl Print, r: Result<(), Question>, buffer: &[u8]) -> 
 pub fn show_counted(rt: &impl Print, r: Result<usize, Question>, buffer: &[u8]) -> io::Result<()> {
     match r {
         Ok(monomials) => show_number(rt, b"done", monomials)?,
-        Err(question) => show_refused(rt, question)?,
+        Err(question) => show_refused(rt, tables::number(question))?,
     }
     show_digits(rt, buffer)?;
     show_line_end(rt)
@@ -219,7 +261,7 @@ pub fn show_entry(rt: &impl Print, r: Result<Entry, Question>) -> io::Result<()>
             show_verdict(rt, held.verdict)?;
             show_heading(rt, held.heading)
         }
-        Err(question) => show_refused(rt, question),
+        Err(question) => show_refused(rt, tables::number(question)),
     }
 }
 

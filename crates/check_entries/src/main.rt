@@ -4,14 +4,13 @@
 #![tactic(auto)]
 
 use calls::Entry;
-use std::alloc::Global;
 use std::io;
 use tables::Question;
 
 fn show_written(rt: &impl Print, r: Result<usize, Question>, out: &[u8]) -> io::Result<()> {
     match r {
         Ok(length) => cases::show_number(rt, b"done", length)?,
-        Err(question) => cases::show_refused(rt, question)?,
+        Err(question) => cases::show_refused(rt, tables::number(question))?,
     }
     cases::show_hex(rt, out)?;
     cases::show_line_end(rt)
@@ -33,38 +32,48 @@ fn show_read(
     cases::show_line_end(rt)
 }
 
-// One call on buffers of the stated lengths.
-fn write(rt: &impl Print, alloc: Global, f: cases::Fields<'_>) -> io::Result<()> {
+// One call on buffers of the stated lengths. There is none with a longer buffer than a program has room for.
+fn write(rt: &impl Print, f: cases::Fields<'_>) -> io::Result<()> {
     let order = cases::order(f.order);
-    let fact = cases::digits(alloc, f.a)?;
-    let condition = cases::digits(alloc, f.b)?;
-    let mut out = cases::marked(alloc, f.size)?;
-    let r = writer::write_entry(
-        f.x, f.unknowns, f.givens, order, &fact, &condition, &mut out,
-    );
-    show_written(rt, r, &out)
+    let fact = cases::digits(f.a);
+    let condition = cases::digits(f.b);
+    let mut room = [0; cases::BUFFER_ROOM];
+    if let Some(out) = room.get_mut(..f.size) {
+        cases::mark(out);
+        let r = writer::write_entry(f.x, f.unknowns, f.givens, order, &fact, &condition, out);
+        show_written(rt, r, out)?;
+    }
+    Ok(())
 }
 
-fn read(rt: &impl Print, alloc: Global, f: cases::Fields<'_>) -> io::Result<()> {
-    let bytes = cases::hex_bytes(alloc, f.b)?;
+fn read(rt: &impl Print, f: cases::Fields<'_>) -> io::Result<()> {
+    let bytes = cases::hex_bytes(f.b);
     let mut order = [7u8; 6];
-    let mut fact = cases::marked(alloc, f.x)?;
-    let mut condition = cases::marked(alloc, f.size)?;
-    let mut answers = cases::marked(alloc, f.size2)?;
-    let r = reader::read_entry(&bytes, &mut order, &mut fact, &mut condition, &mut answers);
-    show_read(rt, r, order, &fact, &condition, &answers)
+    let mut facts = [0; cases::BUFFER_ROOM];
+    let mut conditions = [0; cases::BUFFER_ROOM];
+    let mut room = [0; cases::BUFFER_ROOM];
+    if let Some(fact) = facts.get_mut(..f.x)
+        && let Some(condition) = conditions.get_mut(..f.size)
+        && let Some(answers) = room.get_mut(..f.size2)
+    {
+        cases::mark(fact);
+        cases::mark(condition);
+        cases::mark(answers);
+        let r = reader::read_entry(&bytes, &mut order, fact, condition, answers);
+        show_read(rt, r, order, fact, condition, answers)?;
+    }
+    Ok(())
 }
 
 // A line, taken apart.
-fn run(rt: &impl Print, alloc: Global, line: &[u8]) -> io::Result<()> {
+fn run(rt: &impl Print, line: &[u8]) -> io::Result<()> {
     match cases::take_apart(line) {
-        Some(f) if f.call == b'w' => write(rt, alloc, f),
-        Some(f) if f.call == b'r' => read(rt, alloc, f),
+        Some(f) if f.call == b'w' => write(rt, f),
+        Some(f) if f.call == b'r' => read(rt, f),
         _ => Ok(()),
     }
 }
 
 fn main(rt: HostRuntime) -> io::Result<()> {
-    let alloc = rt.alloc();
-    cases::for_each_line(alloc, &mut rt.stdin(), |line| run(&rt, alloc, line))
+    cases::for_each_line(&mut rt.stdin(), |line| run(&rt, line))
 }

@@ -5,14 +5,13 @@
 #![tactic(auto)]
 
 use calls::Formula;
-use std::alloc::Global;
 use std::io;
 use tables::Question;
 
 fn show_value(rt: &impl Print, r: Result<u8, Question>) -> io::Result<()> {
     match r {
         Ok(value) => cases::show_number(rt, b"value", usize::from(value))?,
-        Err(question) => cases::show_refused(rt, question)?,
+        Err(question) => cases::show_refused(rt, tables::number(question))?,
     }
     cases::show_line_end(rt)
 }
@@ -21,7 +20,7 @@ fn show_which(rt: &impl Print, r: Result<Formula, Question>) -> io::Result<()> {
     match r {
         Ok(Formula::Boole) => rt.write_all(b"boole"),
         Ok(Formula::Lowenheim) => rt.write_all(b"lowenheim"),
-        Err(question) => cases::show_refused(rt, question),
+        Err(question) => cases::show_refused(rt, tables::number(question)),
     }
 }
 
@@ -77,18 +76,21 @@ fn call<'a>(
     }
 }
 
-// A line, taken apart.
-fn run(rt: &impl Print, alloc: Global, line: &[u8]) -> io::Result<()> {
+// A line, taken apart. There is no call with a longer buffer than a program has room for.
+fn run(rt: &impl Print, line: &[u8]) -> io::Result<()> {
     let Some(f) = cases::take_apart(line) else {
         return Ok(());
     };
-    let a = cases::digits(alloc, f.a)?;
-    let b = cases::digits(alloc, f.b)?;
-    let mut out = cases::marked(alloc, f.size)?;
-    call(rt, f, &a, &b, &mut out)
+    let a = cases::digits(f.a);
+    let b = cases::digits(f.b);
+    let mut room = [0; cases::BUFFER_ROOM];
+    if let Some(out) = room.get_mut(..f.size) {
+        cases::mark(out);
+        call(rt, f, &a, &b, out)?;
+    }
+    Ok(())
 }
 
 fn main(rt: HostRuntime) -> io::Result<()> {
-    let alloc = rt.alloc();
-    cases::for_each_line(alloc, &mut rt.stdin(), |line| run(&rt, alloc, line))
+    cases::for_each_line(&mut rt.stdin(), |line| run(&rt, line))
 }

@@ -6,7 +6,6 @@
 #![tactic(auto)]
 
 use session::{Mark, Session, Step};
-use std::alloc::Global;
 use std::io;
 
 // The largest prime below 2^32: a sum is a u32, and the product with 31 fits.
@@ -76,13 +75,13 @@ fn change(s: &mut Session, which: usize, place: usize, byte: u8) {
 }
 
 // The session after a line.
-fn play(rt: &impl Print, alloc: Global, s: Session, line: &[u8]) -> io::Result<Session> {
+fn play(rt: &impl Print, s: Session, line: &[u8]) -> io::Result<Session> {
     let Some(f) = cases::take_apart(line) else {
         return Ok(s);
     };
     match f.call {
         b's' => show(rt, Session::start(f.unknowns, f.givens)),
-        b'a' => show(rt, s.add(&cases::digits(alloc, f.a)?)),
+        b'a' => show(rt, s.add(&cases::digits(f.a))),
         b'm' => show(rt, s.mark(f.x)),
         b'r' => show(rt, s.return_to(f.x)),
         b'd' => {
@@ -95,10 +94,9 @@ fn play(rt: &impl Print, alloc: Global, s: Session, line: &[u8]) -> io::Result<S
 }
 
 fn main(rt: HostRuntime) -> io::Result<()> {
-    let alloc = rt.alloc();
     let mut s = Session::start(0, 0).session;
-    cases::for_each_line(alloc, &mut rt.stdin(), |line| {
-        s = play(&rt, alloc, s, line)?;
+    cases::for_each_line(&mut rt.stdin(), |line| {
+        s = play(&rt, s, line)?;
         Ok(())
     })
 }

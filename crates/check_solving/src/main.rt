@@ -4,14 +4,13 @@
 #![tactic(auto)]
 
 use calls::Unsolved;
-use std::alloc::Global;
 use std::io;
 
 fn show_solving(rt: &impl Print, r: Result<usize, Unsolved>, answers: &[u8]) -> io::Result<()> {
     match r {
         Ok(monomials) => cases::show_number(rt, b"done", monomials)?,
         Err(Unsolved::None(state)) => cases::show_number(rt, b"none", state.0)?,
-        Err(Unsolved::Refused(question)) => cases::show_refused(rt, question)?,
+        Err(Unsolved::Refused(question)) => cases::show_refused(rt, tables::number(question))?,
     }
     cases::show_digits(rt, answers)?;
     cases::show_line_end(rt)
@@ -50,20 +49,24 @@ fn call(
     }
 }
 
-// A line, taken apart. The handed form takes no order: the handed polynomials stand in its place.
-fn run(rt: &impl Print, alloc: Global, line: &[u8]) -> io::Result<()> {
+// A line, taken apart. The handed form takes no order: the handed polynomials stand in its place. There is no call with a longer buffer than
+// a program has room for.
+fn run(rt: &impl Print, line: &[u8]) -> io::Result<()> {
     let Some(f) = cases::take_apart(line) else {
         return Ok(());
     };
     let order = cases::order(f.order);
-    let a = cases::digits(alloc, f.a)?;
-    let b = cases::digits(alloc, f.b)?;
-    let h = cases::digits(alloc, f.order)?;
-    let mut out = cases::marked(alloc, f.size)?;
-    call(rt, f, order, &a, &b, &h, &mut out)
+    let a = cases::digits(f.a);
+    let b = cases::digits(f.b);
+    let h = cases::digits(f.order);
+    let mut room = [0; cases::BUFFER_ROOM];
+    if let Some(out) = room.get_mut(..f.size) {
+        cases::mark(out);
+        call(rt, f, order, &a, &b, &h, out)?;
+    }
+    Ok(())
 }
 
 fn main(rt: HostRuntime) -> io::Result<()> {
-    let alloc = rt.alloc();
-    cases::for_each_line(alloc, &mut rt.stdin(), |line| run(&rt, alloc, line))
+    cases::for_each_line(&mut rt.stdin(), |line| run(&rt, line))
 }

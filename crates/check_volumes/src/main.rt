@@ -4,7 +4,6 @@
 #![tactic(auto)]
 
 use calls::{Entry, Stopped};
-use std::alloc::Global;
 use std::io;
 use tables::Question;
 
@@ -17,7 +16,7 @@ fn show_walked(rt: &impl Print, r: Result<usize, Stopped>) -> io::Result<()> {
     match r {
         Ok(count) => cases::show_number(rt, b"count", count)?,
         Err(stopped) => {
-            cases::show_refused(rt, stopped.question)?;
+            cases::show_refused(rt, tables::number(stopped.question))?;
             cases::show_number(rt, b"", stopped.passed)?;
         }
     }
@@ -33,15 +32,14 @@ fn call(rt: &impl Print, f: cases::Fields<'_>, bytes: &[u8]) -> io::Result<()> {
 }
 
 // A line, taken apart.
-fn run(rt: &impl Print, alloc: Global, line: &[u8]) -> io::Result<()> {
+fn run(rt: &impl Print, line: &[u8]) -> io::Result<()> {
     let Some(f) = cases::take_apart(line) else {
         return Ok(());
     };
-    let bytes = cases::hex_bytes(alloc, f.b)?;
+    let bytes = cases::hex_bytes(f.b);
     call(rt, f, &bytes)
 }
 
 fn main(rt: HostRuntime) -> io::Result<()> {
-    let alloc = rt.alloc();
-    cases::for_each_line(alloc, &mut rt.stdin(), |line| run(&rt, alloc, line))
+    cases::for_each_line(&mut rt.stdin(), |line| run(&rt, line))
 }
