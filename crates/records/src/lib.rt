@@ -77,7 +77,7 @@ pub struct Gathered {
 }
 
 // 'Masks are two bytes, low byte first'
-fn mask_of(low: u8, high: u8) -> usize
+pub fn mask_of(low: u8, high: u8) -> usize
     ensures { result ≡ low + 256 * high }
 {
     usize::from(u16::from_le_bytes([low, high]))
@@ -100,7 +100,7 @@ pub fn kind_at(s: &[u8], at: usize) -> Option<Kind>
 
 // Does a whole record of the kind stand at a place?
 #[inline(always)]
-fn is_there(s: &[u8], at: usize, kind: Kind) -> bool
+pub fn is_there(s: &[u8], at: usize, kind: Kind) -> bool
     requires { at ≤ length s.now }
     ensures value { result ≡ stands s.now at kind }
     ensures there { MatchBool result (IsThere s.now at kind) ⊤ }
@@ -400,7 +400,7 @@ pub fn clear(t: &mut [u8])
 // Answers for which there is no room lie past the end.
 // By index, and not by `get_mut`: what a write through that leaves in the slice is not proved.
 #[inline]
-fn put_one(t: &mut [u8], p: usize)
+pub fn put_one(t: &mut [u8], p: usize)
     ensures { t.new ≡ set t.old p 1 }
 {
     if p < t.len() {
