@@ -44,6 +44,6 @@ module _ (bs : List ℕ) {survey : Survey} (is : IsSurvey (records bs) survey) {
       ≡ audit_call bs
   unfolding read_values heading_of
   passed_all f =
-      ap (λ (values : List ℕ). answered (accepted values) []) (rw (is.heading, is.verdict, state_said_lem (held_verdict (records bs))))
-      ∙ call_done_none (audit_questions (records bs)) (read_values (records bs))
-      ((audit_exactly (records bs)).1 ((passes_exactly (records bs)).0 is.none_no, sym e ∙ f))
+      let p = (passes_exactly (records bs)).0 is.none_no in
+      ap (λ (values : List ℕ). answered (accepted values) []) (rw (is.heading, is.verdict, state_said_lem (held_verdict (records bs)), p.whole))
+      ∙ call_done_none (audit_questions (records bs)) (read_values (records bs)) ((audit_exactly (records bs)).1 (p, sym e ∙ f))

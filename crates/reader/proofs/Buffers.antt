@@ -23,6 +23,7 @@ use Rattle.entry.proofs.Canonical.{unless_cases}
 use Rattle.calls.specs.declared.Verdict.{Verdict}
 use Rattle.calls.specs.Questions.{fact_questions, record_questions, entry_questions, read_questions}
 use Rattle.calls.specs.Entries.{read_values, read_call, state_of, state_said, answers_of}
+use Rattle.calls.proofs.Questions.{passes_exactly}
 use Rattle.records.specs.declared.Survey.{Survey}
 use Rattle.records.specs.Inner.Headings.{heading_of, said}
 use Rattle.records.specs.Inner.Gathering.{IsSurvey}
@@ -97,7 +98,7 @@ module _ (bs : List ℕ) {survey : Survey} (is : IsSurvey (records bs) survey) w
           ∷ state_said survey.entry.verdict)
           ≡ read_values (records bs)
       unfolding read_values heading_of
-      values = rw (is.heading, is.verdict, state_told (held_verdict (records bs)))
+      values = rw (is.heading, is.verdict, state_told (held_verdict (records bs)), ((passes_exactly (records bs)).0 is.none_no).whole)
 
       -- the answers of a solved entry; a 'none' entry has none
       abbrev answer_tables : List ℕ

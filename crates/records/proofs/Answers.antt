@@ -16,7 +16,7 @@ use Rattle.std.proofs.Common.{Option, None, Some, Result, Ok, Err}
 use Rattle.std.specs.Result.{MatchResult, result_ok}
 use Rattle.std.proofs.lemmas.Option.{MatchOption-at_some}
 use Rattle.std.proofs.lemmas.Bool.{cases_lt}
-use Rattle.std.specs.Option.{MatchOption, option_or}
+use Rattle.std.specs.Option.{MatchOption, IfSome, option_or, unwrap_or}
 use Rattle.ring.specs.declared.State.{State}
 use Rattle.ring.specs.Polynomial.{every_below}
 use Rattle.ring.specs.Lists.{has}
@@ -50,7 +50,7 @@ use Rattle.records.specs.declared.Gathered.{Gathered}
 use Rattle.records.specs.declared.Bounds.{Bounds}
 use Rattle.records.specs.Inner.Kinds.{byte_of, kind_of, byte_before, Stands, stands}
 use Rattle.records.specs.Inner.Headings.{length_used, start_of, order_behind, heading_of, said}
-use Rattle.records.specs.Inner.Gathering.{seen_record, seen_all, nothing_seen, gathered, said_by, gathered_questions, PassedGathered, IsSurvey}
+use Rattle.records.specs.Inner.Gathering.{seen_record, seen_all, nothing_seen, gathered, said_by, gathered_questions, PassedGathered, AsksEntry, IsSurvey, IsRefused}
 use Rattle.records.specs.Inner.Filling.{Passed}
 use Rattle.records.proofs.Standing.{byte_known, sized, lent, here_end, here_more}
 
@@ -206,13 +206,13 @@ module _ (rs : List Record) (ends : ends_there rs ≡ true) {asked : Option Lett
       go (inl h) None t e = rw (used h, kinds_answered h, h, t)
       go (inl h) (Some l) t e = rw (used h, kinds_answered h, numbers (rw e t.0) t.1, h, t.1, ← eo)
 
-  -- and what is told where there is none
-  pub used_whole : {n : ℕ} → all.used ≡ Some n → n ≡ length (bytes rs)
-  used_whole {n} e = go (bool_cases (has_end rs))
+  -- and what is told whatever they answer
+  pub used_or_none : unwrap_or all.used 0 ≡ cond (has_end rs) (length (bytes rs)) 0
+  used_or_none = go (bool_cases (has_end rs))
     where
-      go : (has_end rs ≡ true) ⊎ (has_end rs ≡ false) → n ≡ length (bytes rs)
-      go (inl h) = let f : Some n ≡ Some (length (bytes rs)) = sym e ∙ used h in (cc)
-      go (inr h) = let f : Some n ≡ None = sym e ∙ unused h in let z : ◌≡◌ {A = ℕ} 0 1 = (cc) in absurd (omega arith)
+      go : (has_end rs ≡ true) ⊎ (has_end rs ≡ false) → unwrap_or all.used 0 ≡ cond (has_end rs) (length (bytes rs)) 0
+      go (inl h) = rw (used h, h)
+      go (inr h) = rw (unused h, h)
 
   pub verdict-is : {v : Verdict} → v ≡ said_by all.seen.none → v ≡ said (held_verdict rs)
   unfolding gathered held_verdict or_else
@@ -339,23 +339,32 @@ module _ (bs : List ℕ) {h : Heading} (eh : h ≡ start_of (records bs)) (r : R
   first_is_no : first_no (gathered_questions x asked h.route in_order) ≡ first_no (record_questions (records bs))
   first_is_no = rw (over, eh) (first_no_lem (records bs) (records_end bs) asks ordered)
 
-  -- the first no of these is that of all
-  pub gathered_no : (q : Question) → IsFirstNo (gathered_questions x asked h.route in_order) q → IsFirstNo (entry_questions (records bs)) q
-  unfolding entry_questions
-  gathered_no q e =
-      let f : number q ≡ first_no (record_questions (records bs)) = e ∙ first_is_no in
-      f ∙ sym (first_counts (record_questions (records bs)) _ (λ z. number_some q (f ∙ z)))
+  own_letters : IfSome asked (AreLetters (unknowns_of (records bs)) (givens_of (records bs)))
+  own_letters = go asked asked_told
+    where
+      go : (o : Option Letters)
+          → MatchOption o (letters_fit (unknowns_of (records bs)) (givens_of (records bs)) ≡ false)
+          (λ l. AreLetters (unknowns_of (records bs)) (givens_of (records bs)) l
+          × (letters_fit (unknowns_of (records bs)) (givens_of (records bs)) ≡ true))
+          → IfSome o (AreLetters (unknowns_of (records bs)) (givens_of (records bs)))
+      go None t = tt
+      go (Some l) t = t.0
 
-  -- each is answered yes
-  module _ {l : Letters} {n : ℕ} (passed : PassedGathered x asked h.route in_order (l, n)) where
-    pub gathered_passed : Passed bs l
-    gathered_passed =
-        record { yes = sym first_is_no ∙ passed.none_no; letters = (MatchOption-at_some _ _ l passed.letters_are asked_told).0 }
+  pub asks_entry : AsksEntry (records bs) x asked h.route in_order
+  asks_entry = record { same = first_is_no; letters_are = own_letters }
 
-    used_is : n ≡ length (bytes (records bs))
-    used_is = used_whole (records bs) (records_end bs) asks ordered (sym (ap (λ (y : Gathered). y.used) over) ∙ passed.used_is)
+  -- whatever is answered
+  heading_is : {n : ℕ} → n ≡ unwrap_or x.used 0
+      → record { route = h.route; unknowns = h.unknowns; givens = h.givens; used = n } ≡ heading_of (records bs)
+  unfolding heading_of
+  heading_is eu =
+      rw (eu ∙ ap (λ (y : Gathered). unwrap_or y.used 0) over ∙ used_or_none (records bs) (records_end bs) asks ordered, eh)
 
-    pub survey_is : NoneNo (entry_questions (records bs)) → {v : Verdict} → v ≡ said_by x.seen.none
+  says : {v : Verdict} → v ≡ said_by x.seen.none → v ≡ said (held_verdict (records bs))
+  says ev = verdict-is (records bs) (records_end bs) asks ordered (ev ∙ ap (λ (y : Gathered). said_by y.seen.none) over)
+
+  module _ {n : ℕ} (eu : n ≡ unwrap_or x.used 0) {v : Verdict} (ev : v ≡ said_by x.seen.none) where
+    pub survey_is : {l : Letters} → NoneNo (entry_questions (records bs)) × Passed bs l
         → IsSurvey (records bs) (record {
           entry = record {
             heading = record { route = h.route; unknowns = h.unknowns; givens = h.givens; used = n };
@@ -364,12 +373,30 @@ module _ (bs : List ℕ) {h : Heading} (eh : h ≡ start_of (records bs)) (r : R
           letters = l;
           order = o;
         })
-    unfolding heading_of
-    survey_is z ev =
-        record {
-          none_no = z;
-          heading = rw (used_is, eh);
-          verdict = verdict-is (records bs) (records_end bs) asks ordered (ev ∙ ap (λ (y : Gathered). said_by y.seen.none) over);
-          letters = gathered_passed.letters;
-          order = order_is;
-        }
+    survey_is p =
+        record { none_no = p.0; heading = heading_is eu; verdict = says ev; letters = p.1.letters; order = order_is }
+
+    pub refused_is : {q : Question} → IsFirstNo (entry_questions (records bs)) q
+        → IsRefused (records bs) (record {
+          question = q;
+          entry = record {
+            heading = record { route = h.route; unknowns = h.unknowns; givens = h.givens; used = n };
+            verdict = v;
+          };
+          order = o;
+        })
+    refused_is e = record { question = e; heading = heading_is eu; verdict = says ev; order = order_is }
+
+-- ---- the questions put to an entry that has been gone over
+module _ (bs : List ℕ) {x : Gathered} {asked : Option Letters} {route : ℕ} {in_order : Bool} (a : AsksEntry (records bs) x asked route in_order) where
+  -- the first no of these is that of all
+  pub gathered_no : (q : Question) → IsFirstNo (gathered_questions x asked route in_order) q → IsFirstNo (entry_questions (records bs)) q
+  unfolding entry_questions
+  gathered_no q e =
+      let f : number q ≡ first_no (record_questions (records bs)) = e ∙ a.same in
+      f ∙ sym (first_counts (record_questions (records bs)) _ (λ z. number_some q (f ∙ z)))
+
+  -- each is answered yes
+  pub gathered_passed : {l : Letters} → PassedGathered x asked route in_order l → Passed bs l
+  gathered_passed {l} passed =
+      record { yes = sym a.same ∙ passed.none_no; letters = MatchOption-at_some _ _ l passed.letters_are a.letters_are }

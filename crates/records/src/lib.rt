@@ -16,7 +16,7 @@ ghost use Rattle.calls.specs.Questions.{fact_questions, record_questions, entry_
 ghost use Rattle.facts.specs.Inner.Kept.{kept_words};
 ghost use Rattle.records.specs.Inner.Kinds.{byte_of, byte_before, base_of, stands_in_row, IsOf, IsThere, stands, NoneStands};
 ghost use Rattle.records.specs.Inner.Headings.{start_of, order_behind};
-ghost use Rattle.records.specs.Inner.Gathering.{seen_record, gathered, said_by, Further, PassedGathered, gathered_questions, IsSurvey};
+ghost use Rattle.records.specs.Inner.Gathering.{seen_record, gathered, said_by, Further, PassedGathered, gathered_questions, AsksEntry, IsSurvey, IsRefused};
 ghost use Rattle.records.specs.Inner.Filling.{zeros, Fitting, RowFilling, FactFilling, Passed};
 
 mod kinds;
@@ -32,6 +32,22 @@ pub struct Survey {
     pub entry: Entry,
     pub letters: Letters,
     pub order: [u8; 6],
+}
+
+// Why an entry is refused, and what its bytes say all the same.
+#[derive(Clone, Copy)]
+pub struct Refused {
+    pub question: Question, // the first no
+    pub entry: Entry, // its length used is 0 where there is no kind 4
+    pub order: [u8; 6],
+}
+
+impl From<Refused> for Question {
+    ghost from_gives = { λ refused question. question ≡ refused.question };
+
+    fn from(refused: Refused) -> Self {
+        refused.question
+    }
 }
 
 // What questions 11 and 12 hold against each record.
@@ -299,24 +315,24 @@ impl Bounds {
     }
 }
 
-// Questions 10, 11, 1, 2, 12 and 17, where 1 and 17 are answered: the letters, and the length used.
+// Questions 10, 11, 1, 2, 12 and 17, where 1 and 17 are answered: the letters.
 #[tactic(auto, unfolding(tables::specs::Questions::first_no))]
 fn ask_gathered(
     gathered: Gathered,
     letters: Option<Letters>,
     route: u8,
     ordered: bool,
-) -> Result<(Letters, usize), Question>
+) -> Result<Letters, Question>
     ensures { MatchResult result (PassedGathered gathered letters route ordered)
         (IsFirstNo (gathered_questions gathered letters route ordered)) }
 {
-    let used = gathered.used.ok_or(Question::Records)?;
+    tables::require(Question::Records, gathered.used.is_some())?;
     tables::require(Question::Kinds, gathered.seen.kinds)?;
     let letters = letters.ok_or(Question::Letters)?;
     tables::require(Question::Route, entry::route_fits(usize::from(route)))?;
     tables::require(Question::Numbers, gathered.seen.numbers)?;
     tables::require(Question::Order, ordered)?;
-    Ok((letters, used))
+    Ok(letters)
 }
 
 fn verdict_of(none: Option<State>) -> Verdict
@@ -495,21 +511,45 @@ fn ask_fact(s: &[u8], letters: Letters) -> Result<(), Question>
     keep_fact(s, letters, &mut kept[..w])
 }
 
-// Goes over the entry that the bytes begin with, and asks 10, 11, 1, 2, 12, 17, 22 and 23.
-pub fn survey_entry(s: &[u8]) -> Result<Survey, Question>
-    ensures { MatchResult result (IsSurvey (records s.now)) (IsFirstNo (entry_questions (records s.now))) }
+// All of them, of an entry that has been gone over.
+fn ask_entry(
+    s: &[u8],
+    gathered: Gathered,
+    letters: Option<Letters>,
+    route: u8,
+    ordered: bool,
+) -> Result<Letters, Question>
+    requires { AsksEntry (records s.now) gathered letters route ordered }
+    ensures { MatchResult result (λ l. NoneNo (entry_questions (records s.now)) × Passed s.now l)
+        (IsFirstNo (entry_questions (records s.now))) }
+{
+    let letters = ask_gathered(gathered, letters, route, ordered)?;
+    ask_fact(s, letters)?;
+    Ok(letters)
+}
+
+// Goes over the entry that the bytes begin with, and asks 10, 11, 1, 2, 12, 17, 22 and 23. What the bytes say is told with a refusal too.
+pub fn survey_entry(s: &[u8]) -> Result<Survey, Refused>
+    ensures { MatchResult result (IsSurvey (records s.now)) (IsRefused (records s.now)) }
 {
     let start = start_of(s);
     let letters = Letters::new(start.unknowns, start.givens).ok();
     let gathered = Bounds::new(start.route, bounding(letters)).gather(s);
     let order = order_of(s, start.unknowns);
     let ordered = solution::order_fits(start.unknowns, order);
-    let (letters, used) = ask_gathered(gathered, letters, start.route, ordered)?;
-    ask_fact(s, letters)?;
+    let used = gathered.used.unwrap_or(0);
     let heading = Heading { used, ..start };
     let verdict = verdict_of(gathered.seen.none);
+    let entry = Entry { heading, verdict };
+    let letters = ask_entry(s, gathered, letters, start.route, ordered).map_err(
+        |question| Refused {
+            question,
+            entry,
+            order,
+        },
+    )?;
     Ok(Survey {
-        entry: Entry { heading, verdict },
+        entry,
         letters,
         order,
     })

@@ -6,7 +6,7 @@ use Rattle.audit.proofs.audit.Goals as goal
 pub returns-in_err-survey : goal.returns-in_err-survey
 returns-in_err-survey c =
     let no = err_from_is_err_and c.from_residual.result c.from_residual.ensures.1 in
-    rw (no.1, no.2) (refused_before _ _ c.in_err-survey.ensures)
+    rw (no.1, no.2) (refused_before _ _ c.in_err-survey.ensures.question)
 
 pub returns-in_err-require : goal.returns-in_err-require
 returns-in_err-require c =

@@ -14,7 +14,7 @@ use Rattle.reader.proofs.read_entry.Goals as goal
 pub returns-in_err-survey : goal.returns-in_err-survey
 returns-in_err-survey c =
     let no = err_from_is_err_and c.from_residual.result c.from_residual.ensures.1 in
-    rw (no.1, no.2) (read_refused _ _ _ _ _ _ c.in_err-survey.ensures)
+    rw (no.1, no.2) (read_refused _ _ _ _ _ _ c.in_err-survey.ensures.question)
 
 pub returns-in_err-ask_room : goal.returns-in_err-ask_room
 returns-in_err-ask_room c =

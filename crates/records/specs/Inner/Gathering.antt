@@ -1,22 +1,23 @@
 -- What going over the records of an entry once keeps, record by record, and what it gives in the end.
 -- Assumes nothing.
-use Rattle.std.specs.Prelude.{◌≡◌, Bool, true, ◌&&◌, cond, List, [], ◌∷◌, ℕ, ◌+◌, ◌≤◌, eqb, length, drop, Option, Some, None, is_some}
+use Rattle.std.specs.Prelude.{◌≡◌, Bool, true, ◌&&◌, cond, List, [], ◌∷◌, ℕ, ◌+◌, ◌≤◌, eqb, length, drop, Option, Some, None, is_some, IfSome}
 use Rattle.std.specs.Option.{option_or}
 use Rattle.ring.specs.declared.State.{State}
 use Rattle.tables.specs.declared.Letters.{Letters as Held}
 use Rattle.tables.specs.declared.Question.TheVariants.{Letters, Route, Records, Kinds, Numbers, Order}
-use Rattle.tables.specs.Questions.{Asked, asks}
-use Rattle.tables.specs.Inner.Passed.{NoneNo, AreLetters}
+use Rattle.tables.specs.Questions.{Asked, asks, first_no}
+use Rattle.tables.specs.Inner.Passed.{NoneNo, IsFirstNo, AreLetters}
 use Rattle.entry.specs.Record.{Record, route_field, state_field, kind, value_of, is_end, is_none, in_bounds}
 use Rattle.entry.specs.Held.{records, unknowns_of, givens_of, order_in, held_verdict}
 use Rattle.entry.specs.Questions.{route_fits, may_follow}
 use Rattle.entry.specs.Inner.Places.{place_of, stands_behind}
-use Rattle.calls.specs.Questions.{entry_questions}
+use Rattle.calls.specs.Questions.{record_questions, entry_questions}
 use Rattle.calls.specs.declared.Verdict.{Verdict}
 use Rattle.calls.specs.declared.Verdict.TheVariants as verdicts
 use Rattle.records.specs.declared.Seen.{Seen}
 use Rattle.records.specs.declared.Gathered.{Gathered}
 use Rattle.records.specs.declared.Survey.{Survey}
+use Rattle.records.specs.declared.Refused.{Refused}
 use Rattle.records.specs.Inner.Kinds.{kind_of, byte_before}
 use Rattle.records.specs.Inner.Headings.{length_used, heading_of, said}
 
@@ -80,10 +81,14 @@ gathered_questions x letters route in_order =
     ∷ []
 
 -- what a yes to each tells
-pub record PassedGathered (x : Gathered) (letters : Option Held) (route : ℕ) (in_order : Bool) (known : Held × ℕ) : Type 0 where
+pub record PassedGathered (x : Gathered) (letters : Option Held) (route : ℕ) (in_order : Bool) (known : Held) : Type 0 where
   pub none_no : NoneNo (gathered_questions x letters route in_order)
-  pub letters_are : letters ≡ Some known.0
-  pub used_is : x.used ≡ Some known.1
+  pub letters_are : letters ≡ Some known
+
+-- they are those that are put to the entry, and the letters are its own
+pub record AsksEntry (rs : List Record) (x : Gathered) (letters : Option Held) (route : ℕ) (in_order : Bool) : Type 0 where
+  pub same : first_no (gathered_questions x letters route in_order) ≡ first_no (record_questions rs)
+  pub letters_are : IfSome letters (AreLetters (unknowns_of rs) (givens_of rs))
 
 -- what going over an entry gives that passes 10, 11, 1, 2, 12, 17, 22 and 23
 pub record IsSurvey (rs : List Record) (survey : Survey) : Type 0 where
@@ -92,3 +97,10 @@ pub record IsSurvey (rs : List Record) (survey : Survey) : Type 0 where
   pub verdict : survey.entry.verdict ≡ said (held_verdict rs)
   pub letters : AreLetters (unknowns_of rs) (givens_of rs) survey.letters
   pub order : survey.order ≡ order_in rs
+
+-- and one that does not: the first no, and what it says
+pub record IsRefused (rs : List Record) (refused : Refused) : Type 0 where
+  pub question : IsFirstNo (entry_questions rs) refused.question
+  pub heading : refused.entry.heading ≡ heading_of rs
+  pub verdict : refused.entry.verdict ≡ said (held_verdict rs)
+  pub order : refused.order ≡ order_in rs

@@ -22,9 +22,9 @@ start_of rs = record { route = route_of rs; unknowns = unknowns_of rs; givens = 
 unfoldable pub order_behind : ℕ → List Record → List ℕ
 order_behind U rs = cond (is_order (second rs)) (drop 1 (second rs)) (default_bytes U)
 
--- what the start says, and the length to the end
+-- what the start says, and the length to the end of the first kind 4, 0 if there is none
 unfoldable pub heading_of : List Record → Heading
-heading_of rs = record { route = route_of rs; unknowns = unknowns_of rs; givens = givens_of rs; used = length (bytes rs) }
+heading_of rs = record { route = route_of rs; unknowns = unknowns_of rs; givens = givens_of rs; used = cond (has_end rs) (length (bytes rs)) 0 }
 
 -- whether a verdict is 'none', and in which state
 abbrev pub said : {A : Type 0} → Said A → Verdict
