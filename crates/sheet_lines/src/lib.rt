@@ -361,7 +361,8 @@ impl Printer {
     }
 
     // Behind the last route printed, 0 for none, and the bytes of a line that has begun: of a line that is too long whatever follows, the
-    // first bytes are enough.
+    // first bytes are enough. Not inlined, as `finish` is not: what they move would stand in the frame of a whole run.
+    #[inline(never)]
     pub fn resume(last: usize, begun: &[u8]) -> Self
         ensures { result ≡ record { last = last; begun = take kept_length begun.now } }
     {
@@ -427,6 +428,7 @@ impl Printer {
     }
 
     // The end of the input: the last line may lack its line feed.
+    #[inline(never)]
     pub fn finish(mut self, out: &mut [u8], at: usize) -> usize
         requires { at + line_room ≤ length out.old }
         ensures { Put out.old at (prints_last self) result out.new }
