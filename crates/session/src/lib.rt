@@ -8,9 +8,9 @@ ghost use Rattle.ring.specs.Join.{join};
 ghost use Rattle.ring.specs.Table.{AreBits, present, table};
 ghost use Rattle.tables.specs.Inner.Passed.{NoneNo, IsFirstNo};
 ghost use Rattle.calls.specs.Questions.{add_questions, is_name, mark_questions, return_questions};
-ghost use Rattle.session.specs.Session.{new_session, under, asked_tables, added, marked, start_step, add_step, mark_step, return_step};
+ghost use Rattle.session.specs.Session.{new_session, under, asked_tables, added, marked, returned, start_step, add_step, mark_step, return_step};
 ghost use Rattle.session.specs.Inner.Asking.{marked_questions};
-ghost use Rattle.session.specs.Inner.Passed.{own_questions, PassedOwn, PassedName, IsStep, IsStored};
+ghost use Rattle.session.specs.Inner.Passed.{own_questions, PassedOwn, PassedName, IsStep};
 
 use tables::{Letters, Question};
 
@@ -101,6 +101,15 @@ fn joined_table(letters: Letters, t: [u8; 1024], h: &[u8]) -> [u8; 1024]
     out
 }
 
+// A table in the place of another. By itself, and not inlined: within one session the compiler would have to take them for places that may
+// overlap, and an archive for C would need one more function of the C library (`memmove`).
+#[inline(never)]
+fn put_table(from: &[u8; 1024], to: &mut [u8; 1024])
+    ensures { to.new ≡ from.now }
+{
+    *to = *from;
+}
+
 impl Session {
     // What every step first puts to the session handed in.
     #[tactic(auto, unfolding(calls::specs::Questions::session_questions, crate::specs::Inner::Asking::marked_questions, tables::specs::Questions::bit_questions, tables::specs::Questions::first_no))]
@@ -150,16 +159,15 @@ impl Session {
         Ok(())
     }
 
-    // The table that is stored under a name. It is handed on by value: put in place it would be copied within the session, for which an
-    // archive for C would need one more function of the C library (`memmove`).
-    fn stored(&self, name: usize) -> Result<[u8; 1024], Question>
-        ensures { MatchResult result (IsStored self.now name)
-            (IsFirstNo (return_questions self.now.unknowns self.now.givens (asked_tables self.now) name (under self.now name).set)) }
+    // Makes the state that is stored under a name the present one, in place, unless the step is refused.
+    fn try_return(&mut self, name: usize) -> Result<(), Question>
+        ensures { IsStep (return_questions self.old.unknowns self.old.givens (asked_tables self.old) name (under self.old name).set)
+            (returned self.old name) self.old result self.new }
     {
         let i = self.ask_name(name)?;
-        let mark = &self.marks[i];
-        tables::require(Question::Marked, mark.set)?;
-        Ok(mark.table)
+        tables::require(Question::Marked, self.marks[i].set)?;
+        put_table(&self.marks[i].table, &mut self.table);
+        Ok(())
     }
 
     // A new session.
@@ -203,18 +211,14 @@ impl Session {
     }
 
     // The state that is stored under a name becomes the present one.
-    pub fn return_to(self, name: usize) -> Step
+    #[tactic(auto, using(crate::proofs::Outcomes::step_asked))]
+    pub fn return_to(mut self, name: usize) -> Step
         ensures { result ≡ return_step self name }
     {
-        match self.stored(name) {
-            Ok(table) => Step {
-                session: Session { table, ..self },
-                outcome: Ok(()),
-            },
-            Err(question) => Step {
-                session: self,
-                outcome: Err(question),
-            },
+        let outcome = self.try_return(name);
+        Step {
+            session: self,
+            outcome,
         }
     }
 }

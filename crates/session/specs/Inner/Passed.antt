@@ -6,9 +6,9 @@ use Rattle.tables.specs.declared.Letters.{Letters}
 use Rattle.tables.specs.declared.Question.{Question}
 use Rattle.tables.specs.Questions.{Asked}
 use Rattle.tables.specs.Inner.Passed.{NoneNo, IsFirstNo, AreLetters}
-use Rattle.calls.specs.Questions.{session_questions, mark_questions, return_questions}
+use Rattle.calls.specs.Questions.{session_questions, mark_questions}
 use Rattle.session.specs.declared.Session.{Session}
-use Rattle.session.specs.Session.{asked_tables, under}
+use Rattle.session.specs.Session.{asked_tables}
 
 -- the questions that every step first puts to the session handed in
 abbrev pub own_questions : Session → List Asked
@@ -25,11 +25,6 @@ pub record PassedName (s : Session) (name i : ℕ) : Type 0 where
   pub none_no : NoneNo (mark_questions s.unknowns s.givens (asked_tables s) name)
   pub place : i ≡ name - 65
   pub inside : i < 4
-
--- the session returns to this name, under which this table is stored
-pub record IsStored (s : Session) (name : ℕ) (t : List ℕ) : Type 0 where
-  pub none_no : NoneNo (return_questions s.unknowns s.givens (asked_tables s) name (under s name).set)
-  pub table : t ≡ (under s name).table
 
 -- what becomes of the session `before` in a step that puts these questions: it is `after`, or what it was, and the first that is answered no
 -- is the error
