@@ -11,7 +11,6 @@
 ghost use Rattle.std.specs.Prelude.{◌≡◌, ℕ, ◌<◌, ◌≤◌, ◌↔◌, List, length, replicate, Ok, IfOk, OnOk, IsSome};
 ghost use Rattle.cases.specs.Lines.{RunsEachLine};
 
-use arrayvec::ArrayVec;
 use calls::{Entry, Heading, Verdict};
 use std::io;
 use std::io::Read;
@@ -112,16 +111,19 @@ pub fn take_apart(line: &[u8]) -> Option<Fields<'_>>
     })
 }
 
-// The bytes of a field, a digit each, `-` for none. Those that a buffer of a call has no room for are left out.
-pub fn digits(field: &[u8]) -> ArrayVec<u8, BUFFER_ROOM> {
-    let mut bytes = ArrayVec::new();
+// The bytes of a field, a digit each, `-` for none, as many as there is room for, at the front of `out`; answers how many there are.
+pub fn digits(field: &[u8], out: &mut [u8]) -> usize
+    ensures { result ≤ length out.new }
+{
+    let mut n = 0;
     for digit in field {
-        if *digit < b'0' || bytes.is_full() {
+        if *digit < b'0' || out.len() <= n {
             break;
         }
-        bytes.push(*digit - b'0');
+        out[n] = *digit - b'0';
+        n += 1;
     }
-    bytes
+    n
 }
 
 // Makes every byte of a result buffer 7, before a call.
@@ -182,34 +184,31 @@ fn from_hex(digit: u8) -> u8
     }
 }
 
-// The byte that two hexadecimal digits are. There is none where the first is a space or a `-`, behind a field.
-fn hex_byte(pair: &[u8; 2]) -> Option<u8> {
+fn hex_byte(pair: &[u8; 2]) -> u8 {
     let [high, low] = *pair;
-    if high < b'0' {
-        return None;
-    }
-    Some(16 * from_hex(high) + from_hex(low))
+    16 * from_hex(high) + from_hex(low)
 }
 
-// The bytes of a field, two hexadecimal digits each, `-` for none. Those that a buffer of a call has no room for are left out.
-pub fn hex_bytes(field: &[u8]) -> ArrayVec<u8, BUFFER_ROOM> {
-    let mut bytes = ArrayVec::new();
-    for byte in field.as_chunks().0.iter().map_while(hex_byte) {
-        if bytes.is_full() {
+// The bytes of a field, two hexadecimal digits each, `-` for none, as many as there is room for, at the front of `out`; answers how many there
+// are. A pair whose first byte is below '0', as a space, stands behind the field.
+pub fn hex_bytes(field: &[u8], out: &mut [u8]) -> usize
+    ensures { result ≤ length out.new }
+{
+    let mut n = 0;
+    for pair in field.as_chunks().0 {
+        if pair[0] < b'0' || out.len() <= n {
             break;
         }
-        bytes.push(byte);
+        out[n] = hex_byte(pair);
+        n += 1;
     }
-    bytes
+    n
 }
 
 // The order that a field is.
 pub fn order(field: &[u8]) -> [u8; 6] {
     let mut order = [MARK; 6];
-    let bytes = field.as_chunks().0.iter().map_while(hex_byte);
-    for (place, byte) in order.iter_mut().zip(bytes) {
-        *place = byte;
-    }
+    hex_bytes(field, &mut order);
     order
 }
 

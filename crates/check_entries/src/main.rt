@@ -35,19 +35,22 @@ fn show_read(
 // One call on buffers of the stated lengths. There is none with a longer buffer than a program has room for.
 fn write(rt: &impl Print, f: cases::Fields<'_>) -> io::Result<()> {
     let order = cases::order(f.order);
-    let fact = cases::digits(f.a);
-    let condition = cases::digits(f.b);
+    let mut a = [0; cases::BUFFER_ROOM];
+    let na = cases::digits(f.a, &mut a);
+    let mut b = [0; cases::BUFFER_ROOM];
+    let nb = cases::digits(f.b, &mut b);
     let mut room = [0; cases::BUFFER_ROOM];
     if let Some(out) = room.get_mut(..f.size) {
         cases::mark(out);
-        let r = writer::write_entry(f.x, f.unknowns, f.givens, order, &fact, &condition, out);
+        let r = writer::write_entry(f.x, f.unknowns, f.givens, order, &a[..na], &b[..nb], out);
         show_written(rt, r, out)?;
     }
     Ok(())
 }
 
 fn read(rt: &impl Print, f: cases::Fields<'_>) -> io::Result<()> {
-    let bytes = cases::hex_bytes(f.b);
+    let mut bytes = [0; cases::BUFFER_ROOM];
+    let n = cases::hex_bytes(f.b, &mut bytes);
     let mut order = [7u8; 6];
     let mut facts = [0; cases::BUFFER_ROOM];
     let mut conditions = [0; cases::BUFFER_ROOM];
@@ -59,7 +62,7 @@ fn read(rt: &impl Print, f: cases::Fields<'_>) -> io::Result<()> {
         cases::mark(fact);
         cases::mark(condition);
         cases::mark(answers);
-        let r = reader::read_entry(&bytes, &mut order, fact, condition, answers);
+        let r = reader::read_entry(&bytes[..n], &mut order, fact, condition, answers);
         show_read(rt, r, order, fact, condition, answers)?;
     }
     Ok(())

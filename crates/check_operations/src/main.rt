@@ -81,12 +81,14 @@ fn run(rt: &impl Print, line: &[u8]) -> io::Result<()> {
     let Some(f) = cases::take_apart(line) else {
         return Ok(());
     };
-    let a = cases::digits(f.a);
-    let b = cases::digits(f.b);
+    let mut a = [0; cases::BUFFER_ROOM];
+    let na = cases::digits(f.a, &mut a);
+    let mut b = [0; cases::BUFFER_ROOM];
+    let nb = cases::digits(f.b, &mut b);
     let mut room = [0; cases::BUFFER_ROOM];
     if let Some(out) = room.get_mut(..f.size) {
         cases::mark(out);
-        call(rt, f, &a, &b, out)?;
+        call(rt, f, &a[..na], &b[..nb], out)?;
     }
     Ok(())
 }

@@ -74,6 +74,12 @@ fn change(s: &mut Session, which: usize, place: usize, byte: u8) {
     }
 }
 
+fn add(s: Session, field: &[u8]) -> Step {
+    let mut table = [0; cases::BUFFER_ROOM];
+    let n = cases::digits(field, &mut table);
+    s.add(&table[..n])
+}
+
 // The session after a line.
 fn play(rt: &impl Print, s: Session, line: &[u8]) -> io::Result<Session> {
     let Some(f) = cases::take_apart(line) else {
@@ -81,7 +87,7 @@ fn play(rt: &impl Print, s: Session, line: &[u8]) -> io::Result<Session> {
     };
     match f.call {
         b's' => show(rt, Session::start(f.unknowns, f.givens)),
-        b'a' => show(rt, s.add(&cases::digits(f.a))),
+        b'a' => show(rt, add(s, f.a)),
         b'm' => show(rt, s.mark(f.x)),
         b'r' => show(rt, s.return_to(f.x)),
         b'd' => {

@@ -56,13 +56,16 @@ fn run(rt: &impl Print, line: &[u8]) -> io::Result<()> {
         return Ok(());
     };
     let order = cases::order(f.order);
-    let a = cases::digits(f.a);
-    let b = cases::digits(f.b);
-    let h = cases::digits(f.order);
+    let mut a = [0; cases::BUFFER_ROOM];
+    let na = cases::digits(f.a, &mut a);
+    let mut b = [0; cases::BUFFER_ROOM];
+    let nb = cases::digits(f.b, &mut b);
+    let mut h = [0; cases::BUFFER_ROOM];
+    let nh = cases::digits(f.order, &mut h);
     let mut room = [0; cases::BUFFER_ROOM];
     if let Some(out) = room.get_mut(..f.size) {
         cases::mark(out);
-        call(rt, f, order, &a, &b, &h, out)?;
+        call(rt, f, order, &a[..na], &b[..nb], &h[..nh], out)?;
     }
     Ok(())
 }

@@ -36,8 +36,9 @@ fn run(rt: &impl Print, line: &[u8]) -> io::Result<()> {
     let Some(f) = cases::take_apart(line) else {
         return Ok(());
     };
-    let bytes = cases::hex_bytes(f.b);
-    call(rt, f, &bytes)
+    let mut bytes = [0; cases::BUFFER_ROOM];
+    let n = cases::hex_bytes(f.b, &mut bytes);
+    call(rt, f, &bytes[..n])
 }
 
 fn main(rt: HostRuntime) -> io::Result<()> {
