@@ -34,12 +34,12 @@ fn show_read(
 
 // One call on buffers of the stated lengths. There is none with a longer buffer than a program has room for.
 fn write(rt: &impl Print, f: cases::Fields<'_>) -> io::Result<()> {
-    let order = cases::order(f.order);
     let mut a = [0; cases::BUFFER_ROOM];
-    let na = cases::digits(f.a, &mut a);
     let mut b = [0; cases::BUFFER_ROOM];
-    let nb = cases::digits(f.b, &mut b);
     let mut room = [0; cases::BUFFER_ROOM];
+    let order = cases::order(f.order);
+    let na = cases::digits(f.a, &mut a);
+    let nb = cases::digits(f.b, &mut b);
     if let Some(out) = room.get_mut(..f.size) {
         cases::mark(out);
         let r = writer::write_entry(f.x, f.unknowns, f.givens, order, &a[..na], &b[..nb], out);
@@ -50,11 +50,11 @@ fn write(rt: &impl Print, f: cases::Fields<'_>) -> io::Result<()> {
 
 fn read(rt: &impl Print, f: cases::Fields<'_>) -> io::Result<()> {
     let mut bytes = [0; cases::BUFFER_ROOM];
-    let n = cases::hex_bytes(f.b, &mut bytes);
-    let mut order = [7u8; 6];
     let mut facts = [0; cases::BUFFER_ROOM];
     let mut conditions = [0; cases::BUFFER_ROOM];
     let mut room = [0; cases::BUFFER_ROOM];
+    let mut order = [7u8; 6];
+    let n = cases::hex_bytes(f.b, &mut bytes);
     if let Some(fact) = facts.get_mut(..f.x)
         && let Some(condition) = conditions.get_mut(..f.size)
         && let Some(answers) = room.get_mut(..f.size2)

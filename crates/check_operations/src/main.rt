@@ -76,21 +76,27 @@ fn call<'a>(
     }
 }
 
-// A line, taken apart. There is no call with a longer buffer than a program has room for.
-fn run(rt: &impl Print, line: &[u8]) -> io::Result<()> {
-    let Some(f) = cases::take_apart(line) else {
-        return Ok(());
-    };
+// One call on buffers of its own. There is none with a longer buffer than a program has room for. The buffers come first: behind a branch they
+// would be cleared twice.
+fn lend(rt: &impl Print, f: cases::Fields<'_>) -> io::Result<()> {
     let mut a = [0; cases::BUFFER_ROOM];
-    let na = cases::digits(f.a, &mut a);
     let mut b = [0; cases::BUFFER_ROOM];
-    let nb = cases::digits(f.b, &mut b);
     let mut room = [0; cases::BUFFER_ROOM];
+    let na = cases::digits(f.a, &mut a);
+    let nb = cases::digits(f.b, &mut b);
     if let Some(out) = room.get_mut(..f.size) {
         cases::mark(out);
         call(rt, f, &a[..na], &b[..nb], out)?;
     }
     Ok(())
+}
+
+// A line, taken apart.
+fn run(rt: &impl Print, line: &[u8]) -> io::Result<()> {
+    match cases::take_apart(line) {
+        Some(f) => lend(rt, f),
+        None => Ok(()),
+    }
 }
 
 fn main(rt: HostRuntime) -> io::Result<()> {

@@ -49,25 +49,30 @@ fn call(
     }
 }
 
-// A line, taken apart. The handed form takes no order: the handed polynomials stand in its place. There is no call with a longer buffer than
-// a program has room for.
-fn run(rt: &impl Print, line: &[u8]) -> io::Result<()> {
-    let Some(f) = cases::take_apart(line) else {
-        return Ok(());
-    };
-    let order = cases::order(f.order);
+// One call on buffers of its own. The handed form takes no order: the handed polynomials stand in its place. There is no call with a longer
+// buffer than a program has room for. The buffers come first: behind a branch they would be cleared twice.
+fn lend(rt: &impl Print, f: cases::Fields<'_>) -> io::Result<()> {
     let mut a = [0; cases::BUFFER_ROOM];
-    let na = cases::digits(f.a, &mut a);
     let mut b = [0; cases::BUFFER_ROOM];
-    let nb = cases::digits(f.b, &mut b);
     let mut h = [0; cases::BUFFER_ROOM];
-    let nh = cases::digits(f.order, &mut h);
     let mut room = [0; cases::BUFFER_ROOM];
+    let order = cases::order(f.order);
+    let na = cases::digits(f.a, &mut a);
+    let nb = cases::digits(f.b, &mut b);
+    let nh = cases::digits(f.order, &mut h);
     if let Some(out) = room.get_mut(..f.size) {
         cases::mark(out);
         call(rt, f, order, &a[..na], &b[..nb], &h[..nh], out)?;
     }
     Ok(())
+}
+
+// A line, taken apart.
+fn run(rt: &impl Print, line: &[u8]) -> io::Result<()> {
+    match cases::take_apart(line) {
+        Some(f) => lend(rt, f),
+        None => Ok(()),
+    }
 }
 
 fn main(rt: HostRuntime) -> io::Result<()> {

@@ -101,13 +101,15 @@ fn joined_table(letters: Letters, t: [u8; 1024], h: &[u8]) -> [u8; 1024]
     out
 }
 
-// A table in the place of another. By itself, and not inlined: within one session the compiler would have to take them for places that may
-// overlap, and an archive for C would need one more function of the C library (`memmove`).
+// A table in the place of another. Byte by byte, and not inlined: within one session the compiler takes both for places that may overlap, and
+// for a copy as one an archive for C would need one more function of the C library (`memmove`).
 #[inline(never)]
 fn put_table(from: &[u8; 1024], to: &mut [u8; 1024])
     ensures { to.new ≡ from.now }
 {
-    *to = *from;
+    for (i, byte) in to.iter_mut().enumerate() {
+        *byte = from[i];
+    }
 }
 
 impl Session {
