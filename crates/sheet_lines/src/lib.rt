@@ -50,8 +50,10 @@ pub struct Work {
 }
 
 impl Work {
-    // Works the order out. What a line asks of it stands in the type, so that it serves any line.
-    pub fn new() -> Self {
+    // Works the order out. What a line asks of it stands in the type too, so that it serves any line.
+    pub fn new() -> Self
+        ensures { result.masks ≡ order 10 }
+    {
         let mut masks = [0; 1024];
         order::fill_order(10, &mut masks);
         Work {
