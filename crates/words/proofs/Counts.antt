@@ -11,13 +11,10 @@ use native.Mathlib.Omega.{arith}
 use lib.Arith.{lt-one}
 use lib.Bits.{bit_and, bit_or, bit_xor, and_mask}
 use lib.Count.{ones, ones_step, under, count_trailing_zeros}
-use lib.ListN.{length, get_or, take}
+use lib.ListN.{length, get_or}
 use lib.Pow.{pow_mono, pow_pos}
 use borrow.Author.Tests.{eq-eqb, ne_eqb}
 use mathlib.Core.Logic.{◌≢◌}
-use lib.Seq.{take-length}
-use Rattle.std.specs.List.{sum_by}
-use Rattle.std.proofs.lemmas.List.Sums.{sum_by_more}
 use Rattle.ring.specs.Letters.{digit, bit}
 use Rattle.ring.specs.Polynomial.{◌⊕◌, count}
 use Rattle.ring.specs.Table.{present, table}
@@ -109,15 +106,6 @@ count_word ws i =
     let n : 64 * (i + 1) ≡ 64 * i + 64 = omega arith in
     ap (λ (x : ℕ). count x (bit_at ws)) n ∙ count_add (64 * i) 64 (bit_at ws)
     ∙ ap (λ (x : ℕ). count (64 * i) (bit_at ws) + x) (count_cong 64 _ _ (λ j m. bit_at_lem ws i j m))
-
-count_to : (ws : List ℕ) (i : ℕ) → i ≤ length ws → sum_by ones_of (take i ws) ≡ count (64 * i) (bit_at ws)
-count_to ws zero l = count-start (bit_at ws) 0 refl
-count_to ws (suc i) l =
-    let e : suc i ≡ i + 1 = omega arith in
-    rw e (sum_by_more ones_of ws i 0 (omega arith) ∙ ap (λ (x : ℕ). x + ones_of (get_or ws i 0)) (count_to ws i (omega arith)) ∙ sym (count_word ws i))
-
-pub count_all : (ws : List ℕ) → sum_by ones_of ws ≡ count (64 * length ws) (bit_at ws)
-count_all ws = ap (sum_by ones_of) (sym (take-length ws)) ∙ count_to ws (length ws) (omega arith)
 
 -- every second of sixteen, and the others
 pub sixteen_words : (ws : List ℕ) (r s : ℕ)

@@ -6,10 +6,10 @@
 
 #![tactic(auto)]
 
-ghost use Rattle.std.specs.Prelude.{◌≡◌, List, ◌++◌, Bool, true, false, ◌&&◌, cond, ℕ, ◌+◌, ◌-◌, ◌*◌, ◌/◌, ◌%◌, ◌^◌, ◌≤◌, ◌<◌, length, get_or, take, drop};
+ghost use Rattle.std.specs.Prelude.{◌≡◌, ◌++◌, Bool, true, false, ◌&&◌, cond, ℕ, ◌+◌, ◌-◌, ◌*◌, ◌/◌, ◌%◌, ◌^◌, ◌≤◌, ◌<◌, length, get_or, take};
 ghost use Rattle.std.specs.Int.Bits.{bit_and, bit_or, bit_xor};
 ghost use Rattle.ring.specs.Lists.{listed};
-ghost use Rattle.ring.specs.Letters.{digit, bit, assign};
+ghost use Rattle.ring.specs.Letters.{bit, assign};
 ghost use Rattle.ring.specs.Polynomial.{◌⊕◌, count, value};
 ghost use Rattle.ring.specs.Derivative.{flipped};
 ghost use Rattle.ring.specs.Table.{AreBits, IsTable, present, tabulate, table};
@@ -137,7 +137,7 @@ fn put_eight(word: u64, out: &mut [u8])
 }
 
 // The bits of a crossed word, a byte each, eight at a time. By the number of the eight, since after `chunks_exact_mut` a proof knows nothing of
-// the bytes; so it is in `unpack_some` too.
+// the bytes; so it is in `unpack_all` too.
 fn unpack_word(word: u64, out: &mut [u8])
     requires { (length out.old ≤ 64) × (length out.old % 8 ≡ 0) }
     ensures { out.new ≡ tabulate (length out.old) (λ p. bit word (crossed p)) }
@@ -149,27 +149,21 @@ fn unpack_word(word: u64, out: &mut [u8])
     }
 }
 
-// The values that some of the crossed words hold, a byte each, at their place among those of all. By what all of them are to hold, W, since
-// the others may be gone.
-fn unpack_some(words: &[u64], out: &mut [u8], from: usize, to: usize)
-    requires { (from ≤ to) × (to ≤ length words.now) × (length out.old ≡ 64 * length words.now) }
-    ensures { (W bytes : List ℕ) → ((w : ℕ) → from ≤ w → w < to → get_or words.now w 0 ≡ get_or W w 0)
-        → out.old ≡ listed (from * 64) (λ p. digit (bit_at W (crossed p))) ++ drop (from * 64) bytes
-        → out.new ≡ listed (to * 64) (λ p. digit (bit_at W (crossed p))) ++ drop (to * 64) bytes }
+// The values that crossed words hold, a byte each, and how many of them are 1. Counted as the words pass: where nobody asks for the number the
+// compiler leaves it out.
+fn unpack_all(words: &[u64], out: &mut [u8]) -> usize
+    requires { length out.old ≡ 64 * length words.now }
+    ensures { (out.new ≡ tabulate (length out.old) (λ p. bit_at words.now (crossed p)))
+        × (result ≡ count (64 * length words.now) (bit_at words.now)) }
 {
-    for w in from..to {
+    let mut found = 0;
+    for w in 0..words.len() {
         let start = w * 64;
         let end = start + 64;
         unpack_word(words[w], &mut out[start..end]);
+        found += ones(words[w]) as usize;
     }
-}
-
-// The values that crossed words hold, a byte each.
-fn unpack_all(words: &[u64], out: &mut [u8])
-    requires { length out.old ≡ 64 * length words.now }
-    ensures { out.new ≡ tabulate (length out.old) (λ p. bit_at words.now (crossed p)) }
-{
-    unpack_some(words, out, 0, words.len());
+    found
 }
 
 // The values that words hold, a byte each.
@@ -303,26 +297,30 @@ fn pass(t: &mut [u64], c: usize)
     low_values(t);
 }
 
-// The same of more words than one. Each number of letters has a call of its own, so that all widths are literals; not inlined, since callers
+// The same of two to eight words. Each number of letters has a call of its own, so that all widths are literals; not inlined, since callers
 // of a single word would else carry the code of all widths.
 #[inline(never)]
 fn pass_each(t: &mut [u64], c: usize)
-    requires { (0 < c) × (c ≤ 4) × (length t.old ≡ 2 ^ c) }
+    requires { (0 < c) × (c < 4) × (length t.old ≡ 2 ^ c) }
     ensures { t.new ≡ words_of (2 ^ c) (value (6 + c) (bit_at t.old)) }
 {
     match c {
         1 => pass(t, 1),
         2 => pass(t, 2),
-        3 => pass(t, 3),
-        _ => pass(t, 4),
+        _ => pass(t, 3),
     }
 }
 
-// The same. Up to six letters are one word, which needs no loop.
+// The same. Up to six letters are one word, which needs no loop; ten have a call of their own here, with which a product that counts and one
+// that does not run the same code.
 pub fn to_values(t: &mut [u64], c: usize)
     requires { (c ≤ 4) × (length t.old ≡ 2 ^ c) }
     ensures { t.new ≡ words_of (2 ^ c) (value (6 + c) (bit_at t.old)) }
 {
+    if c == 4 {
+        pass(t, 4);
+        return;
+    }
     if c == 0 {
         t[0] = word_values(t[0]);
         return;
@@ -364,67 +362,6 @@ fn count_few(n: usize, word: u64) -> usize
     ones(word & (end - 1)) as usize
 }
 
-// The ones of each word.
-fn count_each(words: &[u64]) -> usize
-    requires { length words.now ≤ 16 }
-    ensures { result ≡ count (64 * length words.now) (bit_at words.now) }
-{
-    words.iter().map(|word| ones(*word) as usize).sum()
-}
-
-// What three words carry when their points are added up: 1 where two of them are 1, or all.
-fn carry(a: u64, b: u64, c: u64) -> u64
-    ensures { ones_of a + ones_of b + ones_of c ≡ ones_of (bit_xor (bit_xor a b) c) + 2 * ones_of result }
-{
-    (a & b) | ((a ^ b) & c)
-}
-
-// The ones of eight words. Seven are added up point by point first, so that four words are counted in place of eight:
-// plain x86-64 has no instruction that counts a word's ones.
-fn count_eight(a: u64, b: u64, c: u64, d: u64, e: u64, f: u64, g: u64, h: u64) -> u64
-    ensures { (result ≡ ones_of a + ones_of b + ones_of c + ones_of d + ones_of e + ones_of f + ones_of g + ones_of h) × (result ≤ 512) }
-{
-    let abc = a ^ b ^ c;
-    let def = d ^ e ^ f;
-    let first = carry(a, b, c);
-    let second = carry(d, e, f);
-    let third = carry(abc, def, g);
-    let twos = first ^ second ^ third;
-    let fours = carry(first, second, third);
-    ones(abc ^ def ^ g) + ones(h) + 2 * (ones(twos) + 2 * ones(fours))
-}
-
-// The ones of sixteen words. It uses up the first two: the ones of every second word and of the others are stored there, side by side, so that
-// both are worked out at once, in vectors. The compiler finds these with the odd words first.
-fn count_sixteen(words: &mut [u64]) -> usize
-    requires { length words.old ≡ 16 }
-    ensures { (result ≡ count (64 * 16) (bit_at words.old))
-        × ((w : ℕ) → 2 ≤ w → get_or words.new w 0 ≡ get_or words.old w 0) }
-{
-    let odd = count_eight(
-        words[1], words[3], words[5], words[7], words[9], words[11], words[13], words[15],
-    );
-    let even = count_eight(
-        words[0], words[2], words[4], words[6], words[8], words[10], words[12], words[14],
-    );
-    words[0] = even;
-    words[1] = odd;
-    (even + odd) as usize
-}
-
-// The values that sixteen crossed words hold, which it uses up, a byte each, and how many of them are 1. Counted between the first four words and
-// the others, so that the processor counts while it stores.
-fn unpack_sixteen(words: &mut [u64], out: &mut [u8]) -> usize
-    requires { (length words.old ≡ 16) × (length out.old ≡ 64 * length words.old) }
-    ensures { (out.new ≡ tabulate (length out.old) (λ p. bit_at words.old (crossed p)))
-        × (result ≡ count (64 * length words.old) (bit_at words.old)) }
-{
-    unpack_some(words, out, 0, 4);
-    let found = count_sixteen(words);
-    unpack_some(words, out, 4, words.len());
-    found
-}
-
 // The table of coefficients whose values stand in words, which it uses up, and the number of its monomials: the ones of the words that its
 // bytes come from.
 pub fn put_counted(n: usize, words: &mut [u64], out: &mut [u8]) -> usize
@@ -439,11 +376,7 @@ pub fn put_counted(n: usize, words: &mut [u64], out: &mut [u8]) -> usize
         return found;
     }
     cross_all(words);
-    if n == 10 {
-        return unpack_sixteen(words, out);
-    }
-    unpack_all(words, out);
-    count_each(words)
+    unpack_all(words, out)
 }
 
 // The same of words that stay. The scratch words live here.

@@ -34,4 +34,4 @@ unpack_all-requires c = let crossed-size : length c.cross_all.new.words ≡ 2 ^ 
 
 pub returns : goal.returns
 returns c = large_bytes c.args.n c.args.words.now _ c.args.out.now _ c.requires.1 c.requires.2
-    c.cross_all.ensures c.unpack_all.ensures
+    c.cross_all.ensures c.unpack_all.ensures.0
