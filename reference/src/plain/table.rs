@@ -34,8 +34,7 @@ impl<B: Block, const K: usize> Table<B, K> {
     /// Puts coefficients, and gives the number of those that are 1. Counted in the blocks, so that no
     /// byte is looked at again.
     pub fn put_counted(&self, bytes: &mut [u8]) -> usize {
-        self.put(bytes);
-        B::count(&self.0)
+        B::put_counted(self, bytes)
     }
 
     pub fn set(&mut self, point: usize) {

@@ -76,6 +76,21 @@ impl Block for u64 {
         blocks.iter().map(|word| word.count_ones() as usize).sum()
     }
 
+    /// Each word is counted as it is unpacked.
+    fn put_counted<const K: usize>(table: &Table<u64, K>, bytes: &mut [u8]) -> usize {
+        let (whole, part) = bytes.as_chunks_mut::<POINTS>();
+        let mut found = 0;
+        if let Some(word) = table.0.get(whole.len()) {
+            word.unpack(part);
+            found = word.count_ones();
+        }
+        for (word, bytes) in table.0.iter().zip(whole) {
+            word.unpack(bytes);
+            found += word.count_ones();
+        }
+        found as usize
+    }
+
     fn pack(bytes: &[u8]) -> u64 {
         cross(gather(bytes))
     }
