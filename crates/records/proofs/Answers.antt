@@ -50,7 +50,7 @@ use Rattle.records.specs.declared.Gathered.{Gathered}
 use Rattle.records.specs.declared.Bounds.{Bounds}
 use Rattle.records.specs.Inner.Kinds.{byte_of, kind_of, byte_before, Stands, stands}
 use Rattle.records.specs.Inner.Headings.{length_used, start_of, order_behind, heading_of, said}
-use Rattle.records.specs.Inner.Gathering.{seen_record, seen_all, nothing_seen, gathered, said_by, gathered_questions, PassedGathered, AsksEntry, IsSurvey, IsRefused}
+use Rattle.records.specs.Inner.Gathering.{seen_record, seen_all, nothing_seen, gathered, said_by, gathered_questions, AsksEntry, IsSurvey, IsRefused}
 use Rattle.records.specs.Inner.Filling.{Passed}
 use Rattle.records.proofs.Standing.{byte_known, sized, lent, here_end, here_more}
 
@@ -205,6 +205,14 @@ module _ (rs : List Record) (ends : ends_there rs ≡ true) {asked : Option Lett
       go (inr h) o t e = rw (unused h, h)
       go (inl h) None t e = rw (used h, kinds_answered h, h, t)
       go (inl h) (Some l) t e = rw (used h, kinds_answered h, numbers (rw e t.0) t.1, h, t.1, ← eo)
+
+  -- and what is told where there is none
+  pub used_whole : {n : ℕ} → all.used ≡ Some n → n ≡ length (bytes rs)
+  used_whole {n} e = go (bool_cases (has_end rs))
+    where
+      go : (has_end rs ≡ true) ⊎ (has_end rs ≡ false) → n ≡ length (bytes rs)
+      go (inl h) = let f : Some n ≡ Some (length (bytes rs)) = sym e ∙ used h in (cc)
+      go (inr h) = let f : Some n ≡ None = sym e ∙ unused h in let z : ◌≡◌ {A = ℕ} 0 1 = (cc) in absurd (omega arith)
 
   -- and what is told whatever they answer
   pub used_or_none : unwrap_or all.used 0 ≡ cond (has_end rs) (length (bytes rs)) 0
@@ -397,6 +405,6 @@ module _ (bs : List ℕ) {x : Gathered} {asked : Option Letters} {route : ℕ} {
       f ∙ sym (first_counts (record_questions (records bs)) _ (λ z. number_some q (f ∙ z)))
 
   -- each is answered yes
-  pub gathered_passed : {l : Letters} → PassedGathered x asked route in_order l → Passed bs l
-  gathered_passed {l} passed =
-      record { yes = sym a.same ∙ passed.none_no; letters = MatchOption-at_some _ _ l passed.letters_are a.letters_are }
+  pub gathered_passed : {l : Letters} → NoneNo (gathered_questions x asked route in_order) → asked ≡ Some l → Passed bs l
+  gathered_passed {l} none_no letters_are =
+      record { yes = sym a.same ∙ none_no; letters = MatchOption-at_some _ _ l letters_are a.letters_are }

@@ -4,7 +4,7 @@
 
 #![tactic(auto)]
 
-ghost use Rattle.std.specs.Prelude.{◌≡◌, true, false, ◌&&◌, cond, List, ℕ, ◌+◌, ◌-◌, ◌*◌, ◌^◌, ◌≤◌, ◌<◌, eqb, length, drop, set, Some, None, ⊤, MatchBool, MatchOption, MatchResult, OnOk};
+ghost use Rattle.std.specs.Prelude.{◌≡◌, true, false, ◌&&◌, cond, List, ℕ, ◌+◌, ◌-◌, ◌*◌, ◌^◌, ◌≤◌, ◌<◌, eqb, length, drop, set, Some, None, unwrap_or, ⊤, MatchBool, MatchOption, MatchResult, OnOk};
 ghost use Rattle.tables.specs.Inner.Passed.{NoneNo, IsFirstNo};
 ghost use Rattle.order.specs.Inner.Place.{AreLetters};
 ghost use Rattle.solution.specs.Fact.{no_fact};
@@ -323,7 +323,7 @@ fn ask_gathered(
     route: u8,
     ordered: bool,
 ) -> Result<Letters, Question>
-    ensures { MatchResult result (PassedGathered gathered letters route ordered)
+    ensures { MatchResult result (λ l. PassedGathered gathered letters route ordered (l, unwrap_or gathered.used 0))
         (IsFirstNo (gathered_questions gathered letters route ordered)) }
 {
     tables::require(Question::Records, gathered.used.is_some())?;

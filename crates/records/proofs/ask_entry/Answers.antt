@@ -9,7 +9,7 @@ returns-in_err-letters c =
     rw (no.1, no.2) (gathered_no _ c.requires _ c.in_err-letters.ensures)
 
 pub ask_fact-requires : goal.ask_fact-requires
-ask_fact-requires c = gathered_passed _ c.requires c.in_ok-letters.ensures
+ask_fact-requires c = gathered_passed _ c.requires c.in_ok-letters.ensures.none_no c.in_ok-letters.ensures.letters_are
 
 pub returns : goal.returns
-returns c = (c.in_ok-ask_fact.ensures, gathered_passed _ c.requires c.in_ok-letters.ensures)
+returns c = (c.in_ok-ask_fact.ensures, gathered_passed _ c.requires c.in_ok-letters.ensures.none_no c.in_ok-letters.ensures.letters_are)

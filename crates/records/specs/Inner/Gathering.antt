@@ -81,9 +81,10 @@ gathered_questions x letters route in_order =
     ∷ []
 
 -- what a yes to each tells
-pub record PassedGathered (x : Gathered) (letters : Option Held) (route : ℕ) (in_order : Bool) (known : Held) : Type 0 where
+pub record PassedGathered (x : Gathered) (letters : Option Held) (route : ℕ) (in_order : Bool) (known : Held × ℕ) : Type 0 where
   pub none_no : NoneNo (gathered_questions x letters route in_order)
-  pub letters_are : letters ≡ Some known
+  pub letters_are : letters ≡ Some known.0
+  pub used_is : x.used ≡ Some known.1
 
 -- they are those that are put to the entry, and the letters are its own
 pub record AsksEntry (rs : List Record) (x : Gathered) (letters : Option Held) (route : ℕ) (in_order : Bool) : Type 0 where
