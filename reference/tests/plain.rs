@@ -210,6 +210,24 @@ fn calls_agree_as<E: Block>() {
     }
 }
 
+#[test]
+fn blocks_are_counted() {
+    blocks_are_counted_as::<Bytes>();
+    blocks_are_counted_as::<u64>();
+}
+
+/// The blocks of a table hold as many ones as its bytes.
+fn blocks_are_counted_as<E: Block>() {
+    let mut random = Random(61);
+    for blocks in 0..=16 {
+        for table in [random.table(64 * blocks), vec![1; 64 * blocks]] {
+            let packed: Vec<E> = table.chunks(64).map(E::pack).collect();
+            let ones = table.iter().filter(|&&value| value == 1).count();
+            assert_eq!(E::count(&packed), ones);
+        }
+    }
+}
+
 /// Facts for which question 22 or 23 is answered no, in every call that takes one.
 #[test]
 fn wrong_facts_agree() {

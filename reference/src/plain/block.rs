@@ -32,8 +32,14 @@ pub trait Block:
     fn turned(self, j: usize) -> Self;
     /// Coefficients to values, or values to coefficients, of the lowest letters.
     fn transformed(self) -> Self;
+    /// The number of coefficients that are 1, in the blocks of a table.
+    fn count(blocks: &[Self]) -> usize;
     /// Puts coefficients, and gives the number of those that are 1.
-    fn put_counted<const K: usize>(table: &Table<Self, K>, bytes: &mut [u8]) -> usize;
+    #[inline(always)]
+    fn put_counted<const K: usize>(table: &Table<Self, K>, bytes: &mut [u8]) -> usize {
+        table.put(bytes);
+        Self::count(&table.0)
+    }
     /// From at most 64 bytes, and back.
     fn pack(bytes: &[u8]) -> Self;
     fn unpack(self, bytes: &mut [u8]);

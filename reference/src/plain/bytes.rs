@@ -136,12 +136,11 @@ impl Block for Bytes {
         Bytes([a, b, c, d, e ^ a, f ^ b, g ^ c, h ^ d])
     }
 
-    /// Counted byte by byte, as numbers of eight: 16 blocks of eight numbers leave at most 128 in a byte.
+    /// Byte by byte, as numbers of eight: 16 blocks of eight numbers leave at most 128 in a byte.
     #[inline(always)]
-    fn put_counted<const K: usize>(table: &Table<Bytes, K>, bytes: &mut [u8]) -> usize {
-        table.put(bytes);
+    fn count(blocks: &[Bytes]) -> usize {
         let mut counts = [0; 8];
-        for block in table.0 {
+        for block in blocks {
             for (count, eight) in counts.iter_mut().zip(block.0) {
                 *count += eight;
             }

@@ -71,6 +71,11 @@ impl Block for u64 {
         self
     }
 
+    #[inline(always)]
+    fn count(blocks: &[u64]) -> usize {
+        blocks.iter().map(|word| word.count_ones() as usize).sum()
+    }
+
     /// Each word is counted as it is unpacked.
     fn put_counted<const K: usize>(table: &Table<u64, K>, bytes: &mut [u8]) -> usize {
         let (whole, part) = bytes.as_chunks_mut::<POINTS>();
